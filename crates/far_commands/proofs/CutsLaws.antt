@@ -22,7 +22,7 @@ cut-output why answer text rest is h = rw is (inr (rest, h))
 pub cut-memory : (why : ShellFault) (answer : List ℕ → Type 0) (text rest : List ℕ) → why ≡ fault.Memory → answer (text ++ rest) → CutOff why answer text
 cut-memory why answer text rest is h = rw is (inr (rest, h))
 
-pub front-more : (a b : List ℕ → Type 0) (text : List ℕ) → ((said : List ℕ) → a said → b said) → IsFront a text → IsFront b text
+front-more : (a b : List ℕ → Type 0) (text : List ℕ) → ((said : List ℕ) → a said → b said) → IsFront a text → IsFront b text
 front-more a b text f (inl none) = inl none
 front-more a b text f (inr h) = inr (h.0, f (text ++ h.0) h.1)
 

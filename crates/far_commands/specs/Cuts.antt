@@ -1,10 +1,12 @@
 -- What is printed of a reply that a fault ends, and which lines can get no reply.
 use Rattle.std.specs.Prelude.{◌≡◌, ◌⊎◌, ◌<◌, ◌≤◌, ℕ, List, [], ◌++◌, length, take, Option, Some, IsUtf8}
+use Rattle.std.specs.declared.io.traits.Read.{Ghosts}
 use Rattle.far_types.specs.declared.cell.Kind.{Kind}
 use Rattle.far_frame.specs.State.{live}
 use Rattle.far_script.specs.declared.fault.ShellFault.{ShellFault}
 use Rattle.far_script.specs.declared.fault.ShellFault.TheVariants as fault
-use Rattle.far_script.specs.Flow.{Prints}
+use Rattle.far_script.specs.declared.input.Input.{Input}
+use Rattle.far_script.specs.Flow.{Prints, Reads}
 use Rattle.far_commands.specs.declared.command.Command.{Command}
 use Rattle.far_commands.specs.declared.command.Command.TheVariants as command
 use Rattle.far_commands.specs.Commands.{command_of}
@@ -38,3 +40,11 @@ Fails short kinds line behind = ¬ (IsUtf8 line) ⊎ FailsBy short (command_of k
 -- a line asks for a dump, and this is what is listed
 abbrev pub IsListing : {K : Type 0} → At K → List ℕ → List ℕ → Type 0
 IsListing at line text = (command_of at.world.state.table.schema line ≡ Some command.Dump) × (text ≡ listing_of (live at.world.state))
+
+-- what was taken after a line when memory ran out or a write failed: nothing, or all rows of its load
+abbrev pub IsTakenFor : Option Command → List ℕ → Type 0
+IsTakenFor asked rows = (rows ≡ []) ⊎ (asked ≡ Some (command.Load (length rows)))
+
+-- the same of an input, from the end of the line on
+abbrev pub TakesFor : {R : Type 0} (read : Ghosts R) → Option Command → Input R read → Input R read → Type 0
+TakesFor read asked old new = (rows : List ℕ) × Reads read old rows new × IsTakenFor asked rows

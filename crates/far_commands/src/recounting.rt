@@ -1,7 +1,7 @@
 // Aggregates that are computed from scratch.
 ghost use Rattle.std.specs.Prelude.{◌≡◌, IfErr, IfOk, OnOk};
 ghost use Rattle.far_table.specs.Recounting.{IsAnswerNow};
-ghost use Rattle.far_commands.specs.Recounts.{IsNotRecounted, Recounts};
+ghost use Rattle.far_commands.specs.Recounts.{IsNotRecounted, Recounts, recount_workers};
 
 use super::resources::Resources;
 use far_frame::World;
@@ -10,8 +10,12 @@ use far_script::print::{answer, refused};
 use far_store::{FarStore, Meter};
 use far_types::{Answer, Refusal};
 
-/// How many threads fold the rows of a recount at most.
-const WORKERS: u32 = 4;
+/// Returns how many threads fold the rows of a recount at most.
+fn workers() -> u32
+    ensures { result ≡ recount_workers }
+{
+    4
+}
 
 /// Returns the answer of an aggregate, computed from scratch over the rows as they are. Refused with `NoAggregate` (12); else with
 /// `FarFault` (21) if the store fails, or `NoMemory` (1). The world does not count the faults of a recount.
@@ -27,7 +31,7 @@ fn from_scratch<S: FarStore, A: Resources<S>>(
     let mut meter = Meter::new();
     world
         .frame()
-        .recount(rt, world.store(), &mut meter, aggregate, WORKERS)
+        .recount(rt, world.store(), &mut meter, aggregate, workers())
 }
 
 /// Computes the answer of an aggregate from scratch, and prints it, or the refusal.

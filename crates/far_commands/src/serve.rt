@@ -1,8 +1,8 @@
 // Serves lines as commands.
 ghost use Rattle.std.specs.Prelude.{◌≡◌, ℕ, List, ◌++◌, ◌+◌, ◌≤◌, ◌<◌, ◌^◌, true, false, codes, IfOk, IfErr, OnOk, OnErr, Some};
 ghost use Rattle.far_frame.specs.State.{live};
-ghost use Rattle.far_commands.specs.Cuts.{Fails, FailsBy, IsListing, PrintsCut};
-ghost use Rattle.far_script.specs.Faults.{IfInput};
+ghost use Rattle.far_commands.specs.Cuts.{Fails, FailsBy, IsListing, PrintsCut, TakesFor};
+ghost use Rattle.far_script.specs.Faults.{IfInput, IfHalted};
 ghost use Rattle.far_script.specs.Flow.{Holds, IsShort, Prints, Reads, Stops, has_failed, bytes_in};
 ghost use Rattle.far_script.specs.Printing.{numbered_text};
 ghost use Rattle.far_commands.specs.Commands.{command_of};
@@ -161,6 +161,7 @@ fn serve_load<S: FarStore, R: Source + Drop, W: Sink>(
     ensures ok { OnOk result ((rows : List ℕ) × (text : List ℕ) × Reads R.Read input.old rows input.new × Prints (W.contents writer.old) output.old.page text (W.contents writer.new) output.new.page × Serves S.FarTickets world.old (Command.Load count) rows text world.new) }
     ensures err { IfErr result (λ fault. PrintsCut fault (λ said. ⊥) (W.contents writer.old) output.old.page (W.contents writer.new) output.new.page) }
     ensures stopped { IfErr result (λ fault. IfInput fault (Stops R.Read (λ behind rest. FailsBy (IsShort R.Read R.may_fail input.old input.new rest) (Some (Command.Load count)) behind) input.old input.new)) }
+    ensures taken { IfErr result (λ fault. IfHalted fault (TakesFor R.Read (Some (Command.Load count)) input.old input.new)) }
     ensures faults { world.new.faults ≡ world.old.faults }
     ensures failed { IfErr result (λ fault. fault ≡ ShellFault.Output → has_failed output.new ≡ true) }
     ensures asked { input.new.source.reads ≤ input.old.source.reads }
@@ -183,6 +184,7 @@ fn serve_command<S: FarStore, A: Resources<S>, R: Source + Drop, W: Sink>(
     ensures ok { OnOk result ((rows : List ℕ) × (text : List ℕ) × Reads R.Read input.old rows input.new × Prints (W.contents writer.old) output.old.page text (W.contents writer.new) output.new.page × Serves S.FarTickets world.old command rows text world.new) }
     ensures err { IfErr result (λ fault. PrintsCut fault (λ said. (command ≡ Command.Dump) × (said ≡ listing_of (live world.old.state))) (W.contents writer.old) output.old.page (W.contents writer.new) output.new.page) }
     ensures stopped { IfErr result (λ fault. IfInput fault (Stops R.Read (λ behind rest. FailsBy (IsShort R.Read R.may_fail input.old input.new rest) (Some command) behind) input.old input.new)) }
+    ensures taken { IfErr result (λ fault. IfHalted fault (TakesFor R.Read (Some command) input.old input.new)) }
     ensures faults { world.new.faults ≤ world.old.faults + 1 }
     ensures failed { IfErr result (λ fault. fault ≡ ShellFault.Output → has_failed output.new ≡ true) }
     ensures asked { input.new.source.reads ≤ input.old.source.reads }
@@ -244,6 +246,7 @@ pub fn answer_line<S: FarStore, A: Resources<S>, R: Source + Drop, W: Sink>(
     ensures ok { OnOk result ((rows : List ℕ) × (text : List ℕ) × Reads R.Read input.old rows input.new × Prints (W.contents writer.old) output.old.page text (W.contents writer.new) output.new.page × AnswersLine S.FarTickets progress.old (bytes_in R.Read input.old line) rows text progress.new) }
     ensures err { IfErr result (λ fault. PrintsCut fault (λ said. IsListing progress.old (bytes_in R.Read input.old line) said) (W.contents writer.old) output.old.page (W.contents writer.new) output.new.page) }
     ensures stopped { IfErr result (λ fault. IfInput fault (Stops R.Read (λ behind rest. Fails (IsShort R.Read R.may_fail input.old input.new rest) progress.old.world.state.table.schema (bytes_in R.Read input.old line) behind) input.old input.new)) }
+    ensures taken { IfErr result (λ fault. IfHalted fault (TakesFor R.Read (command_of progress.old.world.state.table.schema (bytes_in R.Read input.old line)) input.old input.new)) }
     ensures failed { IfErr result (λ fault. fault ≡ ShellFault.Output → has_failed output.new ≡ true) }
     ensures asked { input.new.source.reads ≤ input.old.source.reads }
 {

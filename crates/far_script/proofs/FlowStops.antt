@@ -7,9 +7,9 @@ use Rattle.std.specs.declared.io.traits.Read.{Ghosts}
 use Rattle.far_script.specs.declared.fault.ShellFault.{ShellFault}
 use Rattle.far_script.specs.declared.fault.ShellFault.TheVariants as fault
 use Rattle.far_script.specs.declared.input.Input.{Input}
-use Rattle.far_script.specs.Faults.{IfInput, IfMemory, IsCut}
+use Rattle.far_script.specs.Faults.{IfInput, IfHalted, IsCut}
 use Rattle.far_script.specs.Flow.{Counts, Gives, IsFrontOf, IsShort, IsAtEnd, IsUnseen, Leaves, Reads, StartsWith, Stops, unread}
-use Rattle.far_script.proofs.FlowLaws.{few-bytes, not-before, spent-nothing, spent-stays}
+use Rattle.far_script.proofs.FlowLaws.{few-bytes, not-before, reads-then, spent-nothing, spent-stays}
 
 -- a fault that is handed on
 pub handed-on : {T : Type 0} (r : Result T ShellFault) (why : ShellFault) (Q : ShellFault → Type 0) → IsErrAnd r (λ given. given ≡ why) → Q why → IfErr r Q
@@ -53,13 +53,25 @@ not-input fault.Output P other = tt
 not-input fault.Memory P other = tt
 not-input fault.Turns P other = tt
 
--- what is said if memory ran out
-pub if-memory : (why : ShellFault) (P Q : Type 0) → (P → Q) → IfMemory why P → IfMemory why Q
-if-memory fault.BadStart P Q f h = tt
-if-memory fault.Input P Q f h = tt
-if-memory fault.Output P Q f h = tt
-if-memory fault.Memory P Q f h = f h
-if-memory fault.Turns P Q f h = tt
+-- what is said if memory ran out or a write failed
+pub if-halted : (why : ShellFault) (P Q : Type 0) → (P → Q) → IfHalted why P → IfHalted why Q
+if-halted fault.BadStart P Q f h = tt
+if-halted fault.Input P Q f h = tt
+if-halted fault.Output P Q f h = f h
+if-halted fault.Memory P Q f h = f h
+if-halted fault.Turns P Q f h = tt
+
+-- what holds in any case holds then
+pub in-halted : (why : ShellFault) (P : Type 0) → P → IfHalted why P
+in-halted fault.BadStart P h = tt
+in-halted fault.Input P h = tt
+in-halted fault.Output P h = h
+in-halted fault.Memory P h = h
+in-halted fault.Turns P h = tt
+
+pub at-halted : {T : Type 0} (r : Result T ShellFault) (P : Type 0) → P → IfErr r (λ why. IfHalted why P)
+at-halted (Ok x) P h = tt
+at-halted (Err why) P h = in-halted why P h
 
 -- nothing came
 pub leaves-same : (known : Option (List ℕ)) (bytes_left : ℕ) → Leaves known known [] bytes_left
@@ -98,10 +110,6 @@ starts-later None left came a first b bytes rest p e h = tt
 starts-later (Some xs) None came a first b bytes rest p e h = absurd p
 starts-later (Some xs) (Some ys) came a first b bytes rest p e h =
     ap (λ (t : List ℕ). a ++ t) p ∙ sym (append_assoc a came ys) ∙ ap (λ (t : List ℕ). t ++ ys) e ∙ append_assoc first b ys ∙ ap (λ (t : List ℕ). first ++ t) h ∙ sym (append_assoc first bytes rest)
-
-starts-separate : (known : Option (List ℕ)) (a bytes more rest : List ℕ) → IfSome known (λ coming. a ++ coming ≡ (bytes ++ more) ++ rest) → IfSome known (λ coming. a ++ coming ≡ bytes ++ (more ++ rest))
-starts-separate None a bytes more rest h = tt
-starts-separate (Some xs) a bytes more rest h = h ∙ append_assoc bytes more rest
 
 starts-here : (known : Option (List ℕ)) (a : List ℕ) → IfSome known (λ coming. a ++ coming ≡ a ++ unwrap_or known [])
 starts-here None a = tt
@@ -162,12 +170,6 @@ module _ {R : Type 0} (read : Ghosts R) where
     λ spent. ap (λ (t : List ℕ). (t ++ bytes) ++ rest) (spent-nothing read old mid first spent p) ∙ h.1 (spent-stays read old mid first spent p),
   )
 
-  pub starts-split : (input : Input R read) (bytes more rest : List ℕ) → StartsWith read input (bytes ++ more) rest → StartsWith read input bytes (more ++ rest)
-  starts-split input bytes more rest h = (
-    starts-separate (read.remaining input.source.reader) (unread read input) bytes more rest h.0,
-    λ spent. sym (append_assoc bytes more rest) ∙ h.1 spent,
-  )
-
   -- all that is held came, and nothing more
   pub stops-here : (old new : Input R read) (P : List ℕ → List ℕ → Type 0) → new.source.bytes ≡ old.source.bytes → (old.source.ended ≡ true → new.source.ended ≡ true) → Leaves (read.remaining old.source.reader) (read.remaining new.source.reader) [] new.source.bytes → P (unread read old) (unwrap_or (read.remaining old.source.reader) []) → Stops read P old new
   stops-here old new P same stays left h = (
@@ -191,8 +193,11 @@ module _ {R : Type 0} (read : Ghosts R) where
   )
 
   pub gives-then : (old mid new : Input R read) (first bytes rest : List ℕ) (why : ShellFault) → Reads read old first mid → Gives read why mid new bytes rest → Gives read why old new (first ++ bytes) rest
-  gives-then old mid new first bytes rest why p g =
-      (starts-then old mid first bytes rest p g.0, if-input why (Counts read mid bytes new) (Counts read old (first ++ bytes) new) (λ c. counts-then old mid new first bytes p c) g.1)
+  gives-then old mid new first bytes rest why p g = (
+    starts-then old mid first bytes rest p g.0,
+    if-input why (Counts read mid bytes new) (Counts read old (first ++ bytes) new) (λ c. counts-then old mid new first bytes p c) g.1,
+    if-halted why (Reads read mid bytes new) (Reads read old (first ++ bytes) new) (λ r. reads-then read old mid new first bytes p r) g.2,
+  )
 
   -- the same of an input before it read some first bytes: these stand in front
   pub stops-then : (old mid new : Input R read) (first : List ℕ) (P Q : List ℕ → List ℕ → Type 0) → Reads read old first mid → ((bytes rest : List ℕ) → P bytes rest → Q (first ++ bytes) rest) → Stops read P mid new
@@ -236,4 +241,4 @@ module _ {R : Type 0} (read : Ghosts R) where
   -- what was taken of a script of which nothing was read before
   pub front-read : (input new : Input R read) (reader : R) (bytes : List ℕ) → Reads read input bytes new → input.source.reader ≡ reader → unread read input ≡ [] → IsFrontOf (read.remaining reader) bytes (coming read new)
   front-read input new reader bytes p is none =
-      (gives-known input new reader fault.Memory bytes (coming read new) is none (starts read input new bytes p, tt), few-bytes read input new bytes p)
+      (gives-known input new reader fault.Memory bytes (coming read new) is none (starts read input new bytes p, tt, p), few-bytes read input new bytes p)

@@ -19,13 +19,13 @@ IfInput Output holds = ⊤
 IfInput Memory holds = ⊤
 IfInput Turns holds = ⊤
 
--- what holds if memory ran out
-abbrev pub IfMemory : ShellFault → Type 0 → Type 0
-IfMemory BadStart holds = ⊤
-IfMemory Input holds = ⊤
-IfMemory Output holds = ⊤
-IfMemory Memory holds = holds
-IfMemory Turns holds = ⊤
+-- what holds if memory ran out or a write failed
+abbrev pub IfHalted : ShellFault → Type 0 → Type 0
+IfHalted BadStart holds = ⊤
+IfHalted Input holds = ⊤
+IfHalted Output holds = holds
+IfHalted Memory holds = holds
+IfHalted Turns holds = ⊤
 
 -- why a reader gives no more, though its end was not found: readers of its type may fail. Or no reads are left, and at least as
 -- many bytes came as there were reads. Or no bytes are left, and those that come, if they are known, are more than there were.

@@ -12,7 +12,7 @@ use Rattle.far_script.specs.declared.input.ByteRange.{ByteRange}
 use Rattle.far_script.specs.declared.input.Line.{Line}
 use Rattle.far_script.specs.declared.input.Line.TheVariants as line
 use Rattle.far_script.specs.declared.output.Output.{Output}
-use Rattle.far_script.specs.Faults.{IfInput, IsCut}
+use Rattle.far_script.specs.Faults.{IfInput, IfHalted, IsCut}
 
 -- a text was printed: what was held before it and the text went to the writer, or are still held
 abbrev pub Prints : Option (List ℕ) → List ℕ → List ℕ → Option (List ℕ) → List ℕ → Type 0
@@ -94,9 +94,11 @@ module _ {R : Type 0} (read : Ghosts R) where
   Counts old bytes new = (new.source.bytes + length bytes ≡ old.source.bytes + length (unread old)) × (old.source.ended ≡ true → new.source.ended ≡ true)
       × ((came : List ℕ) × (unread old ++ came ≡ bytes) × Leaves (read.remaining old.source.reader) (read.remaining new.source.reader) came new.source.bytes)
 
-  -- what is left of a script is these bytes and the rest. If the input is at fault, the bytes are all that came
+  -- what is left of a script is these bytes and the rest. If the input is at fault, the bytes are all that came. If memory ran
+  -- out or a write failed, they are all that was taken
   abbrev pub Gives : ShellFault → Input R read → Input R read → List ℕ → List ℕ → Type 0
-  Gives why old new bytes rest = StartsWith old bytes rest × IfInput why (Counts old bytes new)
+  Gives why old new bytes rest =
+      StartsWith old bytes rest × IfInput why (Counts old bytes new) × IfHalted why (Reads old bytes new)
 
   -- the input is at fault, and this is said of all bytes that came, and of the rest
   abbrev pub Stops : (List ℕ → List ℕ → Type 0) → Input R read → Input R read → Type 0

@@ -9,18 +9,18 @@ use Rattle.far_script.specs.declared.fault.ShellFault.{ShellFault}
 use Rattle.far_script.specs.declared.fault.ShellFault.TheVariants as fault
 use Rattle.far_script.specs.declared.input.Input.{Input}
 use Rattle.far_types.specs.declared.cell.Kind.{Kind}
-use Rattle.far_commands.specs.Cuts.{IsListing, Fails, PrintsCut}
-use Rattle.far_scripts.specs.Breaks.{ListsNext, BreaksIn, BreaksLater, BreaksOff, BreaksServing, HasNotBegun, HasNoTurn, IsRefused, IsUnknown, Rejection, Rejects}
-use Rattle.far_script.specs.Faults.{IfInput}
+use Rattle.far_commands.specs.Commands.{command_of}
+use Rattle.far_commands.specs.Cuts.{IsListing, Fails, PrintsCut, TakesFor}
+use Rattle.far_scripts.specs.Breaks.{BreaksIn, BreaksLater, BreaksOff, BreaksServing, HasNotBegun, HasNoTurn, IsAtStart, IsRefused, IsStopped, IsUnknown, Rejection, Rejects}
+use Rattle.far_script.specs.Faults.{IfInput, IfHalted}
 use Rattle.far_script.specs.Flow.{Counts, Gives, IsOver, IsShort, IsAtEnd, Prints, Reads, StartsWith, Stops}
 use Rattle.far_commands.specs.Progress.{At}
 use Rattle.far_script.specs.Lines.{Blank, IsOneLine, without_return}
-use Rattle.far_commands.proofs.CutsLaws.{front-more}
 use Rattle.far_script.specs.Openings.{Opened}
 use Rattle.far_scripts.specs.Scripts.{AnswersLines, Begins, IsNew}
-use Rattle.far_script.proofs.FlowLaws.{no-first, no-rest, prints, prints-then, prints-nothing-then, prints-then-nothing, reads-none}
+use Rattle.far_script.proofs.FlowLaws.{no-first, no-rest, prints, prints-then, prints-nothing-then, prints-then-nothing, reads-none, reads-then, spent-nothing, spent-stays}
 use Rattle.far_scripts.proofs.ScriptsLaws.{begins-then, either}
-use Rattle.far_script.proofs.FlowStops.{coming, counts-then, if-input, leaves-same, short-later, spent-rest, starts, starts-split, starts-then, stops-here, stops-more, stops-then}
+use Rattle.far_script.proofs.FlowStops.{coming, counts-then, if-input, in-halted, leaves-same, short-later, spent-rest, starts, starts-then, stops-here, stops-more, stops-then}
 
 -- a first line is rejected by no such fault
 pub rejected-input : (why : ShellFault) (says : List ℕ → Type 0) (text : List ℕ) (P : Type 0) → Rejection why says text → IfInput why P
@@ -80,12 +80,12 @@ module _ {R : Type 0} (read : Ghosts R) {S K : Type 0} (tickets : Tickets S K) (
   Ending first new a b h k old why = (all : List ℕ) × (rest : List ℕ) × (said : List ℕ) × Gives read why first new all rest × Prints a h said b k × BreaksOff tickets unseen (IsOver read new rest) old why all rest said
 
   between : (first after new : Input R read) (a b : Option (List ℕ)) (h k : List ℕ) (old at : At K) (bytes text : List ℕ) (why : ShellFault)
-      → IfInput why (Counts read first bytes new) → BreaksIn unseen (IsOver read new (coming read after)) why at [] (coming read after) [] → Reads read first bytes after → Prints a h text b k → AnswersLines tickets old bytes text at → Ending first new a b h k old why
-  between first after new a b h k old at bytes text why counts cut p q r = (
+      → IfInput why (Counts read first bytes new) → IfHalted why (Reads read first bytes new) → BreaksIn unseen (IsOver read new (coming read after)) why at [] (coming read after) [] → Reads read first bytes after → Prints a h text b k → AnswersLines tickets old bytes text at → Ending first new a b h k old why
+  between first after new a b h k old at bytes text why counts taken cut p q r = (
     bytes,
     coming read after,
     text,
-    (starts read first after bytes p, counts),
+    (starts read first after bytes p, counts, taken),
     q,
     record { before = bytes; printed = text; mid = at; answered = r; next = []; front = []; cut = cut; whole = sym (append-nil bytes); said = sym (append-nil text) },
   )
@@ -97,82 +97,76 @@ module _ {R : Type 0} (read : Ghosts R) {S K : Type 0} (tickets : Tickets S K) (
     bytes ++ s.0,
     s.1,
     text,
-    (starts-then read first after bytes s.0 s.1 p s.2, counts-then read first after new bytes s.0 p s.3),
+    (starts-then read first after bytes s.0 s.1 p s.2, counts-then read first after new bytes s.0 p s.3, tt),
     q,
     record { before = bytes; printed = text; mid = at; answered = r; next = s.0; front = []; cut = (refl, s.4); whole = refl; said = sym (append-nil text) },
   )
 
   -- a script breaks off between two lines
   pub breaks-between : (first after new : Input R read) (a b : Option (List ℕ)) (h k : List ℕ) (old at : At K) (bytes text : List ℕ) (why : ShellFault) → (why ≡ fault.BadStart → ⊥) → (why ≡ fault.Turns → ⊥)
-      → Reads read first bytes after → Prints a h text b k → AnswersLines tickets old bytes text at → IfInput why unseen → IfInput why (Stops read (λ bytes rest. IsOneLine bytes) after new) → Ending first new a b h k old why
-  breaks-between first after new a b h k old at bytes text fault.BadStart other distinct p q r u s = absurd (other refl)
-  breaks-between first after new a b h k old at bytes text fault.Input other distinct p q r u s = stopped first after new a b h k old at bytes text p q r (s.0, s.1, s.2, s.3, inl (s.4, inl u))
-  breaks-between first after new a b h k old at bytes text fault.Output other distinct p q r u s = between first after new a b h k old at bytes text fault.Output tt (refl, inl refl) p q r
-  breaks-between first after new a b h k old at bytes text fault.Memory other distinct p q r u s = between first after new a b h k old at bytes text fault.Memory tt (refl, inl refl) p q r
-  breaks-between first after new a b h k old at bytes text fault.Turns other distinct p q r u s = absurd (distinct refl)
+      → Reads read first bytes after → Prints a h text b k → AnswersLines tickets old bytes text at → IfInput why unseen → IfInput why (Stops read (λ bytes rest. IsOneLine bytes) after new) → IfHalted why (Reads read after [] new) → Ending first new a b h k old why
+  breaks-between first after new a b h k old at bytes text fault.BadStart other distinct p q r u s kept = absurd (other refl)
+  breaks-between first after new a b h k old at bytes text fault.Input other distinct p q r u s kept = stopped first after new a b h k old at bytes text p q r (s.0, s.1, s.2, s.3, inl (s.4, inl u))
+  breaks-between first after new a b h k old at bytes text fault.Output other distinct p q r u s kept =
+      between first after new a b h k old at bytes text fault.Output tt (subst (λ (z : List ℕ). Reads read first z new) (append-nil bytes) (reads-then read first after new bytes [] p kept)) (inl (refl, refl)) p q r
+  breaks-between first after new a b h k old at bytes text fault.Memory other distinct p q r u s kept =
+      between first after new a b h k old at bytes text fault.Memory tt (subst (λ (z : List ℕ). Reads read first z new) (append-nil bytes) (reads-then read first after new bytes [] p kept)) (inl (refl, refl)) p q r
+  breaks-between first after new a b h k old at bytes text fault.Turns other distinct p q r u s kept = absurd (distinct refl)
 
-  -- within a line
-  within-line : (first before mid new : Input R read) (a b c d : Option (List ℕ)) (h k l m : List ℕ) (old at : At K) (raw bytes text front : List ℕ) (why : ShellFault)
-      → IfInput why (Counts read first (bytes ++ raw) new) → BreaksIn unseen (IsOver read new (10 ∷ coming read mid)) why at raw (10 ∷ coming read mid) front
-      → Reads read first bytes before → Prints a h text b k → AnswersLines tickets old bytes text at → Reads read before (raw ++ 10 ∷ []) mid → Prints b k [] c l → Prints c l front d m → Ending first new a d h m old why
-  within-line first before mid new a b c d h k l m old at raw bytes text front why counts cut p q r s t u = (
-    bytes ++ raw,
-    10 ∷ coming read mid,
-    text ++ front,
-    (
-      starts-split read first (bytes ++ raw) (10 ∷ []) (coming read mid)
-          (subst (λ (z : List ℕ). StartsWith read first z (coming read mid)) (sym (append_assoc bytes raw (10 ∷ []))) (starts-then read first before bytes (raw ++ 10 ∷ []) (coming read mid) p (starts read before mid (raw ++ 10 ∷ []) s))),
-      counts,
-    ),
-    prints-then a b d h text k front m q (prints-nothing-then b c d k l front m t u),
-    record { before = bytes; printed = text; mid = at; answered = r; next = raw; front = front; cut = cut; whole = refl; said = refl },
-  )
-
-  -- within the last line
-  within-last : (first before mid new : Input R read) (a b c d : Option (List ℕ)) (h k l m : List ℕ) (old at : At K) (line bytes text front : List ℕ) (why : ShellFault)
-      → IfInput why (Counts read first (bytes ++ line) new) → BreaksIn unseen (IsOver read new (coming read mid)) why at line (coming read mid) front
-      → Reads read first bytes before → Prints a h text b k → AnswersLines tickets old bytes text at → Reads read before line mid → Prints b k [] c l → Prints c l front d m → Ending first new a d h m old why
-  within-last first before mid new a b c d h k l m old at line bytes text front why counts cut p q r s t u = (
-    bytes ++ line,
-    coming read mid,
-    text ++ front,
-    (starts-then read first before bytes line (coming read mid) p (starts read before mid line s), counts),
-    prints-then a b d h text k front m q (prints-nothing-then b c d k l front m t u),
-    record { before = bytes; printed = text; mid = at; answered = r; next = line; front = front; cut = cut; whole = refl; said = refl },
-  )
+  -- within a turn, of which this was taken
+  within-turn : (first before new : Input R read) (a b c d : Option (List ℕ)) (h k l m : List ℕ) (old at : At K) (next bytes text front : List ℕ) (why : ShellFault)
+      → IfInput why (Counts read first (bytes ++ next) new) → BreaksIn unseen (IsOver read new (coming read new)) why at next (coming read new) front
+      → Reads read first bytes before → Prints a h text b k → AnswersLines tickets old bytes text at → Reads read before next new → Prints b k [] c l → Prints c l front d m → Ending first new a d h m old why
+  within-turn first before new a b c d h k l m old at next bytes text front why counts cut p q r s t u =
+      let taken = reads-then read first before new bytes next p s in (
+        bytes ++ next,
+        coming read new,
+        text ++ front,
+        (starts read first new (bytes ++ next) taken, counts, in-halted why (Reads read first (bytes ++ next) new) taken),
+        prints-then a b d h text k front m q (prints-nothing-then b c d k l front m t u),
+        record { before = bytes; printed = text; mid = at; answered = r; next = next; front = front; cut = cut; whole = refl; said = refl },
+      )
 
   -- within the answer to a line
   pub breaks-line : (first before mid new : Input R read) (a b c d : Option (List ℕ)) (h k l m : List ℕ) (old at : At K) (line raw bytes text : List ℕ) (why : ShellFault)
       → Reads read first bytes before → Prints a h text b k → AnswersLines tickets old bytes text at
       → list_any (λ x. x == 10) raw ≡ false → line ≡ strip_last 13 raw → Reads read before (raw ++ 10 ∷ []) mid → Prints b k [] c l
       → PrintsCut why (λ said. IsListing at line said) c l d m → IfInput why (Stops read (λ behind rest. Fails (Short new rest) at.world.state.table.schema line behind) mid new)
-      → Ending first new a d h m old why
-  breaks-line first before mid new a b c d h k l m old at line raw bytes text fault.BadStart p q r one stripped s t u v = absurd u.2
-  breaks-line first before mid new a b c d h k l m old at line raw bytes text fault.Input p q r one stripped s t u v =
+      → IfHalted why (TakesFor read (command_of at.world.state.table.schema line) mid new) → Ending first new a d h m old why
+  breaks-line first before mid new a b c d h k l m old at line raw bytes text fault.BadStart p q r one stripped s t u v w = absurd u.2
+  breaks-line first before mid new a b c d h k l m old at line raw bytes text fault.Input p q r one stripped s t u v w =
       stopped first before new a d h m old at bytes text p (nothing-printed a b c d h k l m text u.0 q t u.1 u.2) r (stops-line read before mid new raw line unseen (λ rest. Fails (Short new rest) at.world.state.table.schema) one stripped s v)
-  breaks-line first before mid new a b c d h k l m old at line raw bytes text fault.Output p q r one stripped s t u v =
-      within-line first before mid new a b c d h k l m old at raw bytes text u.0 fault.Output tt
-      (one, front-more (λ said. IsListing at line said) (ListsNext at raw (10 ∷ coming read mid)) u.0 (λ said n. inl (coming read mid, refl, subst (λ (z : List ℕ). IsListing at z said) stripped n)) u.2) p q r s t u.1
-  breaks-line first before mid new a b c d h k l m old at line raw bytes text fault.Memory p q r one stripped s t u v =
-      within-line first before mid new a b c d h k l m old at raw bytes text u.0 fault.Memory tt
-      (one, front-more (λ said. IsListing at line said) (ListsNext at raw (10 ∷ coming read mid)) u.0 (λ said n. inl (coming read mid, refl, subst (λ (z : List ℕ). IsListing at z said) stripped n)) u.2) p q r s t u.1
-  breaks-line first before mid new a b c d h k l m old at line raw bytes text fault.Turns p q r one stripped s t u v = absurd u.2
+  breaks-line first before mid new a b c d h k l m old at line raw bytes text fault.Output p q r one stripped s t u v w =
+      within-turn first before new a b c d h k l m old at (raw ++ 10 ∷ w.0) bytes text u.0 fault.Output tt
+      (inr (inl (raw, w.0, one, refl, subst (λ (z : List ℕ). IsStopped at z w.0 u.0) stripped (w.2, u.2)))) p q r
+      (subst (λ (z : List ℕ). Reads read before z new) (append_assoc raw (10 ∷ []) w.0) (reads-then read before mid new (raw ++ 10 ∷ []) w.0 s w.1)) t u.1
+  breaks-line first before mid new a b c d h k l m old at line raw bytes text fault.Memory p q r one stripped s t u v w =
+      within-turn first before new a b c d h k l m old at (raw ++ 10 ∷ w.0) bytes text u.0 fault.Memory tt
+      (inr (inl (raw, w.0, one, refl, subst (λ (z : List ℕ). IsStopped at z w.0 u.0) stripped (w.2, u.2)))) p q r
+      (subst (λ (z : List ℕ). Reads read before z new) (append_assoc raw (10 ∷ []) w.0) (reads-then read before mid new (raw ++ 10 ∷ []) w.0 s w.1)) t u.1
+  breaks-line first before mid new a b c d h k l m old at line raw bytes text fault.Turns p q r one stripped s t u v w = absurd u.2
 
   -- within the answer to the last line
   pub breaks-last : (first before mid new : Input R read) (a b c d : Option (List ℕ)) (h k l m : List ℕ) (old at : At K) (line bytes text : List ℕ) (why : ShellFault)
       → Reads read first bytes before → Prints a h text b k → AnswersLines tickets old bytes text at
       → list_any (λ x. x == 10) line ≡ false → Reads read before line mid → IsAtEnd read mid → Prints b k [] c l
       → PrintsCut why (λ said. IsListing at line said) c l d m → IfInput why (Stops read (λ behind rest. Fails (Short new rest) at.world.state.table.schema line behind) mid new)
-      → Ending first new a d h m old why
-  breaks-last first before mid new a b c d h k l m old at line bytes text fault.BadStart p q r one s spent t u v = absurd u.2
-  breaks-last first before mid new a b c d h k l m old at line bytes text fault.Input p q r one s spent t u v =
+      → IfHalted why (TakesFor read (command_of at.world.state.table.schema line) mid new) → Ending first new a d h m old why
+  breaks-last first before mid new a b c d h k l m old at line bytes text fault.BadStart p q r one s spent t u v w = absurd u.2
+  breaks-last first before mid new a b c d h k l m old at line bytes text fault.Input p q r one s spent t u v w =
       stopped first before new a d h m old at bytes text p (nothing-printed a b c d h k l m text u.0 q t u.1 u.2) r
       (stops-last read before mid new line unseen (λ rest. Fails (Short new rest) at.world.state.table.schema) one s spent v)
-  breaks-last first before mid new a b c d h k l m old at line bytes text fault.Output p q r one s spent t u v =
-      within-last first before mid new a b c d h k l m old at line bytes text u.0 fault.Output tt (one, front-more (λ said. IsListing at line said) (ListsNext at line (coming read mid)) u.0 (λ said n. inr (spent-rest read mid spent, n)) u.2) p q r s t u.1
-  breaks-last first before mid new a b c d h k l m old at line bytes text fault.Memory p q r one s spent t u v =
-      within-last first before mid new a b c d h k l m old at line bytes text u.0 fault.Memory tt (one, front-more (λ said. IsListing at line said) (ListsNext at line (coming read mid)) u.0 (λ said n. inr (spent-rest read mid spent, n)) u.2) p q r s t u.1
-  breaks-last first before mid new a b c d h k l m old at line bytes text fault.Turns p q r one s spent t u v = absurd u.2
+  breaks-last first before mid new a b c d h k l m old at line bytes text fault.Output p q r one s spent t u v w =
+      let none : w.0 ≡ [] = spent-nothing read mid new w.0 spent w.1 in
+      within-turn first before new a b c d h k l m old at line bytes text u.0 fault.Output tt
+      (inr (inr (one, spent-rest read new (spent-stays read mid new w.0 spent w.1), (inl refl, u.2)))) p q r
+      (subst (λ (z : List ℕ). Reads read before z new) (ap (λ (z : List ℕ). line ++ z) none ∙ append-nil line) (reads-then read before mid new line w.0 s w.1)) t u.1
+  breaks-last first before mid new a b c d h k l m old at line bytes text fault.Memory p q r one s spent t u v w =
+      let none : w.0 ≡ [] = spent-nothing read mid new w.0 spent w.1 in
+      within-turn first before new a b c d h k l m old at line bytes text u.0 fault.Memory tt
+      (inr (inr (one, spent-rest read new (spent-stays read mid new w.0 spent w.1), (inl refl, u.2)))) p q r
+      (subst (λ (z : List ℕ). Reads read before z new) (ap (λ (z : List ℕ). line ++ z) none ∙ append-nil line) (reads-then read before mid new line w.0 s w.1)) t u.1
+  breaks-last first before mid new a b c d h k l m old at line bytes text fault.Turns p q r one s spent t u v w = absurd u.2
 
 module _ {R : Type 0} (read : Ghosts R) {S K : Type 0} (tickets : Tickets S K) (unseen : Type 0) where
   -- how a script breaks off behind a first command that asks for a table
@@ -185,7 +179,7 @@ module _ {R : Type 0} (read : Ghosts R) {S K : Type 0} (tickets : Tickets S K) (
     [],
     coming read input,
     text,
-    (starts read input input [] (reads-none read input input refl), rejected-input why (IsRefused opened) text (Counts read input [] input) h),
+    (starts read input input [] (reads-none read input input refl), rejected-input why (IsRefused opened) text (Counts read input [] input) h, in-halted why (Reads read input [] input) (reads-none read input input refl)),
     prints u held text left e,
     inl (refl, h),
   )
@@ -198,12 +192,12 @@ module _ {R : Type 0} (read : Ghosts R) {S K : Type 0} (tickets : Tickets S K) (
       (bytes, rest, codes "ok\n" ++ text, g, prints-then u u w held (codes "ok\n") k text left (prints u held (codes "ok\n") k e) q, inr (at, text, fresh, b, refl))
 
 -- a first command is at fault
-pub not-begun : (unseen spent : Type 0) (why : ShellFault) (says : List ℕ → Type 0) (bytes rest text : List ℕ) → Rejection why says text → (says text → Rejects bytes (rest ≡ []) text) → HasNotBegun unseen spent why bytes rest text
-not-begun unseen spent fault.BadStart says bytes rest text h f = f h
-not-begun unseen spent fault.Input says bytes rest text h f = absurd h
-not-begun unseen spent fault.Output says bytes rest text h f = absurd h
-not-begun unseen spent fault.Memory says bytes rest text h f = h
-not-begun unseen spent fault.Turns says bytes rest text h f = absurd h
+pub not-begun : (unseen spent : Type 0) (why : ShellFault) (says : List ℕ → Type 0) (bytes rest text : List ℕ) → Rejection why says text → (says text → Rejects bytes (rest ≡ []) text) → IsAtStart bytes (rest ≡ []) → HasNotBegun unseen spent why bytes rest text
+not-begun unseen spent fault.BadStart says bytes rest text h f starting = f h
+not-begun unseen spent fault.Input says bytes rest text h f starting = absurd h
+not-begun unseen spent fault.Output says bytes rest text h f starting = absurd h
+not-begun unseen spent fault.Memory says bytes rest text h f starting = (h, starting)
+not-begun unseen spent fault.Turns says bytes rest text h f starting = absurd h
 
 module _ {R : Type 0} (read : Ghosts R) (unseen : Type 0) where
   -- how the first command of a script breaks off
@@ -212,19 +206,23 @@ module _ {R : Type 0} (read : Ghosts R) (unseen : Type 0) where
 
   -- no command was read yet
   pub breaks-first : (first before new : Input R read) (a b : Option (List ℕ)) (h k blank : List ℕ) (blanks : List (List ℕ)) (why : ShellFault) → (why ≡ fault.BadStart → ⊥) → (why ≡ fault.Turns → ⊥)
-      → Reads read first blank before → Blank blank blanks → Prints a h [] b k → IfInput why (Stops read (λ bytes rest. HasNoTurn unseen (IsOver read new rest) (λ line behind. ¬ (IsUtf8 line)) bytes) before new) → Starting first new a b h k why
-  breaks-first first before new a b h k blank blanks fault.BadStart other distinct p empty q s = absurd (other refl)
-  breaks-first first before new a b h k blank blanks fault.Input other distinct p empty q s = (
+      → Reads read first blank before → Blank blank blanks → Prints a h [] b k → IfInput why (Stops read (λ bytes rest. HasNoTurn unseen (IsOver read new rest) (λ line behind. ¬ (IsUtf8 line)) bytes) before new) → IfHalted why (Reads read before [] new) → Starting first new a b h k why
+  breaks-first first before new a b h k blank blanks fault.BadStart other distinct p empty q s kept = absurd (other refl)
+  breaks-first first before new a b h k blank blanks fault.Input other distinct p empty q s kept = (
     blank ++ s.0,
     s.1,
     [],
-    (starts-then read first before blank s.0 s.1 p s.2, counts-then read first before new blank s.0 p s.3),
+    (starts-then read first before blank s.0 s.1 p s.2, counts-then read first before new blank s.0 p s.3, tt),
     q,
     (record { blanks = blanks; blank = blank; empty = empty; next = s.0; none = s.4; whole = refl }, refl),
   )
-  breaks-first first before new a b h k blank blanks fault.Output other distinct p empty q s = ([], coming read first, [], (starts read first first [] (reads-none read first first refl), tt), q, refl)
-  breaks-first first before new a b h k blank blanks fault.Memory other distinct p empty q s = ([], coming read first, [], (starts read first first [] (reads-none read first first refl), tt), q, refl)
-  breaks-first first before new a b h k blank blanks fault.Turns other distinct p empty q s = absurd (distinct refl)
+  breaks-first first before new a b h k blank blanks fault.Output other distinct p empty q s kept =
+      let taken = subst (λ (z : List ℕ). Reads read first z new) (append-nil blank) (reads-then read first before new blank [] p kept) in
+      (blank, coming read new, [], (starts read first new blank taken, tt, taken), q, (refl, inl (blanks, empty)))
+  breaks-first first before new a b h k blank blanks fault.Memory other distinct p empty q s kept =
+      let taken = subst (λ (z : List ℕ). Reads read first z new) (append-nil blank) (reads-then read first before new blank [] p kept) in
+      (blank, coming read new, [], (starts read first new blank taken, tt, taken), q, (refl, inl (blanks, empty)))
+  breaks-first first before new a b h k blank blanks fault.Turns other distinct p empty q s kept = absurd (distinct refl)
 
   -- the first command is no first line
   pub rejects-first : (old mid : Input R read) (u w : Option (List ℕ)) (held l left first line text : List ℕ) (why : ShellFault)
@@ -234,9 +232,12 @@ module _ {R : Type 0} (read : Ghosts R) (unseen : Type 0) where
     first,
     coming read mid,
     text,
-    (starts read old mid first p, rejected-input why (IsUnknown line) text (Counts read old first mid) h),
+    (starts read old mid first p, rejected-input why (IsUnknown line) text (Counts read old first mid) h, in-halted why (Reads read old first mid) p),
     prints-nothing-then u w w held l text left q (prints w l text left e),
-    not-begun unseen (IsOver read mid (coming read mid)) why (IsUnknown line) first (coming read mid) text h (λ unknown. inl (line, begins-then first line (IsAtEnd read mid) (coming read mid ≡ []) (spent-rest read mid) b, inl unknown)),
+    (
+        let begun = begins-then first line (IsAtEnd read mid) (coming read mid ≡ []) (spent-rest read mid) b in
+        not-begun unseen (IsOver read mid (coming read mid)) why (IsUnknown line) first (coming read mid) text h (λ unknown. inl (line, begun, inl unknown)) (inr (line, begun))
+        ),
   )
 
   -- or there is none
@@ -249,6 +250,7 @@ module _ {R : Type 0} (read : Ghosts R) (unseen : Type 0) where
     [],
     (
       subst (λ (z : List ℕ). StartsWith read old z (coming read mid)) (ap (λ (z : List ℕ). bytes ++ z) none ∙ append-nil bytes) (starts-then read old before bytes line (coming read mid) p (starts read before mid line s)),
+      tt,
       tt,
     ),
     prints-nothing-then u v w held k [] l q t,

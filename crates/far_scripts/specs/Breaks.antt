@@ -5,7 +5,8 @@ use Rattle.far_types.specs.Bounds.{IsSchema, AreLimits}
 use Rattle.far_store.specs.declared.store.FarTickets.{Ghosts as Tickets}
 use Rattle.far_script.specs.declared.fault.ShellFault.{ShellFault}
 use Rattle.far_script.specs.declared.fault.ShellFault.TheVariants as fault
-use Rattle.far_commands.specs.Cuts.{Fails, IsFront, IsListing}
+use Rattle.far_commands.specs.Commands.{command_of}
+use Rattle.far_commands.specs.Cuts.{Fails, IsFront, IsListing, IsTakenFor}
 use Rattle.far_script.specs.Openings.{Opened, Schema, start_in}
 use Rattle.far_script.specs.Printing.{refusal_text}
 use Rattle.far_commands.specs.Progress.{At}
@@ -55,27 +56,38 @@ pub record HasNoStart (unseen spent : Type 0) (bytes : List ℕ) : Type 0 where
   pub none : HasNoTurn unseen spent (λ line behind. ¬ (IsUtf8 line)) next
   pub whole : bytes ≡ blank ++ next
 
--- a fault comes before any first command was understood, and this is printed
+-- of a script only empty lines were taken, and at most a first command
+abbrev pub IsAtStart : List ℕ → Type 0 → Type 0
+IsAtStart bytes spent = ((blanks : List (List ℕ)) × Blank bytes blanks) ⊎ ((line : List ℕ) × Begins bytes spent line)
+
+-- a fault comes before any first command was understood, and this is printed. If memory ran out or a write failed, the bytes are all that
+-- was taken
 abbrev pub HasNotBegun : Type 0 → Type 0 → ShellFault → List ℕ → List ℕ → List ℕ → Type 0
 HasNotBegun unseen spent fault.BadStart bytes rest text = Rejects bytes (rest ≡ []) text
 HasNotBegun unseen spent fault.Input bytes rest text = HasNoStart unseen spent bytes × (text ≡ [])
-HasNotBegun unseen spent fault.Output bytes rest text = text ≡ []
-HasNotBegun unseen spent fault.Memory bytes rest text = text ≡ []
+HasNotBegun unseen spent fault.Output bytes rest text = (text ≡ []) × IsAtStart bytes (rest ≡ [])
+HasNotBegun unseen spent fault.Memory bytes rest text = (text ≡ []) × IsAtStart bytes (rest ≡ [])
 HasNotBegun unseen spent fault.Turns bytes rest text = ⊥
 
 module _ {K : Type 0} where
-  -- a line asks for a dump, and this is what is listed. Its end comes after it, and it may lose a carriage return; or it is the last one,
-  -- and nothing comes after it
-  abbrev pub ListsNext : At K → List ℕ → List ℕ → List ℕ → Type 0
-  ListsNext at line rest text = ((behind : List ℕ) × (rest ≡ 10 ∷ behind) × IsListing at (without_return line) text) ⊎ ((rest ≡ []) × IsListing at line text)
+  -- what was taken after a line when its reply broke off, and the part of the reply that was printed. Only a dump is printed in part
+  abbrev pub IsStopped : At K → List ℕ → List ℕ → List ℕ → Type 0
+  IsStopped at line rows front = IsTakenFor (command_of at.world.state.table.schema line) rows × IsFront (IsListing at line) front
 
-  -- the command during which the fault occurred, and the part of its reply that was printed. Only a dump is printed in part. At the fault
-  -- `Input` it is all that came, and no whole turn: `unseen` says why no more came though the end was not seen, `spent` that nothing follows
+  -- what was taken of the turn whose reply broke off: nothing; or a line with its end, and what comes after it; or the last line
+  abbrev pub StopsIn : At K → List ℕ → List ℕ → List ℕ → Type 0
+  StopsIn at next rest front = ((next ≡ []) × (front ≡ []))
+      ⊎ (((line : List ℕ) × (rows : List ℕ) × IsOneLine line × (next ≡ line ++ 10 ∷ rows) × IsStopped at (without_return line) rows front)
+      ⊎ (IsOneLine next × (rest ≡ []) × IsStopped at next [] front))
+
+  -- the command during which the fault occurred, and the part of its reply that was printed. At the fault `Input` it is all that came, and
+  -- no whole turn: `unseen` says why no more came though the end was not seen, `spent` that nothing follows. At `Output` and `Memory` it is
+  -- all that was taken
   abbrev pub BreaksIn : Type 0 → Type 0 → ShellFault → At K → List ℕ → List ℕ → List ℕ → Type 0
   BreaksIn unseen spent fault.BadStart at next rest front = ⊥
   BreaksIn unseen spent fault.Input at next rest front = (front ≡ []) × HasNoTurn unseen spent (Fails (spent ⊎ unseen) at.world.state.table.schema) next
-  BreaksIn unseen spent fault.Output at next rest front = IsOneLine next × IsFront (ListsNext at next rest) front
-  BreaksIn unseen spent fault.Memory at next rest front = IsOneLine next × IsFront (ListsNext at next rest) front
+  BreaksIn unseen spent fault.Output at next rest front = StopsIn at next rest front
+  BreaksIn unseen spent fault.Memory at next rest front = StopsIn at next rest front
   BreaksIn unseen spent fault.Turns at next rest front = ⊥
 
 -- `unseen` and `spent` say why no more came

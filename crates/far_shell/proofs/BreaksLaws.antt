@@ -8,7 +8,7 @@ use Rattle.far_script.specs.declared.fault.ShellFault.{ShellFault}
 use Rattle.far_script.specs.declared.fault.ShellFault.TheVariants as fault
 use Rattle.far_script.specs.declared.input.Input.{Input}
 use Rattle.far_scripts.specs.Breaks.{BreaksLater, BreaksServing, HasNotBegun, IsRefused}
-use Rattle.far_shell.specs.Breaks.{Breaks, EndsBy, IsBroken, IsUnfinished}
+use Rattle.far_shell.specs.Breaks.{Breaks, EndsBy, IsBroken, IsSplit, IsUnfinished}
 use Rattle.far_script.specs.Faults.{IfInput, IsCut}
 use Rattle.far_script.specs.Flow.{Counts, Gives, IsOver, IsAtEnd, IsUnseen, Prints, Reads, unread}
 use Rattle.far_script.specs.Openings.{Opened, Schema, start_in}
@@ -40,11 +40,11 @@ broken-later tickets unseen spent fault.Turns bytes rest text h = absurd h.break
 
 ends-by : {S K : Type 0} (tickets : Tickets S K) (unseen spent : List ℕ → Type 0) (splits : ShellFault → List ℕ → List ℕ → Type 0) (may_fail : Bool) (why : ShellFault) (bytes rest text lost : List ℕ) → (why ≡ fault.Output → IsTrue may_fail) → splits why bytes rest → IsBroken tickets unseen spent why bytes rest text → lost ≡ []
     → EndsBy tickets unseen spent splits may_fail why bytes rest text lost
-ends-by tickets unseen spent splits may_fail fault.BadStart bytes rest text lost cause begins h none = (h, none)
-ends-by tickets unseen spent splits may_fail fault.Input bytes rest text lost cause begins h none = (h, none)
-ends-by tickets unseen spent splits may_fail fault.Output bytes rest text lost cause begins h none = (cause refl, inr (fault.Output, begins, h))
-ends-by tickets unseen spent splits may_fail fault.Memory bytes rest text lost cause begins h none = (h, none)
-ends-by tickets unseen spent splits may_fail fault.Turns bytes rest text lost cause begins h none = (h, none)
+ends-by tickets unseen spent splits may_fail fault.BadStart bytes rest text lost cause begins h none = ((begins, h), none)
+ends-by tickets unseen spent splits may_fail fault.Input bytes rest text lost cause begins h none = ((begins, h), none)
+ends-by tickets unseen spent splits may_fail fault.Output bytes rest text lost cause begins h none = (cause refl, inr (fault.Output, (begins, h)))
+ends-by tickets unseen spent splits may_fail fault.Memory bytes rest text lost cause begins h none = ((begins, h), none)
+ends-by tickets unseen spent splits may_fail fault.Turns bytes rest text lost cause begins h none = ((begins, h), none)
 
 module _ {R : Type 0} (read : Ghosts R) {S K : Type 0} (tickets : Tickets S K) (unseen : Type 0) where
   -- how a script breaks off
@@ -68,7 +68,8 @@ module _ {R : Type 0} (read : Ghosts R) {S K : Type 0} (tickets : Tickets S K) (
     subst (λ (z : List ℕ). Gives read why old new z rest) (ap (λ (z : List ℕ). first ++ z) h.0 ∙ append-nil first) (gives-then read old mid new first bytes rest why p g),
     subst (λ (z : List ℕ). Prints u z text w left) empty (prints-nothing-then u v w held k text left q t),
     broken-first tickets (λ _. unseen) (IsOver read new) why first rest text
-        (not-begun unseen (IsOver read new rest) why (IsRefused opened) first rest text h.1 (λ refused. inl (line, begins-then first line (IsAtEnd read mid) (rest ≡ []) (λ s. no-rest bytes rest (g.0.1 s)) b, inr (opened, asks, refused)))),
+        (not-begun unseen (IsOver read new rest) why (IsRefused opened) first rest text h.1 (λ refused. inl (line, begins-then first line (IsAtEnd read mid) (rest ≡ []) (λ s. no-rest bytes rest (g.0.1 s)) b, inr (opened, asks, refused)))
+        (inr (line, begins-then first line (IsAtEnd read mid) (rest ≡ []) (λ s. no-rest bytes rest (g.0.1 s)) b))),
   )
   breaks-table old mid new u v w held k left first line bytes rest text opened why empty p q b asks g t (inr h) = (
     first ++ bytes,
@@ -93,21 +94,21 @@ pub breaks-written : {S K : Type 0} (tickets : Tickets S K) (unseen spent : List
     → Prints v left [] w [] → Breaks tickets unseen spent splits may_fail u w why
 breaks-written tickets unseen spent splits may_fail u v w why bytes rest text left cause begins p b q =
     let all = prints-then-nothing u v w [] text left [] p q in
-    record { bytes = bytes; rest = rest; begins = begins; text = text; sent = all.0; lost = []; written = all.1; said = all.2; ends = ends-by tickets unseen spent splits may_fail why bytes rest text [] cause begins b refl }
+    record { bytes = bytes; rest = rest; text = text; sent = all.0; lost = []; written = all.1; said = all.2; ends = ends-by tickets unseen spent splits may_fail why bytes rest text [] cause begins b refl }
 
 -- a script is broken off, and then a write fails
-pub breaks-unwritten : {S K : Type 0} (tickets : Tickets S K) (unseen spent : List ℕ → Type 0) (splits : ShellFault → List ℕ → List ℕ → Type 0) (may_fail : Bool) (u v w : Option (List ℕ)) (why : ShellFault) (bytes rest text left lost : List ℕ) → IsTrue may_fail → splits fault.Output bytes rest → splits why bytes rest → Prints u [] text v left → IsBroken tickets unseen spent why bytes rest text
+pub breaks-unwritten : {S K : Type 0} (tickets : Tickets S K) (unseen spent : List ℕ → Type 0) (splits : ShellFault → List ℕ → List ℕ → Type 0) (may_fail : Bool) (u v w : Option (List ℕ)) (why : ShellFault) (bytes rest text left lost : List ℕ) → IsTrue may_fail → splits why bytes rest → Prints u [] text v left → IsBroken tickets unseen spent why bytes rest text
     → Prints v left [] w lost → Breaks tickets unseen spent splits may_fail u w fault.Output
-breaks-unwritten tickets unseen spent splits may_fail u v w why bytes rest text left lost cause begins split p b q =
+breaks-unwritten tickets unseen spent splits may_fail u v w why bytes rest text left lost cause split p b q =
     let all = prints-then-nothing u v w [] text left lost p q in
-    record { bytes = bytes; rest = rest; begins = begins; text = text; sent = all.0; lost = lost; written = all.1; said = all.2; ends = (cause, inr (why, split, b)) }
+    record { bytes = bytes; rest = rest; text = text; sent = all.0; lost = lost; written = all.1; said = all.2; ends = (cause, inr (why, (split, b))) }
 
 -- a script gets its replies, and then a write fails
 pub whole-unwritten : {S K : Type 0} (tickets : Tickets S K) (unseen spent : List ℕ → Type 0) (splits : ShellFault → List ℕ → List ℕ → Type 0) (may_fail : Bool) (u v w : Option (List ℕ)) (script rest text left lost : List ℕ) → IsTrue may_fail → splits fault.Output script rest → Prints u [] text v left → IsAnswered tickets script (rest ≡ []) text → Prints v left [] w lost
     → Breaks tickets unseen spent splits may_fail u w fault.Output
 whole-unwritten tickets unseen spent splits may_fail u v w script rest text left lost cause begins p s q =
     let all = prints-then-nothing u v w [] text left lost p q in
-    record { bytes = script; rest = rest; begins = begins; text = text; sent = all.0; lost = lost; written = all.1; said = all.2; ends = (cause, inl s) }
+    record { bytes = script; rest = rest; text = text; sent = all.0; lost = lost; written = all.1; said = all.2; ends = (cause, inl (begins, s)) }
 
 -- what holds at each fault
 pub always : (why : ShellFault) (P : Type 0) → P → IfInput why P
@@ -127,30 +128,32 @@ module _ {S K : Type 0} (tickets : Tickets S K) (P Q A B : List ℕ → Type 0) 
 
 module _ {S K : Type 0} (tickets : Tickets S K) (P Q A B : List ℕ → Type 0) (splits others : ShellFault → List ℕ → List ℕ → Type 0) (f : (why : ShellFault) (bytes rest : List ℕ) → splits why bytes rest → IfInput why (P bytes → Q bytes))
     (s : (rest : List ℕ) → A rest → B rest) (g : (why : ShellFault) (bytes rest : List ℕ) → splits why bytes rest → others why bytes rest) where
-  unwritten-as : (bytes rest text : List ℕ) → IsAnswered tickets bytes (rest ≡ []) text ⊎ ((why : ShellFault) × splits why bytes rest × IsBroken tickets P A why bytes rest text)
-      → IsAnswered tickets bytes (rest ≡ []) text ⊎ ((why : ShellFault) × others why bytes rest × IsBroken tickets Q B why bytes rest text)
-  unwritten-as bytes rest text (inl h) = inl h
-  unwritten-as bytes rest text (inr h) = inr (h.0, g h.0 bytes rest h.1, broken-as tickets P Q A B h.0 bytes rest text (f h.0 bytes rest h.1) (s rest) h.2)
+  split-as : (why : ShellFault) (bytes rest text : List ℕ) → IsSplit tickets P A splits why bytes rest text → IsSplit tickets Q B others why bytes rest text
+  split-as why bytes rest text h = (g why bytes rest h.0, broken-as tickets P Q A B why bytes rest text (f why bytes rest h.0) (s rest) h.1)
 
-  ends-as : (may_fail : Bool) (why : ShellFault) (bytes rest text lost : List ℕ) → splits why bytes rest → EndsBy tickets P A splits may_fail why bytes rest text lost → EndsBy tickets Q B others may_fail why bytes rest text lost
-  ends-as may_fail fault.BadStart bytes rest text lost begins h = h
-  ends-as may_fail fault.Input bytes rest text lost begins h = (broken-as tickets P Q A B fault.Input bytes rest text (f fault.Input bytes rest begins) (s rest) h.0, h.1)
-  ends-as may_fail fault.Output bytes rest text lost begins h = (h.0, unwritten-as bytes rest text h.1)
-  ends-as may_fail fault.Memory bytes rest text lost begins h = (broken-as tickets P Q A B fault.Memory bytes rest text tt (s rest) h.0, h.1)
-  ends-as may_fail fault.Turns bytes rest text lost begins h = h
+  unwritten-as : (bytes rest text : List ℕ) → (splits fault.Output bytes rest × IsAnswered tickets bytes (rest ≡ []) text) ⊎ ((why : ShellFault) × IsSplit tickets P A splits why bytes rest text)
+      → (others fault.Output bytes rest × IsAnswered tickets bytes (rest ≡ []) text) ⊎ ((why : ShellFault) × IsSplit tickets Q B others why bytes rest text)
+  unwritten-as bytes rest text (inl h) = inl (g fault.Output bytes rest h.0, h.1)
+  unwritten-as bytes rest text (inr h) = inr (h.0, split-as h.0 bytes rest text h.1)
+
+  ends-as : (may_fail : Bool) (why : ShellFault) (bytes rest text lost : List ℕ) → EndsBy tickets P A splits may_fail why bytes rest text lost → EndsBy tickets Q B others may_fail why bytes rest text lost
+  ends-as may_fail fault.BadStart bytes rest text lost h = (split-as fault.BadStart bytes rest text h.0, h.1)
+  ends-as may_fail fault.Input bytes rest text lost h = (split-as fault.Input bytes rest text h.0, h.1)
+  ends-as may_fail fault.Output bytes rest text lost h = (h.0, unwritten-as bytes rest text h.1)
+  ends-as may_fail fault.Memory bytes rest text lost h = (split-as fault.Memory bytes rest text h.0, h.1)
+  ends-as may_fail fault.Turns bytes rest text lost h = (split-as fault.Turns bytes rest text h.0, h.1)
 
   -- the same in other words, and of another split
   pub breaks-as : (may_fail : Bool) (u v : Option (List ℕ)) (why : ShellFault) → Breaks tickets P A splits may_fail u v why → Breaks tickets Q B others may_fail u v why
   breaks-as may_fail u v why b = record {
     bytes = b.bytes;
     rest = b.rest;
-    begins = g why b.bytes b.rest b.begins;
     text = b.text;
     sent = b.sent;
     lost = b.lost;
     written = b.written;
     said = b.said;
-    ends = ends-as may_fail why b.bytes b.rest b.text b.lost b.begins b.ends;
+    ends = ends-as may_fail why b.bytes b.rest b.text b.lost b.ends;
   }
 
 -- as many bytes came as reads are made
@@ -188,7 +191,7 @@ short-whole tickets may_fail script u v why low b =
 -- nothing was read
 pub breaks-none : {S K : Type 0} (tickets : Tickets S K) (unseen spent : List ℕ → Type 0) (may_fail : Bool) (known u : Option (List ℕ)) → Breaks tickets unseen spent (λ why bytes rest. IfSome known (λ script. script ≡ bytes ++ rest)) may_fail u u fault.Memory
 breaks-none tickets unseen spent may_fail known u =
-    record { bytes = []; rest = unwrap_or known []; begins = starts-none known; text = []; sent = []; lost = []; written = Appends-nil u; said = refl; ends = (inl refl, refl) }
+    record { bytes = []; rest = unwrap_or known []; text = []; sent = []; lost = []; written = Appends-nil u; said = refl; ends = ((starts-none known, inl (refl, inl ([], refl))), refl) }
 
 -- a writer that never fails is not at fault
 pub sure-writer : {S K : Type 0} (tickets : Tickets S K) (unseen spent : List ℕ → Type 0) (splits : ShellFault → List ℕ → List ℕ → Type 0) (u v : Option (List ℕ)) (why : ShellFault) → Breaks tickets unseen spent splits false u v why → why ≢ fault.Output

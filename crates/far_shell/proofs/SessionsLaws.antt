@@ -75,13 +75,20 @@ module _ {R : Type 0} (read : Ghosts R) {S K : Type 0} (tickets : Tickets S K) w
       → Reads read old first mid → Begins first (IsAtEnd read mid) line → start_in line ≡ Some (Threads sessions edits) → Prints u held [] w l → left ≡ l → (why ≡ fault.Memory) ⊎ (why ≡ fault.Turns)
       → Breaking read tickets unseen old mid u w left why
   sessions-stopped old mid u w held l left first line sessions edits why unseen empty p b asks q e (inl memory) =
-      rw (memory, e) (first, coming read mid, [], (starts read old mid first p, tt), subst (λ (z : List ℕ). Prints u z [] w l) empty q, inl refl)
+      rw (memory, e) (
+        first,
+        coming read mid,
+        [],
+        (starts read old mid first p, tt, p),
+        subst (λ (z : List ℕ). Prints u z [] w l) empty q,
+        inl (refl, inr (line, begins-then first line (IsAtEnd read mid) (coming read mid ≡ []) (spent-rest read mid) b)),
+      )
   sessions-stopped old mid u w held l left first line sessions edits why unseen empty p b asks q e (inr turns) =
       rw (turns, e) (
         first,
         coming read mid,
         [],
-        (starts read old mid first p, tt),
+        (starts read old mid first p, tt, tt),
         subst (λ (z : List ℕ). Prints u z [] w l) empty q,
         (refl, (sessions, edits, (line, begins-then first line (IsAtEnd read mid) (coming read mid ≡ []) (spent-rest read mid) b, asks))),
       )

@@ -17,21 +17,24 @@ module _ {S K : Type 0} (tickets : Tickets S K) (unseen spent : List ℕ → Typ
   IsBroken fault.Memory bytes rest text = HasNotBegun (unseen bytes) (spent rest) fault.Memory bytes rest text ⊎ BreaksLater tickets (unseen bytes) (spent rest) fault.Memory bytes rest text
   IsBroken fault.Turns bytes rest text = (text ≡ []) × ((sessions : ℕ) × (edits : ℕ) × AsksSessions bytes (rest ≡ []) sessions edits)
 
+  -- the same of a script that is split into these bytes and the rest. The first argument says how it is split at a fault
+  abbrev pub IsSplit : (ShellFault → List ℕ → List ℕ → Type 0) → ShellFault → List ℕ → List ℕ → List ℕ → Type 0
+  IsSplit splits why bytes rest text = splits why bytes rest × IsBroken why bytes rest text
+
   -- the same, with the bytes that the writer did not take. There are none, unless the fault is the writer's: then writers of its type may
-  -- fail. The first argument says how a script is split at a fault, and the second whether writers may fail
+  -- fail, as the second argument says. The write failed behind all replies to a script, or behind those up to another fault
   abbrev pub EndsBy : (ShellFault → List ℕ → List ℕ → Type 0) → Bool → ShellFault → List ℕ → List ℕ → List ℕ → List ℕ → Type 0
-  EndsBy splits may_fail fault.BadStart bytes rest text lost = IsBroken fault.BadStart bytes rest text × (lost ≡ [])
-  EndsBy splits may_fail fault.Input bytes rest text lost = IsBroken fault.Input bytes rest text × (lost ≡ [])
-  EndsBy splits may_fail fault.Memory bytes rest text lost = IsBroken fault.Memory bytes rest text × (lost ≡ [])
-  EndsBy splits may_fail fault.Turns bytes rest text lost = IsBroken fault.Turns bytes rest text × (lost ≡ [])
+  EndsBy splits may_fail fault.BadStart bytes rest text lost = IsSplit splits fault.BadStart bytes rest text × (lost ≡ [])
+  EndsBy splits may_fail fault.Input bytes rest text lost = IsSplit splits fault.Input bytes rest text × (lost ≡ [])
+  EndsBy splits may_fail fault.Memory bytes rest text lost = IsSplit splits fault.Memory bytes rest text × (lost ≡ [])
+  EndsBy splits may_fail fault.Turns bytes rest text lost = IsSplit splits fault.Turns bytes rest text × (lost ≡ [])
   EndsBy splits may_fail fault.Output bytes rest text lost =
-      IsTrue may_fail × (IsAnswered tickets bytes (rest ≡ []) text ⊎ ((why : ShellFault) × splits why bytes rest × IsBroken why bytes rest text))
+      IsTrue may_fail × ((splits fault.Output bytes rest × IsAnswered tickets bytes (rest ≡ []) text) ⊎ ((why : ShellFault) × IsSplit splits why bytes rest text))
 
   -- a script ends early: what was written is a prefix of the replies to its first bytes
   pub record Breaks (splits : ShellFault → List ℕ → List ℕ → Type 0) (may_fail : Bool) (old new : Option (List ℕ)) (why : ShellFault) : Type 0 where
     pub bytes : List ℕ
     pub rest : List ℕ
-    pub begins : splits why bytes rest
     pub text : List ℕ
     pub sent : List ℕ
     pub lost : List ℕ

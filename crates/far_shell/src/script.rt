@@ -75,6 +75,9 @@ fn flush_at<W: Sink>(
 /// the bytes that came are subtracted from those that were left. That holds too for a reader whose bytes no contract knows, as standard
 /// input.
 ///
+/// At the fault `Memory` the replies to all lines that were taken are written. Only the last of them may have no reply, or if it asks for
+/// a dump a prefix of it. At the fault `Output` the same is so, but of these replies the writer took a prefix.
+///
 /// At the fault `Input` all whole lines that came are answered. The next line or its load is not valid UTF-8, or it is incomplete:
 ///
 /// - A line lacks its end. Then the end of the script was not seen.
@@ -114,7 +117,8 @@ pub fn run_input<T: AllocGlobal + Sync + Threads + Wait, R: Source + Drop, W: Si
 /// its table go to a store in this process, which takes 1,048,576 contents. If the first command asks for sessions, it is the whole
 /// script (`run_threads`), and no line after it is read.
 ///
-/// A script has at most 16,777,216 bytes, and is read in at most 1,048,576 reads. All lines before a fault are answered. Ends with:
+/// A script has at most 16,777,216 bytes, and is read in at most 1,048,576 reads. All lines before a fault are answered, and the replies
+/// are written unless the writer fails: `run_input` says which lines these are. Ends with:
 ///
 /// - `Input`, if a read fails or one of these bounds is exceeded. Also if a line or the bytes of a load are not valid UTF-8, or the script ends
 ///   inside a load;

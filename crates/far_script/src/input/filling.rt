@@ -1,7 +1,7 @@
 // Bytes of a script, as they come.
 ghost use Rattle.std.specs.Prelude.{◌≡◌, ◌≢◌, ◌==◌, ◌≤◌, ◌<◌, ◌+◌, ◌++◌, [], false, true, slice_index, slice_range, take, length, IfNone, IfErr, IfOk, IfSome, OnOk};
 ghost use Rattle.std.specs.List.{list_any};
-ghost use Rattle.far_script.specs.Faults.{IfInput, IfMemory};
+ghost use Rattle.far_script.specs.Faults.{IfInput, IfHalted};
 ghost use Rattle.far_script.specs.Flow.{IsUnseen, Leaves, Reads, unread};
 
 use super::Input;
@@ -72,7 +72,7 @@ impl<R: Source + Drop> Input<R> {
         ensures turns { IfErr result (λ fault. fault ≢ ShellFault.Turns) }
         ensures unwritten { IfErr result (λ fault. fault ≢ ShellFault.Output) }
         ensures stopped { IfErr result (λ fault. IfInput fault ((self.new.source.bytes ≡ self.old.source.bytes) × (unread R.Read self.new ≡ unread R.Read self.old) × Leaves (R.remaining self.old.source.reader) (R.remaining self.new.source.reader) [] self.new.source.bytes)) }
-        ensures kept { IfErr result (λ fault. IfMemory fault (Reads R.Read self.old [] self.new)) }
+        ensures kept { IfErr result (λ fault. IfHalted fault (Reads R.Read self.old [] self.new)) }
         ensures unseen { IfErr result (λ fault. IfInput fault (IsUnseen R.Read R.may_fail self.old self.new)) }
         ensures asked { self.new.source.reads ≤ self.old.source.reads }
         ensures going { IfOk result (λ more. more ≡ true → self.new.source.ended ≡ false) }

@@ -2,7 +2,7 @@
 ghost use Rattle.std.specs.Prelude.{◌↔◌, ◌≡◌, ◌≢◌, ◌==◌, ◌≤◌, ◌<◌, [], false, true, length, slice_index, slice_range, take, IsTrue, IsUtf8, IfNone, IfErr, IfOk, IfSome, OnOk};
 ghost use Rattle.std.specs.Io.BufRead.{strip_last};
 ghost use Rattle.std.specs.List.{list_any};
-ghost use Rattle.far_script.specs.Faults.{IfInput, IfMemory};
+ghost use Rattle.far_script.specs.Faults.{IfInput, IfHalted};
 ghost use Rattle.far_script.specs.Flow.{Holds, IsShort, IsUnseen, Prints, Reads, Stops, TakesLine, has_failed, byte_range_of, bytes_in, unread};
 ghost use Rattle.far_script.specs.Lines.{IsOneLine};
 
@@ -52,7 +52,7 @@ impl<R: Source + Drop> Input<R> {
         ensures turns { IfErr result (λ fault. fault ≢ ShellFault.Turns) }
         ensures stopped { IfErr result (λ fault. IfInput fault (Stops R.Read (λ bytes rest. IsOneLine bytes) self.old self.new)) }
         ensures unseen { IfErr result (λ fault. IfInput fault (IsUnseen R.Read R.may_fail self.old self.new)) }
-        ensures kept { IfErr result (λ fault. IfMemory fault (Reads R.Read self.old [] self.new)) }
+        ensures kept { IfErr result (λ fault. IfHalted fault (Reads R.Read self.old [] self.new)) }
         ensures asked { self.new.source.reads ≤ self.old.source.reads }
         ensures printed { Prints (W.contents writer.old) output.old.page [] (W.contents writer.new) output.new.page }
         ensures failed { IfErr result (λ fault. fault ≡ ShellFault.Output → has_failed output.new ≡ true) }
@@ -97,7 +97,7 @@ impl<R: Source + Drop> Input<R> {
         ensures turns { IfErr result (λ fault. fault ≢ ShellFault.Turns) }
         ensures stopped { IfErr result (λ fault. IfInput fault (Stops R.Read (λ bytes rest. IsOneLine bytes) self.old self.new)) }
         ensures unseen { IfErr result (λ fault. IfInput fault (IsUnseen R.Read R.may_fail self.old self.new)) }
-        ensures kept { IfErr result (λ fault. IfMemory fault (Reads R.Read self.old [] self.new)) }
+        ensures kept { IfErr result (λ fault. IfHalted fault (Reads R.Read self.old [] self.new)) }
         ensures asked { self.new.source.reads ≤ self.old.source.reads }
         ensures printed { Prints (W.contents writer.old) output.old.page [] (W.contents writer.new) output.new.page }
         ensures failed { IfErr result (λ fault. fault ≡ ShellFault.Output → has_failed output.new ≡ true) }
@@ -126,7 +126,7 @@ impl<R: Source + Drop> Input<R> {
         ensures fault { IfErr result (λ fault. fault ≢ ShellFault.BadStart) }
         ensures turns { IfErr result (λ fault. fault ≢ ShellFault.Turns) }
         ensures stopped { IfErr result (λ fault. IfInput fault (Stops R.Read (λ bytes rest. (length bytes < count) × IsShort R.Read R.may_fail self.old self.new rest) self.old self.new)) }
-        ensures kept { IfErr result (λ fault. IfMemory fault (Reads R.Read self.old [] self.new)) }
+        ensures kept { IfErr result (λ fault. IfHalted fault (Reads R.Read self.old [] self.new)) }
         ensures asked { self.new.source.reads ≤ self.old.source.reads }
         ensures printed { Prints (W.contents writer.old) output.old.page [] (W.contents writer.new) output.new.page }
         ensures failed { IfErr result (λ fault. fault ≡ ShellFault.Output → has_failed output.new ≡ true) }

@@ -9,8 +9,9 @@ use Rattle.far_commands.specs.declared.command.Command.TheVariants as command
 use Rattle.far_commands.specs.Listings.{listing_of}
 use Rattle.far_commands.specs.Replies.{AnswersLine, Serves}
 use Rattle.far_commands.specs.Progress.{At}
-use Rattle.far_commands.specs.Cuts.{Fails, FailsBy, IsListing}
-use Rattle.far_script.proofs.FlowStops.{each-fault, handed-on, if-input, leaves-same, stops-here, stops-more}
+use Rattle.far_commands.specs.Commands.{command_of}
+use Rattle.far_commands.specs.Cuts.{Fails, FailsBy, IsListing, IsTakenFor}
+use Rattle.far_script.proofs.FlowStops.{at-halted, each-fault, handed-on, if-input, if-halted, leaves-same, stops-here, stops-more}
 use Rattle.far_script.proofs.FlowLaws.{reads-none, prints, prints-none, range-empty, range-some}
 use Rattle.far_commands.proofs.CutsLaws.{cut-more, no-input, no-output, printed-err}
 use Rattle.far_commands.proofs.ResultLaws.{on-ok}
@@ -106,3 +107,23 @@ returns-in-Ok-Some-clause-stopped g c =
 
 pub returns-in-Ok-None-clause-failed : goal.returns-in-Ok-None-clause-failed
 returns-in-Ok-None-clause-failed g c = no-output c.print_syntax.result _ c.print_syntax.ensures.memory
+
+pub returns-in_err-text-clause-taken : goal.returns-in_err-text-clause-taken
+returns-in_err-text-clause-taken g c = handed-on c.from_residual.result fault.Input _ (rw c.in_err-text.ensures.fault.0 at c.from_residual.ensures.1) tt
+
+pub returns-in-Err-clause-taken : goal.returns-in-Err-clause-taken
+returns-in-Err-clause-taken g c = rw c.of_memory.ensures ([], reads-none g.R.Read _ _ refl, inl refl)
+
+pub returns-in-Ok-None-clause-taken : goal.returns-in-Ok-None-clause-taken
+returns-in-Ok-None-clause-taken g c = at-halted c.print_syntax.result _ ([], reads-none g.R.Read _ _ refl, inl refl)
+
+pub returns-in-Ok-Some-clause-taken : goal.returns-in-Ok-Some-clause-taken
+returns-in-Ok-Some-clause-taken g c =
+    let some = rw c.in_ok-text.ensures.ok.0 at (sym c.in-Ok-Some.ensures.command ∙ c.in-Ok-Some.field-0-is) in
+    let line = bytes_in g.R.Read c.args.input.now c.args.line in
+    each-fault c.serve_command.result _ _ (λ why taken. if-halted why _ _ (λ t. (
+      t.0,
+      t.1,
+      subst (λ (at : At g.row.S-Ticket.Denot). IsTakenFor (command_of at.world.state.table.schema line) t.0) c.progress.view_is (subst (λ (asked : Option Command). IsTakenFor asked t.0) (sym some) t.2),
+    )) taken)
+    c.serve_command.ensures.taken

@@ -1,9 +1,9 @@
-use Rattle.std.proofs.Common.{◌≡◌, [], refl}
+use Rattle.std.proofs.Common.{◌≡◌, [], inl, refl}
 use Rattle.far_commands.specs.declared.command.Command.TheVariants as command
 use Rattle.far_commands.specs.Listings.{listing_of}
 use Rattle.far_frame.specs.State.{live}
 use Rattle.far_script.proofs.FlowLaws.{prints, reads-none}
-use Rattle.far_script.proofs.FlowStops.{each-fault, not-input}
+use Rattle.far_script.proofs.FlowStops.{at-halted, each-fault, not-input}
 use Rattle.far_commands.proofs.CutsLaws.{cut-more, no-input, no-output, printed-err}
 use Rattle.far_commands.proofs.ResultLaws.{on-ok, printed-ok}
 use Rattle.far_commands.proofs.serve.serve_command.Goals as goal
@@ -71,3 +71,18 @@ returns-in-Renew-clause-failed g c = no-output c.add_printed-in-Renew.result _ c
 
 pub returns-in-Recount-clause-failed : goal.returns-in-Recount-clause-failed
 returns-in-Recount-clause-failed g c = no-output c.add_printed-in-Recount.result _ c.add_printed-in-Recount.ensures.memory
+
+pub returns-in-Step-clause-taken : goal.returns-in-Step-clause-taken
+returns-in-Step-clause-taken g c = at-halted c.add_printed.result _ ([], reads-none g.R.Read _ _ refl, inl refl)
+
+pub returns-in-Load-clause-taken : goal.returns-in-Load-clause-taken
+returns-in-Load-clause-taken g c = rw c.in-Load.is c.serve_load.ensures.taken
+
+pub returns-in-Dump-clause-taken : goal.returns-in-Dump-clause-taken
+returns-in-Dump-clause-taken g c = at-halted c.dump.result _ ([], reads-none g.R.Read _ _ refl, inl refl)
+
+pub returns-in-Renew-clause-taken : goal.returns-in-Renew-clause-taken
+returns-in-Renew-clause-taken g c = at-halted c.add_printed-in-Renew.result _ ([], reads-none g.R.Read _ _ refl, inl refl)
+
+pub returns-in-Recount-clause-taken : goal.returns-in-Recount-clause-taken
+returns-in-Recount-clause-taken g c = at-halted c.add_printed-in-Recount.result _ ([], reads-none g.R.Read _ _ refl, inl refl)

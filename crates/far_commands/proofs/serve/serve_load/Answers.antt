@@ -1,9 +1,9 @@
-use Rattle.std.proofs.Common.{ℕ, List, [], length, ◌<◌, inl, inr, refl, subst}
+use Rattle.std.proofs.Common.{ℕ, List, [], length, ◌<◌, inl, inr, refl, sym, ap, subst}
 use Rattle.std.specs.Prelude.{⊤, IsUtf8, Some}
 use Rattle.far_script.specs.declared.fault.ShellFault.TheVariants as fault
 use Rattle.far_script.specs.Flow.{IsShort, bytes_in}
 use Rattle.far_script.proofs.FlowLaws.{prints, prints-nothing-then}
-use Rattle.far_script.proofs.FlowStops.{each-fault, handed-on, if-input, leaves-same, stops-here, stops-more, stops-then}
+use Rattle.far_script.proofs.FlowStops.{at-halted, each-fault, handed-on, if-input, if-halted, leaves-same, stops-here, stops-more, stops-then}
 use Rattle.far_commands.specs.declared.command.Command.TheVariants as command
 use Rattle.far_commands.specs.Cuts.{FailsBy}
 use Rattle.far_commands.proofs.CutsLaws.{front-came, no-input, no-output, printed-err, prints-cut-more, prints-cut-none, take-front}
@@ -67,3 +67,16 @@ returns-in_err-rows-clause-err g c =
 
 pub returns-clause-failed : goal.returns-clause-failed
 returns-clause-failed g c = no-output c.add_printed.result _ c.add_printed.ensures.memory
+
+pub returns-in_err-rows-clause-taken : goal.returns-in_err-rows-clause-taken
+returns-in_err-rows-clause-taken g c =
+    let why = c.in_err-rows.field-0.0 in
+    handed-on c.from_residual.result why _ c.from_residual.ensures.1 (if-halted why _ _ (λ r. ([], r, inl refl)) c.in_err-rows.ensures.kept)
+
+pub returns-in_err-text-clause-taken : goal.returns-in_err-text-clause-taken
+returns-in_err-text-clause-taken g c = handed-on c.from_residual-in_err-text.result fault.Input _ (rw c.in_err-text.ensures.fault.0 at c.from_residual-in_err-text.ensures.1) tt
+
+pub returns-clause-taken : goal.returns-clause-taken
+returns-clause-taken g c =
+    let s = c.in_ok-rows.ensures.byte_range in
+    at-halted c.add_printed.result _ (bytes_in g.R.Read c.bytes.new.self c.in_ok-rows.rows, s.2, inr (ap (λ (n : ℕ). Some (command.Load n)) (sym s.1)))

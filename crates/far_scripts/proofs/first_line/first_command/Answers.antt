@@ -56,7 +56,7 @@ returns-in_err-line-clause-err g c =
     handed-on c.from_residual.result c.in_err-line.field-0.0 _ c.from_residual.ensures.1
     (breaks-first g.R.Read (IsUnseen g.R.Read g.R.Source.may_fail c.args.input.now c.line.new.self) c.args.input.now c.loop-turn.input c.line.new.self (g.W.Write.contents c.args.writer.now) (g.W.Write.contents c.line.new.writer) c.args.output.now.page c.line.new.output.page i.0 i.1 c.in_err-line.field-0.0 c.in_err-line.ensures.fault c.in_err-line.ensures.turns i.2 i.4 printed
     (no-line g.R.Read c.in_err-line.field-0.0 (IsUnseen g.R.Read g.R.Source.may_fail c.args.input.now c.line.new.self) c.loop-turn.input c.line.new.self
-    (if-unseen g.R.Read g.R.Source.may_fail c.in_err-line.field-0.0 c.args.input.now c.loop-turn.input c.line.new.self i.0 i.2 i.6 c.in_err-line.ensures.unseen) c.in_err-line.ensures.stopped))
+    (if-unseen g.R.Read g.R.Source.may_fail c.in_err-line.field-0.0 c.args.input.now c.loop-turn.input c.line.new.self i.0 i.2 i.6 c.in_err-line.ensures.unseen) c.in_err-line.ensures.stopped) c.in_err-line.ensures.kept)
 
 pub returns-in_err-text-in-Whole-clause-err : goal.returns-in_err-text-in-Whole-clause-err
 returns-in_err-text-in-Whole-clause-err g c =
@@ -66,7 +66,7 @@ returns-in_err-text-in-Whole-clause-err g c =
     let printed = prints-nothing-then (g.W.Write.contents c.args.writer.now) (g.W.Write.contents c.loop-turn.writer) (g.W.Write.contents c.line.new.writer) c.args.output.now.page c.loop-turn.output.page [] c.line.new.output.page c.loop-turn.invariant.3 c.in_ok-line.ensures.printed in
     handed-on c.from_residual-in_err-text-in-Whole.result fault.Input _ (rw f.0 at c.from_residual-in_err-text-in-Whole.ensures.1)
     (breaks-first g.R.Read (IsUnseen g.R.Read g.R.Source.may_fail c.args.input.now c.line.new.self) c.args.input.now c.loop-turn.input c.line.new.self (g.W.Write.contents c.args.writer.now) (g.W.Write.contents c.line.new.writer) c.args.output.now.page c.line.new.output.page i.0 i.1 fault.Input (λ e. cc e) (λ e. cc e) i.2 i.4 printed
-    (no-text-line g.R.Read c.loop-turn.input c.line.new.self t.1.0 _ (IsUnseen g.R.Read g.R.Source.may_fail c.args.input.now c.line.new.self) t.1.1 t.1.2 t.1.3 f.1))
+    (no-text-line g.R.Read c.loop-turn.input c.line.new.self t.1.0 _ (IsUnseen g.R.Read g.R.Source.may_fail c.args.input.now c.line.new.self) t.1.1 t.1.2 t.1.3 f.1) tt)
 
 pub returns-in_err-text-in-Last-clause-err : goal.returns-in_err-text-in-Last-clause-err
 returns-in_err-text-in-Last-clause-err g c =
@@ -76,7 +76,7 @@ returns-in_err-text-in-Last-clause-err g c =
     let printed = prints-nothing-then (g.W.Write.contents c.args.writer.now) (g.W.Write.contents c.loop-turn.writer) (g.W.Write.contents c.line.new.writer) c.args.output.now.page c.loop-turn.output.page [] c.line.new.output.page c.loop-turn.invariant.3 c.in_ok-line.ensures.printed in
     handed-on c.from_residual-in_err-text-in-Last.result fault.Input _ (rw f.0 at c.from_residual-in_err-text-in-Last.ensures.1)
     (breaks-first g.R.Read (IsUnseen g.R.Read g.R.Source.may_fail c.args.input.now c.line.new.self) c.args.input.now c.loop-turn.input c.line.new.self (g.W.Write.contents c.args.writer.now) (g.W.Write.contents c.line.new.writer) c.args.output.now.page c.line.new.output.page i.0 i.1 fault.Input (λ e. cc e) (λ e. cc e) i.2 i.4 printed
-    (no-text-last g.R.Read c.loop-turn.input c.line.new.self _ (IsUnseen g.R.Read g.R.Source.may_fail c.args.input.now c.line.new.self) t.1.0 t.1.3 (t.1.1, t.1.2) f.1))
+    (no-text-last g.R.Read c.loop-turn.input c.line.new.self _ (IsUnseen g.R.Read g.R.Source.may_fail c.args.input.now c.line.new.self) t.1.0 t.1.3 (t.1.1, t.1.2) f.1) tt)
 
 pub returns-in_err-first-in-Whole-clause-err : goal.returns-in_err-first-in-Whole-clause-err
 returns-in_err-first-in-Whole-clause-err g c =

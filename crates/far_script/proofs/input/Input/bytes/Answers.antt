@@ -1,6 +1,7 @@
 use Rattle.std.proofs.Common.{◌≡◌, ◌<◌, [], length, inl, inr, refl, sym, ◌∙◌, arith}
+use Rattle.far_script.specs.declared.fault.ShellFault.TheVariants as fault
 use Rattle.far_script.specs.Flow.{IsShort, unread}
-use Rattle.far_script.proofs.FlowStops.{handed-on, if-input-both, if-memory, leaves-same, not-found, short-later, stops-still}
+use Rattle.far_script.proofs.FlowStops.{handed-on, if-input-both, if-halted, leaves-same, not-found, short-later, stops-still}
 use Rattle.far_script.proofs.FlowLaws.{dropped, fewer, front-within, prints-none, prints-then-nothing, range-length, reads-none, reads-range, reads-then, turns-past}
 use Rattle.far_script.proofs.input.Input.bytes.Goals as goal
 
@@ -70,4 +71,7 @@ pub returns-in_err-read_more-clause-kept : goal.returns-in_err-read_more-clause-
 returns-in_err-read_more-clause-kept g c =
     let why = c.in_err-read_more.field-0.0 in
     handed-on c.from_residual-in_err-read_more.result why _ c.from_residual-in_err-read_more.ensures.1
-    (if-memory why _ _ (λ t. reads-then g.R.Read c.args.self.now c.loop-turn.self c.read_more.new.self [] [] c.loop-turn.invariant.0 t) c.in_err-read_more.ensures.kept)
+    (if-halted why _ _ (λ t. reads-then g.R.Read c.args.self.now c.loop-turn.self c.read_more.new.self [] [] c.loop-turn.invariant.0 t) c.in_err-read_more.ensures.kept)
+
+pub returns-in_err-flush-clause-kept : goal.returns-in_err-flush-clause-kept
+returns-in_err-flush-clause-kept g c = handed-on c.from_residual.result fault.Output _ (rw c.in_err-flush.ensures.fault at c.from_residual.ensures.1) c.loop-turn.invariant.0

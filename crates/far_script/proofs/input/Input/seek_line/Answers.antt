@@ -1,7 +1,8 @@
 use Rattle.std.proofs.Common.{[], refl, arith}
+use Rattle.far_script.specs.declared.fault.ShellFault.TheVariants as fault
 use Rattle.far_script.specs.Flow.{unread}
 use Rattle.far_script.specs.Lines.{IsOneLine}
-use Rattle.far_script.proofs.FlowStops.{handed-on, if-input-both, if-memory, if-unseen, none-of, not-found, stops-still}
+use Rattle.far_script.proofs.FlowStops.{handed-on, if-input-both, if-halted, if-unseen, none-of, not-found, stops-still}
 use Rattle.far_script.proofs.FlowLaws.{fewer, prints-none, prints-then-nothing, reads-looked, reads-none, reads-then, turns-past}
 use Rattle.far_script.proofs.input.Input.seek_line.Goals as goal
 
@@ -67,4 +68,10 @@ returns-in_err-read_more-clause-kept g c =
     let p = reads-looked g.R.Read c.args.self.now c.loop-turn.self c.line_end.new.self c.loop-turn.invariant.0 e.source e.held e.start in
     let why = c.in_err-read_more.field-0.0 in
     handed-on c.from_residual-in_err-read_more.result why _ c.from_residual-in_err-read_more.ensures.1
-    (if-memory why _ _ (λ t. reads-then g.R.Read c.args.self.now c.line_end.new.self c.read_more.new.self [] [] p t) c.in_err-read_more.ensures.kept)
+    (if-halted why _ _ (λ t. reads-then g.R.Read c.args.self.now c.line_end.new.self c.read_more.new.self [] [] p t) c.in_err-read_more.ensures.kept)
+
+pub returns-in_err-flush-clause-kept : goal.returns-in_err-flush-clause-kept
+returns-in_err-flush-clause-kept g c =
+    let e = c.line_end.ensures in
+    handed-on c.from_residual.result fault.Output _ (rw c.in_err-flush.ensures.fault at c.from_residual.ensures.1)
+    (reads-looked g.R.Read c.args.self.now c.loop-turn.self c.line_end.new.self c.loop-turn.invariant.0 e.source e.held e.start)
