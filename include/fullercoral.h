@@ -282,6 +282,13 @@ uint32_t fc_line_at(fc_table *table, size_t index, fc_line *line);
  * and FC_NO_UTF8. */
 uint32_t fc_find(fc_table *table, const fc_cell *key, size_t *index);
 
+/* Asks an aggregate for one key: writes the line that fc_ask and fc_find would give, and makes no other. A key column is needed for a
+ * number or a text; if `key` is missing, it is the line of an aggregate without key column. The answer that stays in the handle stays.
+ * `line->key_text` is the text of `key`, where the caller has it. It costs one look-up, and memory for a copy of a text key until it
+ * returns. Refused with FC_NOTHING if the answer has no line with this key; before that with FC_NO_AGGREGATE, FC_BUILDING, FC_NO_MEMORY (a
+ * text); before these with FC_BAD_ARGUMENT (a kind) and FC_NO_UTF8. */
+uint32_t fc_ask_key(fc_table *table, uint32_t aggregate, const fc_cell *key, fc_line *line);
+
 /* Writes the count and the sum of an aggregate of totals without key. Refused with FC_NOTHING if it is none, or row groups are pending. */
 uint32_t fc_plain(fc_table *table, uint32_t aggregate, fc_sum *sum);
 
@@ -307,13 +314,15 @@ uint32_t fc_numbers(fc_table *table, uint32_t column, uint32_t from, uint32_t to
  * FC_ABSENT. */
 uint32_t fc_text(fc_table *table, uint32_t column, uint32_t place, fc_bytes *text, bool *valid);
 
-/* Writes how many bytes the texts of the places `from` up to `to` of a column have. Refused as fc_texts is. */
+/* Writes how many bytes the texts of the places `from` up to `to` of a column have. Records no access. Refused with FC_NO_COLUMN,
+ * FC_WRONG_KIND, FC_OUT_OF_RANGE, FC_ABSENT. */
 uint32_t fc_texts_size(fc_table *table, uint32_t column, uint32_t from, uint32_t to, size_t *size);
 
 /* Copies the texts of the places `from` up to `to` of a column, one behind the other, where each begins and the last ends, whether each
  * place has one, and whether it is alive; and records the accesses. `offsets` has a length of `to - from + 1`, `valid` and `alive` of
- * `to - from`. Refused with FC_NO_COLUMN, FC_WRONG_KIND, FC_OUT_OF_RANGE, FC_ABSENT; before these with FC_BAD_ARGUMENT (a length), and
- * behind them with FC_SHORT_BUFFER (the texts do not fit `bytes`). */
+ * `to - from`. The texts stand at the front of `bytes`, which may be longer. Refused with FC_NO_COLUMN, FC_WRONG_KIND, FC_OUT_OF_RANGE,
+ * FC_ABSENT; before these with FC_BAD_ARGUMENT (a length), and behind them with FC_SHORT_BUFFER (the texts do not fit `bytes`: then no
+ * access is recorded, and the buffers may have been written in part). */
 uint32_t fc_texts(fc_table *table, uint32_t column, uint32_t from, uint32_t to, uint64_t *offsets, size_t offsets_len, uint8_t *bytes,
                   size_t bytes_len, bool *valid, size_t valid_len, bool *alive, size_t alive_len);
 

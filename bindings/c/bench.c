@@ -1,5 +1,5 @@
-/* What the library costs: an insert, many rows by columns, a set, many cells by columns, an ask, a line that is found, a part copied out,
- * a content that goes out and comes back; beside memcpy. bench [ROWS]. At the top of the repository:
+/* What the library costs: an insert, many rows by columns, a set, many cells by columns, an ask, an ask of one key, a line that is found, a
+ * part copied out, a content that goes out and comes back; beside memcpy. bench [ROWS]. At the top of the repository:
  *     cc -O2 -Iinclude bindings/c/bench.c lib/libfullercoral.a -o bench && ./bench */
 #define _XOPEN_SOURCE 700
 #include <stdio.h>
@@ -104,6 +104,37 @@ static void ask(fc_table *table) {
     printf("ask of one line: %.0f ns\n", (now() - begun) / asks * 1e9);
 }
 
+/* Asks for one key of 1,000: of the numbers 0 to 999, of as many far apart, and of texts; beside an ask of all keys. */
+static void ask_keys(uint32_t kind, int64_t apart, const char *what) {
+    enum { KEYS = 1000, ASKS = 1000000 };
+    static char names[KEYS][16];
+    const uint32_t kinds[COLUMNS] = {kind, FC_INT};
+    const fc_limits limits = {.edits = (uint64_t)1 << 40, .group = GROUP, .places = GROUP, .int_segments = 3, .int_size = GROUP,
+                              .text_segments = 2, .text_size = 1 << 20};
+    const fc_test none = {.text = fc_no_bytes};
+    const fc_spec by_key = {.tests = &none, .fold = FC_TOTALS, .value = 1, .key = 0, .has_key = true};
+    fc_table table = {NULL};
+    fc_line line = {.key_text = fc_no_bytes};
+    fc_cell keys[KEYS];
+    uint32_t aggregate, place;
+    size_t lines;
+    ok(fc_open(&table, kinds, COLUMNS, &limits, 1), "open");
+    ok(fc_watch(&table, &by_key, &aggregate), "watch");
+    for (int i = 0; i < KEYS; i++) {
+        const int len = snprintf(names[i], sizeof names[i], "customer %04d", i);
+        keys[i] = (fc_cell){i * apart, {(const uint8_t *)names[i], (size_t)len}, kind};
+        const fc_cell row[COLUMNS] = {keys[i], {i, fc_no_bytes, FC_INT}};
+        ok(fc_insert(&table, row, COLUMNS, &place), "insert");
+    }
+    double begun = now();
+    for (int i = 0; i < ASKS; i++) ok(fc_ask_key(&table, aggregate, &keys[i * 7 % KEYS], &line), "ask_key");
+    const double one = (now() - begun) / ASKS;
+    begun = now();
+    for (int i = 0; i < ASKS / KEYS; i++) ok(fc_ask(&table, aggregate, &lines), "ask");
+    printf("ask of one key of %zu, %s: %.0f ns; of all: %.1f us\n", lines, what, one * 1e9, (now() - begun) / ASKS * KEYS * 1e6);
+    ok(fc_close(&table), "close");
+}
+
 /* The least time of some turns: a machine that does other things too adds to the others. */
 static double least(double best, double took) { return took < best ? took : best; }
 
@@ -128,11 +159,16 @@ static void copy_out(fc_table *table, size_t rows, int64_t *values, bool *valid,
     free(to);
 }
 
+/* Bytes that a content's way reads and writes for a number, apart from its SHA-256. A number takes 16 in the local region and 8 in the
+ * content. Out: encoded, and compared at the commit. Back: decoded into a list, and copied from there. */
+enum { OUT = 16 + 8 + 16 + 8, BACK = 8 + 16 + 16 + 16 };
+
 static void move(fc_table *table, size_t rows) {
     double begin = 0, carry = 0, commit = 0, wanted = 0, deliver = 0, read = 0, install = 0, copied = 0;
     const uint32_t groups = (uint32_t)(rows / GROUP);
     size_t moved = 0;
-    uint8_t *shelf = room((size_t)GROUP * 16 + 64);
+    const size_t half = (size_t)GROUP * (OUT / 2);
+    uint8_t *shelf = room((size_t)GROUP * 16 + 64), *from = room(groups * half), *to = room(groups * half);
     for (uint32_t group = 0; group < groups; group++) {
         uint64_t job, number;
         fc_bytes bytes = fc_no_bytes;
@@ -144,10 +180,11 @@ static void move(fc_table *table, size_t rows) {
         at[2] = now();
         ok(fc_outgoing(table, job, &number, &bytes), "outgoing");
         const size_t len = bytes.len;
-        const double copy = now();
         memcpy(shelf, bytes.at, len);
+        const double copy = now();
+        memcpy(to + group * half, from + group * half, half);
         copied += now() - copy;
-        double again = now();
+        const double again = now();
         ok(fc_commit(table, job), "commit");
         commit += now() - again;
         at[3] = now();
@@ -171,8 +208,11 @@ static void move(fc_table *table, size_t rows) {
     printf("out, ms a MiB: begin %.2f, carry (SHA-256) %.2f, commit %.2f\n", begin / mib * 1e3, carry / mib * 1e3, commit / mib * 1e3);
     printf("back, ms a MiB: begin %.2f, deliver (SHA-256) %.2f, carry %.2f, install %.2f\n", wanted / mib * 1e3, deliver / mib * 1e3,
            read / mib * 1e3, install / mib * 1e3);
-    printf("memcpy of as many bytes, ms a MiB: %.2f\n", copied / mib * 1e3);
+    printf("SHA-256 apart, ms a MiB: out %.2f, memcpy of as many bytes %.2f; back %.2f, memcpy of as many bytes %.2f\n",
+           (begin + commit) / mib * 1e3, copied / mib * 1e3, (read + install) / mib * 1e3, copied * BACK / OUT / mib * 1e3);
     free(shelf);
+    free(from);
+    free(to);
 }
 
 int main(int argc, char **argv) {
@@ -191,6 +231,9 @@ int main(int argc, char **argv) {
     insert_columns(&table, rows, numbers);
     printf("a row by columns: %.0f ns\n", (now() - begun) / (double)rows * 1e9);
     ask(&table);
+    ask_keys(FC_INT, 1, "small numbers");
+    ask_keys(FC_INT, 1000003, "numbers");
+    ask_keys(FC_TEXT, 1, "texts");
     set_all(&table, rows, numbers);
     copy_out(&table, rows, numbers, valid, alive);
     move(&table, rows);

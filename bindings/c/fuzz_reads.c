@@ -52,6 +52,27 @@ static bool is_before(const fc_line *one, const fc_line *other) {
     return order < 0 || (order == 0 && one->key_text.len < other->key_text.len);
 }
 
+/* Whether an ask of a line's key alone gives this line, unless memory runs out. (The key is copied: what a line lends is gone with a call.) */
+static bool is_asked_alone(world *w, uint32_t aggregate, const fc_line *line) {
+    static uint8_t text[LONGEST_TEXT];
+    fc_cell key = {line->key_number, fc_no_bytes, line->key_kind};
+    fc_line alone = {.key_text = fc_no_bytes};
+    if (key.kind == FC_TEXT) key.text = (fc_bytes){memcpy(text, line->key_text.at, line->key_text.len), line->key_text.len};
+    uint32_t code = seen(w, fc_ask_key(&w->table, aggregate, &key, &alone), CODES(FC_CLOSED));
+    return code == FC_NO_MEMORY ||
+           (code == FC_OK && alone.fold == line->fold && alone.key_kind == line->key_kind && alone.count == line->count &&
+            alone.sum_low == line->sum_low && alone.sum_high == line->sum_high && alone.min == line->min && alone.max == line->max);
+}
+
+/* Looks at each line of an answer by its key alone. (Line by line anew, since the answer stays in the handle.) */
+static void ask_keys(world *w, uint32_t aggregate, size_t lines) {
+    fc_line line = {.key_text = fc_no_bytes};
+    for (size_t index = 0; index < lines; index++) {
+        HOLDS(seen(w, fc_line_at(&w->table, index, &line), CODES(FC_CLOSED)) == FC_OK);
+        HOLDS(is_asked_alone(w, aggregate, &line));
+    }
+}
+
 /* A sum over the lines of an answer, for a comparison, and a look at their order. (What a line lends is gone with the next one.) */
 static uint64_t sum_of_lines(world *w, size_t lines) {
     fc_line line = {.key_text = fc_no_bytes}, before = line;
@@ -80,11 +101,23 @@ static void ask_twice(world *w, program *it) {
         HOLDS(fc_last_refusal(&w->table, &details) == FC_OK && details.code == FC_BUILDING && details.pending > 0);
     }
     uint64_t sum = asked == FC_OK ? sum_of_lines(w, lines) : 0;
+    if (asked == FC_OK) ask_keys(w, aggregate, lines);
     uint32_t again = seen(w, fc_recount(&w->table, aggregate, &lines), CODES(FC_NO_AGGREGATE, FC_FAR_FAULT, FC_USED_UP));
     if (again == FC_OK) {
         uint64_t sum_again = sum_of_lines(w, lines);
         HOLDS(asked != FC_OK || sum == sum_again);
     }
+}
+
+static void ask_key(world *w, program *it) {
+    uint32_t aggregate = next_number(it, 5);
+    plain_cell key = next_cell(it, FC_INT + next_byte(it) % 2);
+    fc_cell raw = raw_cell(&key);
+    fc_line line = {.key_text = fc_no_bytes, .fold = 9};
+    uint32_t code = seen(w, fc_ask_key(&w->table, aggregate, &raw, &line),
+                         CODES(FC_NO_AGGREGATE, FC_BUILDING, FC_NOTHING, FC_BAD_ARGUMENT, FC_NO_UTF8));
+    HOLDS((code == FC_OK) == (line.fold <= FC_EXTREMA));
+    HOLDS(code != FC_OK || line.key_kind == raw.kind);
 }
 
 static void line_at(world *w, program *it) {
@@ -108,7 +141,7 @@ static void last_refusal(world *w, program *it) {
     if (seen(w, fc_last_refusal(&w->table, &details), CODES(FC_CLOSED)) == FC_OK) HOLDS(details.code == w->last);
 }
 
-call *const ASKS[] = {watch, unwatch, scan, scan, pending, ask_twice, ask_twice, line_at, about_aggregate, last_refusal};
+call *const ASKS[] = {watch, unwatch, scan, scan, pending, ask_twice, ask_key, line_at, about_aggregate, last_refusal};
 const uint32_t ASKS_LEN = 10;
 
 /* --- Reads ------------------------------------------------------------------------------------------------------------------------ */

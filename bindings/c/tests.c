@@ -255,6 +255,68 @@ static void finding(void) {
     OK(fc_close(&table));
 }
 
+static bool is_key_total(fc_table *table, uint32_t aggregate, fc_cell key, uint64_t count, int64_t sum) {
+    fc_line line = {.key_text = fc_no_bytes};
+    return fc_ask_key(table, aggregate, &key, &line) == FC_OK && line.fold == FC_TOTALS && line.key_kind == key.kind &&
+           line.key_number == key.number && line.key_text.len == key.text.len &&
+           (key.kind != FC_TEXT || line.key_text.at == key.text.at) && line.count == count && (int64_t)line.sum_low == sum &&
+           line.sum_high == (sum < 0 ? -1 : 0);
+}
+
+static bool is_key_range(fc_table *table, uint32_t aggregate, fc_cell key, int64_t min, int64_t max) {
+    fc_line line = {.key_text = fc_no_bytes};
+    return fc_ask_key(table, aggregate, &key, &line) == FC_OK && line.fold == FC_EXTREMA && line.key_kind == key.kind && line.min == min &&
+           line.max == max;
+}
+
+static void one_key(void) {
+    fc_table table = {NULL};
+    uint32_t by_name, by_number, total, ends;
+    size_t lines;
+    fc_line line = {.key_text = fc_no_bytes, .fold = 9}, kept = {.key_text = fc_no_bytes};
+    fc_details why;
+    const fc_cell missing = {0, fc_no_bytes, FC_MISSING}, bread = text_cell("bread"), bad = {0, {(const uint8_t *)"\xff", 1}, FC_TEXT};
+    fc_spec spec = {.tests = NO_TESTS, .fold = FC_EXTREMA, .value = 1, .key = 0, .has_key = true};
+    CODE(fc_ask_key(&table, 0, &bread, &line), FC_CLOSED);
+    open_bakery(&table);
+    CODE(fc_ask_key(&table, 0, &bread, &line), FC_NO_AGGREGATE);
+    OK(fc_watch(&table, &BY_NAME, &by_name));
+    CODE(fc_ask_key(&table, by_name, &bread, &line), FC_BUILDING);
+    OK(fc_last_refusal(&table, &why));
+    CHECK(why.code == FC_BUILDING && why.pending == 1);
+    CODE(fc_ask_key(&table, by_name, &bad, &line), FC_NO_UTF8);
+    CODE(fc_ask_key(&table, by_name, &(fc_cell){0, fc_no_bytes, 9}, &line), FC_BAD_ARGUMENT);
+    OK(fc_scan(&table, by_name, 0));
+    OK(fc_ask(&table, by_name, &lines));
+    CHECK(is_key_total(&table, by_name, bread, 2, 7) && is_key_total(&table, by_name, text_cell("rye"), 1, 3));
+    CODE(fc_ask_key(&table, by_name, &(fc_cell){0, text("brea"), FC_TEXT}, &line), FC_NOTHING);
+    CODE(fc_ask_key(&table, by_name, &(fc_cell){2, fc_no_bytes, FC_INT}, &line), FC_NOTHING);
+    CODE(fc_ask_key(&table, by_name, &missing, &line), FC_NOTHING);
+    CHECK(line.fold == 9);
+    refused_one = allocations + 1;
+    CODE(fc_ask_key(&table, by_name, &bread, &line), FC_NO_MEMORY);
+    refused_one = allocations + 1;
+    CODE(fc_ask_key(&table, 9, &bread, &line), FC_NO_AGGREGATE);
+    refused_one = 0;
+    OK(fc_watch(&table, &spec, &ends));
+    OK(fc_scan(&table, ends, 0));
+    CHECK(is_key_range(&table, ends, bread, 2, 5) && is_key_range(&table, ends, text_cell("rye"), 3, 3));
+    spec.fold = FC_TOTALS;
+    spec.key = 1;
+    OK(fc_watch(&table, &spec, &by_number));
+    OK(fc_scan(&table, by_number, 0));
+    CHECK(is_key_total(&table, by_number, int_cell(2), 1, 2) && is_key_total(&table, by_number, int_cell(5), 1, 5));
+    CODE(fc_ask_key(&table, by_number, &(fc_cell){4, fc_no_bytes, FC_INT}, &line), FC_NOTHING);
+    CODE(fc_ask_key(&table, by_number, &(fc_cell){-1, fc_no_bytes, FC_INT}, &line), FC_NOTHING);
+    OK(fc_watch(&table, &TOTAL, &total));
+    OK(fc_scan(&table, total, 0));
+    CHECK(is_key_total(&table, total, missing, 3, 10));
+    CODE(fc_ask_key(&table, total, &(fc_cell){0, fc_no_bytes, FC_INT}, &line), FC_NOTHING);
+    OK(fc_line_at(&table, 0, &kept));
+    CHECK(kept.count == 2 && kept.key_text.len == 5);
+    OK(fc_close(&table));
+}
+
 static void aggregates(void) {
     fc_table table;
     uint32_t by_name, total, range, groups = 99, first = 99;
@@ -310,6 +372,38 @@ static void aggregates(void) {
     OK(fc_close(&table));
 }
 
+/* Texts with a missing one and a short buffer among them: what is written, and what is recorded. */
+static void copied_texts(fc_table *table) {
+    uint64_t offsets[4] = {0};
+    uint8_t bytes[16];
+    bool valid[3], alive[3];
+    size_t size = 99, count = 99;
+    uint32_t next[2] = {77, 77};
+    const fc_cell missing = {0, fc_no_bytes, FC_MISSING};
+    fc_details why;
+    OK(fc_set(table, 0, 1, &missing));
+    memset(bytes, '.', sizeof bytes);
+    OK(fc_texts(table, 0, 0, 3, offsets, 4, bytes, 16, valid, 3, alive, 3));
+    CHECK(offsets[0] == 0 && offsets[1] == 5 && offsets[2] == 5 && offsets[3] == 10);
+    CHECK(memcmp(bytes, "breadbread......", 16) == 0);
+    CHECK(valid[0] && !valid[1] && valid[2] && alive[0] && alive[1] && !alive[2]);
+    OK(fc_texts_size(table, 0, 1, 2, &size));
+    CHECK(size == 0);
+    CODE(fc_texts_size(table, 0, 1, 4, &size), FC_OUT_OF_RANGE);
+    CODE(fc_texts_size(table, 0, 2, 1, &size), FC_OUT_OF_RANGE);
+    CHECK(size == 0);
+    CODE(fc_texts(table, 0, 0, 3, offsets, 4, bytes, 9, valid, 3, alive, 3), FC_SHORT_BUFFER);
+    OK(fc_last_refusal(table, &why));
+    CHECK(why.code == FC_OUT_OF_RANGE);
+    OK(fc_texts(table, 0, 1, 1, offsets, 1, bytes, 0, valid, 0, alive, 0));
+    CHECK(offsets[0] == 0);
+    CODE(fc_proposals(table, 0, next, 1, &count), FC_BAD_ARGUMENT);
+    CODE(fc_proposals(table, 9, next, 2, &count), FC_NO_COLUMN);
+    CHECK(count == 99 && next[0] == 77);
+    OK(fc_proposals(table, 0, next, 2, &count));
+    CHECK(count == 0);
+}
+
 static void reading(void) {
     fc_table table;
     int64_t values[3] = {0};
@@ -337,6 +431,9 @@ static void reading(void) {
     CHECK(offsets[0] == 0 && offsets[1] == 5 && offsets[2] == 8 && offsets[3] == 13 && memcmp(bytes, "breadryebread", 13) == 0 && !alive[2]);
     CODE(fc_texts(&table, 0, 0, 3, offsets, 4, bytes, 12, valid, 3, alive, 3), FC_SHORT_BUFFER);
     CODE(fc_texts(&table, 0, 0, 3, offsets, 3, bytes, 16, valid, 3, alive, 3), FC_BAD_ARGUMENT);
+    CODE(fc_texts(&table, 9, 2, 1, offsets, 2, bytes, 16, valid, 0, alive, 0), FC_BAD_ARGUMENT);
+    CODE(fc_texts(&table, 9, 2, 1, offsets, 1, bytes, 16, valid, 0, alive, 0), FC_NO_COLUMN);
+    copied_texts(&table);
     evict(&table, 0, 0);
     CODE(fc_text(&table, 0, 1, &lent, valid), FC_ABSENT);
     CODE(fc_row(&table, 0, (fc_cell[2]){missing, missing}, 2), FC_ABSENT);
@@ -517,6 +614,7 @@ static void a_day_without_memory(unsigned long which) {
     uint64_t job, number;
     size_t lines = 0, set = 0;
     fc_line line = {.key_text = fc_no_bytes};
+    const fc_cell rye = text_cell("rye");
     allocations = 0;
     refused_one = which;
     OK(AGAIN(fc_open(&table, KINDS, 2, &LIMITS, 10)));
@@ -538,6 +636,8 @@ static void a_day_without_memory(unsigned long which) {
     OK(AGAIN(fc_recount(&table, by_name, &lines)));
     OK(AGAIN(fc_ask(&table, by_name, &lines)));
     CHECK(is_found(&table, text_cell("rye"), 0));
+    OK(AGAIN(fc_ask_key(&table, by_name, &rye, &line)));
+    CHECK(line.key_text.at == rye.text.at && line.count == 1 && line.sum_low == 3);
     OK(fc_line_at(&table, 0, &line));
     CHECK(lines == 1 && line.key_text.len == 3 && line.count == 1 && line.sum_low == 3);
     OK(AGAIN(fc_migrate(&table, 10)));
@@ -552,6 +652,7 @@ int main(void) {
     many_rows();
     many_cells();
     finding();
+    one_key();
     aggregates();
     reading();
     moving();

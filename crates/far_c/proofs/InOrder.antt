@@ -2,8 +2,8 @@
 use Rattle.std.proofs.Common.{◌∙◌, ℕ, ◌+◌, sym, ap, subst, add-one}
 use Rattle.far_frame.specs.declared.step.Step.{Step}
 use Rattle.far_frame.specs.declared.step.Reply.{Reply}
-use Rattle.far_c.specs.Columns.{AreAccepted, AreServed, IsAccepted}
-use Rattle.far_c.specs.Outcomes.{IsServed}
+use Rattle.far_c.specs.Columns.{AreAccepted, AreServed}
+use Rattle.far_c.specs.Outcomes.{IsAccepted, IsServed}
 use Rattle.far_c.specs.TableState.{TableState}
 
 pub next-served : (steps : ℕ → Step) (n : ℕ) (old mid new : TableState) (given : Reply) → AreServed steps n old mid → IsServed (steps n) given mid new → IsAccepted given → AreServed steps (n + 1) old new

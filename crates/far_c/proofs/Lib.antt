@@ -6,3 +6,10 @@ pub mod Faults
 pub mod Ended
 pub mod Sorted
 pub mod InOrder
+pub mod Delivered
+pub mod Lending
+pub mod TextsCopied
+pub mod Proposed
+pub mod RowRefusals
+pub mod FirstFaults
+pub mod TurnedAway

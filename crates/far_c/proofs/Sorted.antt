@@ -1,5 +1,5 @@
 -- What a binary search by key finds among lines whose keys ascend; and that those of an answer do.
-use Rattle.std.proofs.Common.{◌≡◌, ◌≢◌, ◌∙◌, ℕ, ◌+◌, ◌<◌, ◌≤◌, false, List, [], ◌∷◌, map, length, get_or, Option, None, Some, Result, Ok, Err, MatchOption, IsSomeAnd, Less, Equal, Greater, is_lt, inl, inr, sym, ap, ap₂, subst, arith}
+use Rattle.std.proofs.Common.{◌≡◌, ◌≢◌, ◌∙◌, ℕ, ◌+◌, ◌<◌, ◌≤◌, false, List, [], ◌∷◌, length, get_or, Option, None, Some, Result, Ok, Err, MatchOption, IsSomeAnd, Less, Equal, Greater, is_lt, inl, inr, sym, ap, ap₂, subst, arith}
 use Rattle.std.specs.Cmp.{tied_itself}
 use Rattle.std.specs.Result.{result_ok}
 use Rattle.std.specs.List.Sorted.{IsBinarySearchResult, IsNonDecreasingBy, IsSearchInRange, IsSortedBy, IsStrictlySortedBy}

@@ -20,11 +20,16 @@ lines_in (answer.Extrema lines) = length lines
 
 -- an aggregate was asked: its answer stays, with so many lines
 abbrev pub IsAsked : ℕ → ℕ → TableState → TableState → Type 0
-IsAsked a lines old new = IsSomeAnd new.answer (λ answer. IsStep content number_of old.world (step.Ask a) (reply.Answer answer) new.world × (lines ≡ lines_in answer) × (new ≡ record old { world = new.world; answer = Some answer }))
+IsAsked a lines old new = IsSomeAnd new.answer
+    (λ answer. IsStep content number_of old.world (step.Ask a) (reply.Answer answer) new.world
+    × (lines ≡ lines_in answer)
+    × (new ≡ record old { world = new.world; answer = Some answer }))
 
 -- likewise an answer that is computed from scratch
 abbrev pub IsRecounted : ℕ → ℕ → TableState → TableState → Type 0
-IsRecounted a lines old new = IsSomeAnd new.answer (λ answer. IsAnswerNow old.world.state.table a answer × (lines ≡ lines_in answer) × (new ≡ record old { answer = Some answer }))
+IsRecounted a lines old new = IsSomeAnd new.answer
+    (λ answer. IsAnswerNow old.world.state.table a answer × (lines ≡ lines_in answer)
+    × (new ≡ record old { answer = Some answer }))
 
 -- a key, as the kind, the number and the text of a line
 abbrev pub IsKey : Option Key → ℕ → ℤ → List ℕ → Type 0
@@ -38,16 +43,20 @@ HasKey key line = IsKey key line.key_kind line.key_number line.key_text.now
 
 -- a line of totals: its key, its count, and its sum in two words
 abbrev pub IsTotalLine : Option Key × ℕ × ℤ → FcLine → Type 0
-IsTotalLine found line = (line.fold ≡ 0) × HasKey found.0 line × (line.count ≡ found.1) × AreWordsOf found.2 line.sum_low line.sum_high
+IsTotalLine found line = (line.fold ≡ 0) × HasKey found.0 line × (line.count ≡ found.1)
+    × AreWordsOf found.2 line.sum_low line.sum_high
 
 -- a line of extrema: its key, its least and its greatest value
 abbrev pub IsExtremaLine : Option Key × ℤ × ℤ → FcLine → Type 0
-IsExtremaLine found line = (line.fold ≡ 1) × HasKey found.0 line × (line.min ≡ found.1) × (line.max ≡ found.2)
+IsExtremaLine found line = (line.fold ≡ 1) × HasKey found.0 line × (line.min ≡ found.1)
+    × (line.max ≡ found.2)
 
 -- the line of an answer at an index
 abbrev pub IsLineAt : Answer → ℕ → FcLine → Type 0
-IsLineAt (answer.Totals lines) index line = IsSomeAnd (slice_get lines index) (λ found. IsTotalLine found line)
-IsLineAt (answer.Extrema lines) index line = IsSomeAnd (slice_get lines index) (λ found. IsExtremaLine found line)
+IsLineAt (answer.Totals lines) index line = IsSomeAnd (slice_get lines index)
+    (λ found. IsTotalLine found line)
+IsLineAt (answer.Extrema lines) index line = IsSomeAnd (slice_get lines index)
+    (λ found. IsExtremaLine found line)
 
 -- an index past the end of an answer
 abbrev pub IsPast : Answer → ℕ → Type 0

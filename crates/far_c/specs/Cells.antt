@@ -6,7 +6,8 @@ use Rattle.far_c.specs.declared.cell.FcCell.{FcCell}
 
 -- by its kind: a number, a text or no value
 abbrev pub cell_of : FcCell → Cell
-cell_of c = if c.kind == 1 then cell.Int c.number else (if c.kind == 2 then cell.Text c.text.now else cell.Missing)
+cell_of c = if c.kind == 1 then cell.Int c.number else
+    (if c.kind == 2 then cell.Text c.text.now else cell.Missing)
 
 -- the cells of a row, in the order of the columns
 abbrev pub row_of : List FcCell → List Cell

@@ -1,5 +1,5 @@
 -- Rows that C passes column by column, and cells of one column.
-use Rattle.std.specs.Prelude.{◌≡◌, ℕ, pos, zero, suc, ◌+◌, ◌/◌, ◌%◌, ◌==◌, Bool, true, cond, ⊤, List, map, Option, None, Some, slice_get, slice_index, slice_range, unwrap_or, IsSomeAnd, ◌⊎◌}
+use Rattle.std.specs.Prelude.{◌≡◌, ℕ, pos, zero, suc, ◌+◌, ◌/◌, ◌%◌, ◌==◌, Bool, true, cond, List, map, Option, None, Some, slice_get, slice_index, slice_range, unwrap_or, IsSomeAnd, ◌⊎◌}
 use Rattle.std.specs.Int.{bit_at}
 use Rattle.far_types.specs.declared.cell.Cell.{Cell}
 use Rattle.far_types.specs.declared.cell.Cell.TheVariants as cell
@@ -15,6 +15,7 @@ use Rattle.far_frame.specs.Steps.{IsStep}
 use Rattle.far_frame.specs.Worlds.{World}
 use Rattle.far_c.specs.declared.columns.FcColumn.{FcColumn}
 use Rattle.far_c.specs.Contents.{content, number_of}
+use Rattle.far_c.specs.Outcomes.{IsAccepted}
 use Rattle.far_c.specs.TableState.{TableState}
 
 -- whether the bit of a byte is set, the lowest first; without a byte it is
@@ -33,7 +34,10 @@ offset_at offsets row = unwrap_or (slice_get offsets row) 0
 -- the cell of a column in a row
 abbrev pub column_cell : FcColumn → ℕ → Cell
 column_cell c row = cond (has_value c.valid.now row)
-    (cond (c.kind == 1) (cell.Int (unwrap_or (slice_get c.numbers.now row) (pos 0))) (cell.Text (slice_range c.bytes.now (offset_at c.offsets.now row) (offset_at c.offsets.now (row + 1)))))
+    (cond (c.kind == 1) (cell.Int (unwrap_or (slice_get c.numbers.now row) (pos 0)))
+    (cell.Text
+    (slice_range c.bytes.now (offset_at c.offsets.now row)
+    (offset_at c.offsets.now (row + 1)))))
     cell.Missing
 
 -- a row, in the order of the columns
@@ -46,21 +50,20 @@ insert_of columns row = step.Edit (edit.Insert (column_row columns row))
 
 -- the set of the cell at an index, in a column of the place at that index
 abbrev pub set_of : ℕ → List ℕ → FcColumn → ℕ → Step
-set_of column places values index = step.Edit (edit.Set (slice_index places index) column (column_cell values index))
-
--- a reply is no refusal
-abbrev pub IsAccepted : Reply → Type 0
-IsAccepted (reply.Refused why) = ⊥
-IsAccepted _ = ⊤
+set_of column places values index = step.Edit
+    (edit.Set (slice_index places index) column (column_cell values index))
 
 -- the first steps of some are accepted, in order, as many as this
 abbrev pub AreAccepted : (ℕ → Step) → ℕ → World TicketState → World TicketState → Type 0
 AreAccepted steps zero old new = new ≡ old
-AreAccepted steps (suc n) old new = (mid : World TicketState) × (given : Reply) × AreAccepted steps n old mid × IsStep content number_of mid (steps n) given new × IsAccepted given
+AreAccepted steps (suc n) old new = (mid : World TicketState) × (given : Reply)
+    × AreAccepted steps n old mid × IsStep content number_of mid (steps n) given new
+    × IsAccepted given
 
 -- likewise, of a handle: nothing else changes but the last refusal
 abbrev pub AreServed : (ℕ → Step) → ℕ → TableState → TableState → Type 0
-AreServed steps count old new = AreAccepted steps count old.world new.world × (new ≡ record old { world = new.world; refusal = new.refusal })
+AreServed steps count old new = AreAccepted steps count old.world new.world
+    × (new ≡ record old { world = new.world; refusal = new.refusal })
 
 -- the first rows are inserted, in order, as many as this
 abbrev pub AreAppended : List FcColumn → ℕ → TableState → TableState → Type 0
@@ -70,6 +73,8 @@ AreAppended columns = AreServed (insert_of columns)
 abbrev pub AreSet : ℕ → List ℕ → FcColumn → ℕ → TableState → TableState → Type 0
 AreSet column places values = AreServed (set_of column places values)
 
--- the next step is refused by the refusal of this number, which is kept; or memory ran out before the table was asked
+-- the next step is refused by the refusal of this number, which is kept; or memory ran out before
+-- the table was asked
 abbrev pub IsNextRefused : Step → ℕ → TableState → Type 0
-IsNextRefused next code new = IsSomeAnd new.refusal (λ why. (code ≡ refusal_number why) × (IsStep content number_of new.world next (reply.Refused why) new.world ⊎ (why ≡ NoMemory)))
+IsNextRefused next code new = IsSomeAnd new.refusal (λ why. (code ≡ refusal_number why)
+    × (IsStep content number_of new.world next (reply.Refused why) new.world ⊎ (why ≡ NoMemory)))

@@ -1,12 +1,14 @@
 -- Jobs as C has them.
-use Rattle.std.specs.Prelude.{◌≡◌, ℕ}
+use Rattle.std.specs.Prelude.{◌≡◌, ℕ, None}
 use Rattle.std.specs.Option.{MatchOption}
 use Rattle.far_host.specs.HostTickets.{TicketState}
+use Rattle.far_rows.specs.Coldest.{coldest}
 use Rattle.far_frame.specs.declared.job.JobKind.{JobKind}
 use Rattle.far_frame.specs.declared.job.JobKind.TheVariants as kind
 use Rattle.far_frame.specs.Carrying.{is_carried}
 use Rattle.far_frame.specs.Jobs.{JobRecord, job_kind}
 use Rattle.far_c.specs.declared.jobs.FcJob.{FcJob}
+use Rattle.far_c.specs.TableState.{TableState}
 
 -- the number of what a job does
 abbrev pub code_of : JobKind → ℕ
@@ -14,7 +16,13 @@ code_of kind.Evac = 0
 code_of kind.Fetch = 1
 code_of kind.Offload = 2
 
--- what a job is: what it does, whether it was carried, and the object that it moves, if it moves one
+-- what a job is: what it does, whether it was carried, and the object that it moves, if it moves
+-- one
 abbrev pub IsJobOf : JobRecord TicketState → FcJob → Type 0
 IsJobOf job about = (about.kind ≡ code_of (job_kind job)) × (about.carried ≡ is_carried job.work)
-    × MatchOption job.name ((about.column ≡ 0) × (about.group ≡ 0)) (λ name. (about.column ≡ name.column) × (about.group ≡ name.group))
+    × MatchOption job.name ((about.column ≡ 0) × (about.group ≡ 0))
+    (λ name. (about.column ≡ name.column) × (about.group ≡ name.group))
+
+-- there is no object that may go: each that is local has a pin
+abbrev pub IsWithoutColdest : TableState → ℕ → Type 0
+IsWithoutColdest table code = (code ≡ 104) × (coldest table.world.state.rows ≡ None)

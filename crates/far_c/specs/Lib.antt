@@ -6,12 +6,15 @@ pub mod Replies
 pub mod Outcomes
 pub mod Carrying
 pub mod Cells
+pub mod Unreadable
 pub mod Columns
 pub mod Opening
 pub mod Specs
 pub mod Sums
 pub mod Answering
 pub mod Keys
+pub mod KeyLines
+pub mod Proposals
 pub mod Parts
 pub mod Delivering
 pub mod Jobs

@@ -1,5 +1,5 @@
 -- What a call makes of the table of its handle, by the code that it returns.
-use Rattle.std.specs.Prelude.{◌≡◌, ℕ, ◌≤◌, ◌<◌, ◌⊎◌, List, [], ◌∷◌, Option, Some, IsSomeAnd}
+use Rattle.std.specs.Prelude.{◌≡◌, ℕ, ◌≤◌, ◌<◌, ◌^◌, ◌⊎◌, List, [], ◌∷◌, Option, Some, ⊤, IsSomeAnd, option_map}
 use Rattle.std.specs.Option.{MatchOption}
 use Rattle.far_types.specs.declared.refusal.Refusal.{Refusal}
 use Rattle.far_types.specs.declared.refusal.Refusal.TheVariants.{NoMemory}
@@ -13,9 +13,15 @@ use Rattle.far_c.specs.declared.unread.Unread.{Unread}
 use Rattle.far_c.specs.declared.unread.Unread.TheVariants as unread
 use Rattle.far_c.specs.TableState.{TableState}
 
+-- a reply is no refusal
+abbrev pub IsAccepted : Reply → Type 0
+IsAccepted (reply.Refused why) = ⊥
+IsAccepted _ = ⊤
+
 -- a step is served with this reply, and nothing else changes
 abbrev pub IsServed : Step → Reply → TableState → TableState → Type 0
-IsServed step given old new = IsStep content number_of old.world step given new.world × (new ≡ record old { world = new.world })
+IsServed step given old new = IsStep content number_of old.world step given new.world
+    × (new ≡ record old { world = new.world })
 
 -- the table as it was, but for its last refusal
 abbrev pub refused_with : TableState → Refusal → TableState
@@ -25,17 +31,32 @@ refused_with t why = record t { refusal = Some why }
 abbrev pub IsOutOfMemory : TableState → TableState → Type 0
 IsOutOfMemory old new = new ≡ refused_with old NoMemory
 
--- a step is refused by the refusal of this number, which is kept; its effect is what the step's refusal says: none on the table
+-- a step is refused by the refusal of this number, which is kept; its effect is what the step's
+-- refusal says: none on the table
 abbrev pub IsRefused : ℕ → Step → TableState → TableState → Type 0
-IsRefused code step old new = IsSomeAnd new.refusal (λ why. (code ≡ refusal_number why) × IsServed step (reply.Refused why) old (record new { refusal = old.refusal }))
+IsRefused code step old new = IsSomeAnd new.refusal
+    (λ why. (code ≡ refusal_number why)
+    × IsServed step (reply.Refused why) old (record new { refusal = old.refusal }))
 
 -- likewise of a step for which something is made first: memory may run out there
 abbrev pub IsRefusedOrStopped : ℕ → Step → TableState → TableState → Type 0
-IsRefusedOrStopped code step old new = IsRefused code step old new ⊎ ((code ≡ 1) × IsOutOfMemory old new)
+IsRefusedOrStopped code step old new = IsRefused code step old new
+    ⊎ ((code ≡ 1) × IsOutOfMemory old new)
 
 -- both handles are open, with this between their tables
-abbrev pub Behind : (TableState → TableState → Type 0) → Option TableState → Option TableState → Type 0
+abbrev pub Behind : (TableState → TableState → Type 0) → Option TableState → Option TableState
+    → Type 0
 Behind relates old new = IsSomeAnd old (λ before. IsSomeAnd new (relates before))
+
+-- a call that reads is refused by the refusal that is due, whose number is this. Nothing changes
+-- but that it is kept
+abbrev pub IsDue : (TableState → Option Refusal) → ℕ → TableState → TableState → Type 0
+IsDue due code old new = IsSomeAnd (due old)
+    (λ why. (code ≡ refusal_number why) × (new ≡ refused_with old why))
+
+-- a code is the number of the refusal that is due
+abbrev pub IsNumberOf : Option Refusal → ℕ → Type 0
+IsNumberOf due code = option_map refusal_number due ≡ Some code
 
 -- a code is the number of a refusal
 abbrev pub IsRefusal : ℕ → Type 0
@@ -52,6 +73,21 @@ abbrev pub IsOneOf : List ℕ → ℕ → Type 0
 IsOneOf [] n = ⊥
 IsOneOf (m ∷ ms) n = (n ≡ m) ⊎ IsOneOf ms n
 
--- the handle is closed, or the call's arguments are rejected with one of these codes. Nothing changes
+-- the handle is closed, or the call's arguments are rejected with one of these codes. Nothing
+-- changes
 abbrev pub IsRejected : List ℕ → ℕ → Option TableState → Option TableState → Type 0
 IsRejected codes code old new = (new ≡ old) × MatchOption old (code ≡ 100) (λ _. IsOneOf codes code)
+
+-- the handle is closed, or the call is rejected with a code for which this holds. Nothing changes
+abbrev pub IsRejectedFor : (TableState → ℕ → Type 0) → ℕ → Option TableState → Option TableState
+    → Type 0
+IsRejectedFor why code old new = (new ≡ old)
+    × MatchOption old (code ≡ 100) (λ table. why table code)
+
+-- what C passes does not fit
+abbrev pub IsUnfit : Type 0 → TableState → ℕ → Type 0
+IsUnfit fits table code = (code ≡ 103) × ¬ fits
+
+-- as many faults were counted as may be
+abbrev pub IsUsedUp : TableState → ℕ → Type 0
+IsUsedUp table code = (code ≡ 106) × (2 ^ 62 ≤ table.world.faults)

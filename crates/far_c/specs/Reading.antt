@@ -1,8 +1,13 @@
 -- What C reads of a table.
-use Rattle.std.specs.Prelude.{◌≡◌, Option, None, Some, is_some, unwrap_or}
+use Rattle.std.specs.Prelude.{◌≡◌, ◌≢◌, ◌⊎◌, ℕ, ◌/◌, if◌then◌else◌, nat_lt, length, Option, None, Some, is_some, slice_get, unwrap_or, IsSomeAnd}
 use Rattle.far_types.specs.declared.refusal.Refusal.{Refusal}
 use Rattle.far_types.specs.declared.refusal.Refusal.TheVariants as refusal
+use Rattle.far_types.specs.FirstOf.{first_of}
 use Rattle.far_types.specs.Refusals.{number_of as refusal_number}
+use Rattle.far_types.specs.Table.{Table}
+use Rattle.far_host.specs.HostTickets.{TicketState}
+use Rattle.far_rows.specs.Refusing.{absents}
+use Rattle.far_frame.specs.State.{State}
 use Rattle.far_frame.specs.declared.object.ObjectState.{ObjectState}
 use Rattle.far_frame.specs.declared.space.Space.{Space}
 use Rattle.far_c.specs.declared.readers.FcDetails.{FcDetails}
@@ -29,10 +34,23 @@ pub record IsSpaceOf (region : Space) (space : FcSpace) : Type 0 where
 -- what a refusal carries
 abbrev pub CarriesOf : Refusal → FcDetails → Type 0
 CarriesOf (refusal.Building left) details = details.pending ≡ left
-CarriesOf (refusal.Absent column group) details = (details.column ≡ column) × (details.group ≡ group)
+CarriesOf (refusal.Absent column group) details = (details.column ≡ column)
+    × (details.group ≡ group)
 CarriesOf _ details = Unit {0}
 
 -- the last refusal, if there was one
 abbrev pub AreDetailsOf : Option Refusal → FcDetails → Type 0
 AreDetailsOf None details = details.code ≡ 0
 AreDetailsOf (Some why) details = (details.code ≡ refusal_number why) × CarriesOf why details
+
+-- why the row of a place is not lent: there is no such place, or an object of its row group is away
+abbrev pub row_refusal : State TicketState → ℕ → Option Refusal
+row_refusal s place = if nat_lt place (length s.table.places)
+    then first_of (absents s.rows (place / s.table.limits.group))
+    else Some refusal.NoRow
+
+-- no row of so many cells is written: the table has another number of columns, or the row another
+-- number of cells
+abbrev pub IsNoRowOf : Table → ℕ → ℕ → ℕ → Type 0
+IsNoRowOf table place len code = ((code ≡ 103) × (len ≢ length table.schema))
+    ⊎ ((code ≡ 104) × IsSomeAnd (slice_get table.places place) (λ found. length found.cells ≢ len))

@@ -13,6 +13,10 @@ use Rattle.far_frame.specs.Effects.{Replies}
 abbrev pub OrRefused : (Reply → Type 0) → Reply → Type 0
 OrRefused form = Replies form (λ (why : Refusal). ⊤)
 
+abbrev pub IsRefusedReply : Reply → Type 0
+IsRefusedReply (reply.Refused why) = ⊤
+IsRefusedReply _ = ⊥
+
 abbrev pub IsDone : Reply → Type 0
 IsDone reply.Done = ⊤
 IsDone _ = ⊥

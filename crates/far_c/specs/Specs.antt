@@ -16,11 +16,14 @@ fold_of n = cond (n == 0) fold.Totals fold.Extrema
 
 -- a comparison of numbers
 abbrev pub op_of : ℕ → Op
-op_of n = cond (n == 0) op.Eq (cond (n == 1) op.Ne (cond (n == 2) op.Lt (cond (n == 3) op.Le (cond (n == 4) op.Gt op.Ge))))
+op_of n = cond (n == 0) op.Eq
+    (cond (n == 1) op.Ne (cond (n == 2) op.Lt (cond (n == 3) op.Le (cond (n == 4) op.Gt op.Ge))))
 
 -- a test: of a text by 6 and 7, and else of a number
 abbrev pub test_of : FcTest → Test
-test_of t = cond (t.op == 6) (test.TextIs t.column t.text.now) (cond (t.op == 7) (test.TextBegins t.column t.text.now) (test.Int t.column (op_of t.op) t.number))
+test_of t = cond (t.op == 6) (test.TextIs t.column t.text.now)
+    (cond (t.op == 7) (test.TextBegins t.column t.text.now)
+    (test.Int t.column (op_of t.op) t.number))
 
 -- the key column, if there is one
 abbrev pub key_of : Bool → ℕ → Option ℕ
@@ -28,4 +31,10 @@ key_of has key = cond has (Some key) None
 
 -- an aggregate
 abbrev pub spec_of : FcSpec → Spec
-spec_of s = record { fold = fold_of s.fold; value = s.value; key = key_of s.has_key s.key; filter = map test_of s.tests.now }
+spec_of s = record {
+  fold = fold_of s.fold;
+  value = s.value;
+  key = key_of s.has_key s.key;
+  filter = map test_of
+      s.tests.now;
+}

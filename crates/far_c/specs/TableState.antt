@@ -4,6 +4,7 @@ use Rattle.far_types.specs.declared.answer.Answer.{Answer}
 use Rattle.far_types.specs.declared.cell.Kind.{Kind}
 use Rattle.far_types.specs.declared.limits.Limits.{Limits}
 use Rattle.far_types.specs.declared.refusal.Refusal.{Refusal}
+use Rattle.far_types.specs.Table.{Place}
 use Rattle.far_host.specs.HostTickets.{TicketState}
 use Rattle.far_frame.specs.State.{empty_state}
 use Rattle.far_frame.specs.Worlds.{World}
@@ -13,6 +14,10 @@ pub record TableState : Type 0 where
   pub world : World TicketState
   pub answer : Option Answer
   pub refusal : Option Refusal
+
+-- the places of its table
+abbrev pub places_of : TableState → List Place
+places_of t = t.world.state.table.places
 
 -- an empty table with these columns and limits: no job was begun, and no fault occurred
 pub record IsNew (schema : List Kind) (limits : Limits) (new : TableState) : Type 0 where

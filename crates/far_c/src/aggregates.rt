@@ -1,14 +1,15 @@
 // Aggregates of a table.
-ghost use Rattle.std.specs.Prelude.{◌≡◌, ◌≢◌, ◌≤◌, [], ◌∷◌, Some, None, IfSome, IsSomeAnd, option_map};
+ghost use Rattle.std.specs.Prelude.{◌≡◌, ◌≢◌, ◌≤◌, [], Some, None, IfSome, IsSomeAnd, option_map};
 ghost use Rattle.far_aggregates.specs.PendingCounts.{pending_of};
 ghost use Rattle.far_aggregates.specs.Readings.{plain_in};
 ghost use Rattle.far_table.specs.Watching.{aggregate_at};
 ghost use Rattle.far_frame.specs.declared.step.Step.TheVariants as step;
 ghost use Rattle.far_frame.specs.declared.step.Reply.TheVariants as reply;
-ghost use Rattle.far_c.specs.Outcomes.{Behind, IsServed, IsRefused, IsRefusedOrStopped, IsRefusal, IsRejected};
+ghost use Rattle.far_c.specs.Outcomes.{Behind, IsServed, IsRefused, IsRefusedOrStopped, IsRefusal, IsRejected, IsRejectedFor};
 ghost use Rattle.far_c.specs.Aggregates.{IsAggregateOf};
 ghost use Rattle.far_c.specs.Specs.{spec_of};
 ghost use Rattle.far_c.specs.Sums.{AreWordsOf};
+ghost use Rattle.far_c.specs.Unreadable.{IsReadableSpec, IsUnreadable, SpecFault};
 
 use crate::code::{CLOSED, NOTHING, OK};
 use crate::handle::Handle;
@@ -27,9 +28,16 @@ pub extern "C" fn fc_watch(
     spec: &FcSpec<'_>,
     aggregate: &mut u32,
 ) -> u32
-    ensures served { result ≡ 0 → Behind (IsServed (step.Watch (spec_of spec.now)) (reply.Aggregate aggregate.new)) handle.old.table handle.new.table }
-    ensures refused { IsRefusal result → Behind (IsRefusedOrStopped result (step.Watch (spec_of spec.now))) handle.old.table handle.new.table }
-    ensures rejected { 100 ≤ result → IsRejected (102 ∷ 103 ∷ []) result handle.old.table handle.new.table }
+    ensures served { result ≡ 0
+        → Behind (IsServed (step.Watch (spec_of spec.now)) (reply.Aggregate aggregate.new))
+        handle.old.table handle.new.table }
+    ensures refused { IsRefusal result
+        → Behind (IsRefusedOrStopped result (step.Watch (spec_of spec.now)))
+        handle.old.table handle.new.table }
+    ensures rejected { 100 ≤ result
+        → IsRejectedFor
+        (λ _. IsUnreadable (SpecFault spec.now)) result handle.old.table handle.new.table }
+    ensures read { result ≡ 0 → IsReadableSpec spec.now }
     ensures aggregate { result ≢ 0 → aggregate.new ≡ aggregate.old }
 {
     let Some(table) = handle.table() else {
@@ -39,20 +47,17 @@ pub extern "C" fn fc_watch(
         Ok(spec) => spec,
         Err(why) => return table.turn_away(why),
     };
-    match replies::aggregate(table.serve(Step::Watch(spec))) {
-        Ok(a) => {
-            *aggregate = a;
-            OK
-        }
-        Err(refusal) => table.refuse(refusal),
-    }
+    let outcome = replies::aggregate(table.serve(Step::Watch(spec)));
+    table.give(outcome, aggregate)
 }
 
 /// Forgets an aggregate.
 #[unsafe(no_mangle)]
 pub extern "C" fn fc_unwatch(handle: &mut Handle, aggregate: u32) -> u32
-    ensures served { result ≡ 0 → Behind (IsServed (step.Unwatch aggregate) reply.Done) handle.old.table handle.new.table }
-    ensures refused { IsRefusal result → Behind (IsRefused result (step.Unwatch aggregate)) handle.old.table handle.new.table }
+    ensures served { result ≡ 0
+        → Behind (IsServed (step.Unwatch aggregate) reply.Done) handle.old.table handle.new.table }
+    ensures refused { IsRefusal result
+        → Behind (IsRefused result (step.Unwatch aggregate)) handle.old.table handle.new.table }
     ensures rejected { 100 ≤ result → IsRejected [] result handle.old.table handle.new.table }
 {
     let Some(table) = handle.table() else {
@@ -65,8 +70,12 @@ pub extern "C" fn fc_unwatch(handle: &mut Handle, aggregate: u32) -> u32
 /// Scans a row group into an aggregate.
 #[unsafe(no_mangle)]
 pub extern "C" fn fc_scan(handle: &mut Handle, aggregate: u32, group: u32) -> u32
-    ensures served { result ≡ 0 → Behind (IsServed (step.ScanGroup aggregate group) reply.Done) handle.old.table handle.new.table }
-    ensures refused { IsRefusal result → Behind (IsRefused result (step.ScanGroup aggregate group)) handle.old.table handle.new.table }
+    ensures served { result ≡ 0
+        → Behind (IsServed (step.ScanGroup aggregate group) reply.Done)
+        handle.old.table handle.new.table }
+    ensures refused { IsRefusal result
+        → Behind (IsRefused result (step.ScanGroup aggregate group))
+        handle.old.table handle.new.table }
     ensures rejected { 100 ≤ result → IsRejected [] result handle.old.table handle.new.table }
 {
     let Some(table) = handle.table() else {
@@ -88,8 +97,16 @@ pub struct FcSum {
 /// Writes the count and the sum of an aggregate of totals without key.
 #[unsafe(no_mangle)]
 pub extern "C" fn fc_plain(handle: &mut Handle, aggregate: u32, sum: &mut FcSum) -> u32
-    ensures plain { result ≡ 0 → IsSomeAnd handle.old.table (λ old. IsSomeAnd (plain_in old.world.state.table.places (aggregate_at old.world.state.table aggregate)) (λ plain. (sum.new.count ≡ plain.0) × AreWordsOf plain.1 sum.new.sum_low sum.new.sum_high)) }
-    ensures none { result ≡ 104 → IsSomeAnd handle.old.table (λ old. plain_in old.world.state.table.places (aggregate_at old.world.state.table aggregate) ≡ None) }
+    ensures plain { result ≡ 0
+        → IsSomeAnd handle.old.table
+        (λ old. IsSomeAnd
+        (plain_in old.world.state.table.places (aggregate_at old.world.state.table aggregate))
+        (λ plain. (sum.new.count ≡ plain.0)
+        × AreWordsOf plain.1 sum.new.sum_low sum.new.sum_high)) }
+    ensures none { result ≡ 104
+        → IsSomeAnd handle.old.table
+        (λ old. plain_in old.world.state.table.places
+        (aggregate_at old.world.state.table aggregate) ≡ None) }
     ensures same { handle.new.table ≡ handle.old.table }
 {
     let Some(table) = handle.table() else {
@@ -113,8 +130,13 @@ pub extern "C" fn fc_pending(
     groups: &mut u32,
     first: &mut u32,
 ) -> u32
-    ensures pending { result ≡ 0 → IsSomeAnd handle.old.table (λ old. IsSomeAnd (aggregate_at old.world.state.table aggregate) (λ found. (groups.new ≡ (pending_of found).0) × IfSome (pending_of found).1 (λ group. first.new ≡ group))) }
-    ensures none { result ≡ 12 → IsSomeAnd handle.old.table (λ old. aggregate_at old.world.state.table aggregate ≡ None) }
+    ensures pending { result ≡ 0
+        → IsSomeAnd handle.old.table
+        (λ old. IsSomeAnd (aggregate_at old.world.state.table aggregate)
+        (λ found. (groups.new ≡ (pending_of found).0)
+        × IfSome (pending_of found).1 (λ group. first.new ≡ group))) }
+    ensures none { result ≡ 12
+        → IsSomeAnd handle.old.table (λ old. aggregate_at old.world.state.table aggregate ≡ None) }
     ensures same { result ≢ 12 → handle.new.table ≡ handle.old.table }
 {
     let Some(table) = handle.table() else {
@@ -144,8 +166,12 @@ pub struct FcAggregate {
 /// Writes what an aggregate is.
 #[unsafe(no_mangle)]
 pub extern "C" fn fc_spec_of(handle: &mut Handle, aggregate: u32, about: &mut FcAggregate) -> u32
-    ensures about { result ≡ 0 → IsSomeAnd handle.old.table (λ old. IsSomeAnd (aggregate_at old.world.state.table aggregate) (λ found. IsAggregateOf found.spec about.new)) }
-    ensures none { result ≡ 12 → IsSomeAnd handle.old.table (λ old. aggregate_at old.world.state.table aggregate ≡ None) }
+    ensures about { result ≡ 0
+        → IsSomeAnd handle.old.table
+        (λ old. IsSomeAnd (aggregate_at old.world.state.table aggregate)
+        (λ found. IsAggregateOf found.spec about.new)) }
+    ensures none { result ≡ 12
+        → IsSomeAnd handle.old.table (λ old. aggregate_at old.world.state.table aggregate ≡ None) }
     ensures same { result ≢ 12 → handle.new.table ≡ handle.old.table }
 {
     let Some(table) = handle.table() else {

@@ -1,11 +1,12 @@
 // The answer of an aggregate, line by line.
-ghost use Rattle.std.specs.Prelude.{◌≡◌, ◌≢◌, ◌≤◌, [], ◌∷◌, None, IfSome, IsSomeAnd, slice_get};
+ghost use Rattle.std.specs.Prelude.{◌≡◌, ◌≢◌, ◌≤◌, ◌⊎◌, [], ◌∷◌, None, IfSome, IsSomeAnd, slice_get};
 ghost use Rattle.std.specs.Option.{MatchOption};
 ghost use Rattle.far_frame.specs.declared.step.Step.TheVariants as step;
 ghost use Rattle.far_c.specs.Answering.{IsAsked, IsExtremaLine, IsKey, IsLineAt, IsPast, IsRecounted, IsTotalLine};
 ghost use Rattle.far_c.specs.Cells.{cell_of};
 ghost use Rattle.far_c.specs.Keys.{IsKeyAt, IsNoKeyOf, key_of, keys_of};
-ghost use Rattle.far_c.specs.Outcomes.{Behind, IsOneOf, IsRefused, IsRefusal, IsRejected};
+ghost use Rattle.far_c.specs.Outcomes.{Behind, IsOneOf, IsRefused, IsRefusal, IsRejected, IsRejectedFor, IsUsedUp};
+ghost use Rattle.far_c.specs.Unreadable.{CellFault, IsReadable, IsUnreadable};
 
 use crate::cell::{FcCell, INT, MISSING, TEXT};
 use crate::code::{CLOSED, NOTHING, OK, USED_UP};
@@ -35,8 +36,10 @@ pub struct FcLine<'a> {
 /// Asks an aggregate. Its answer stays in the handle; how many lines it has is written.
 #[unsafe(no_mangle)]
 pub extern "C" fn fc_ask(handle: &mut Handle, aggregate: u32, lines: &mut usize) -> u32
-    ensures served { result ≡ 0 → Behind (IsAsked aggregate lines.new) handle.old.table handle.new.table }
-    ensures refused { IsRefusal result → Behind (IsRefused result (step.Ask aggregate)) handle.old.table handle.new.table }
+    ensures served { result ≡ 0
+        → Behind (IsAsked aggregate lines.new) handle.old.table handle.new.table }
+    ensures refused { IsRefusal result
+        → Behind (IsRefused result (step.Ask aggregate)) handle.old.table handle.new.table }
     ensures rejected { 100 ≤ result → IsRejected [] result handle.old.table handle.new.table }
     ensures lines { result ≢ 0 → lines.new ≡ lines.old }
 {
@@ -55,8 +58,10 @@ pub extern "C" fn fc_ask(handle: &mut Handle, aggregate: u32, lines: &mut usize)
 /// Computes the answer of an aggregate from scratch, whatever is pending in it. It stays in the handle, as that of `fc_ask` does.
 #[unsafe(no_mangle)]
 pub extern "C" fn fc_recount(handle: &mut Handle, aggregate: u32, lines: &mut usize) -> u32
-    ensures served { result ≡ 0 → Behind (IsRecounted aggregate lines.new) handle.old.table handle.new.table }
-    ensures rejected { 100 ≤ result → IsRejected (106 ∷ []) result handle.old.table handle.new.table }
+    ensures served { result ≡ 0
+        → Behind (IsRecounted aggregate lines.new) handle.old.table handle.new.table }
+    ensures rejected { 100 ≤ result
+        → IsRejectedFor IsUsedUp result handle.old.table handle.new.table }
     ensures lines { result ≢ 0 → lines.new ≡ lines.old }
 {
     let Some(table) = handle.table() else {
@@ -77,9 +82,13 @@ pub extern "C" fn fc_recount(handle: &mut Handle, aggregate: u32, lines: &mut us
 /// Writes a line of the answer that stays in the handle.
 #[unsafe(no_mangle)]
 pub extern "C" fn fc_line_at<'a>(handle: &'a mut Handle, index: usize, line: &mut FcLine<'a>) -> u32
-    ensures line { result ≡ 0 → IsSomeAnd handle.old.table (λ old. IsSomeAnd old.answer (λ answer. IsLineAt answer index line.new)) }
-    ensures past { result ≡ 104 → IsSomeAnd handle.old.table (λ old. IfSome old.answer (λ answer. IsPast answer index)) }
-    ensures codes { MatchOption handle.old.table (result ≡ 100) (λ _. IsOneOf (0 ∷ 104 ∷ []) result) }
+    ensures line { result ≡ 0
+        → IsSomeAnd handle.old.table
+        (λ old. IsSomeAnd old.answer (λ answer. IsLineAt answer index line.new)) }
+    ensures past { result ≡ 104
+        → IsSomeAnd handle.old.table (λ old. IfSome old.answer (λ answer. IsPast answer index)) }
+    ensures codes { MatchOption handle.old.table (result ≡ 100)
+        (λ _. IsOneOf (0 ∷ 104 ∷ []) result) }
 {
     let Some(table) = handle.table() else {
         return CLOSED;
@@ -100,9 +109,17 @@ pub extern "C" fn fc_line_at<'a>(handle: &'a mut Handle, index: usize, line: &mu
 /// Writes the index of the line with a key in the answer that stays in the handle.
 #[unsafe(no_mangle)]
 pub extern "C" fn fc_find(handle: &mut Handle, key: &FcCell<'_>, index: &mut usize) -> u32
-    ensures found { result ≡ 0 → IsSomeAnd handle.old.table (λ old. IsSomeAnd old.answer (λ answer. IsKeyAt (keys_of answer) index.new (key_of (cell_of key.now)))) }
-    ensures none { result ≡ 104 → IsSomeAnd handle.old.table (λ old. IfSome old.answer (λ answer. IsNoKeyOf (keys_of answer) (key_of (cell_of key.now)))) }
-    ensures codes { MatchOption handle.old.table (result ≡ 100) (λ _. IsOneOf (0 ∷ 102 ∷ 103 ∷ 104 ∷ []) result) }
+    ensures found { result ≡ 0
+        → IsSomeAnd handle.old.table
+        (λ old. IsSomeAnd old.answer
+        (λ answer. IsKeyAt (keys_of answer) index.new (key_of (cell_of key.now)))) }
+    ensures none { result ≡ 104
+        → IsSomeAnd handle.old.table
+        (λ old. IfSome old.answer
+        (λ answer. IsNoKeyOf (keys_of answer) (key_of (cell_of key.now)))) }
+    ensures codes { MatchOption handle.old.table (result ≡ 100)
+        (λ _. IsUnreadable (CellFault key.now) result
+        ⊎ (IsReadable key.now × IsOneOf (0 ∷ 104 ∷ []) result)) }
     ensures kept { handle.new.table ≡ handle.old.table }
     ensures index { result ≢ 0 → index.new ≡ index.old }
 {
@@ -126,7 +143,8 @@ pub extern "C" fn fc_find(handle: &mut Handle, key: &FcCell<'_>, index: &mut usi
 }
 
 fn line_of<'a>(answer: &'a Answer, index: usize) -> Option<FcLine<'a>>
-    ensures { MatchOption result (IsPast answer.now index) (λ line. IsLineAt answer.now index line) }
+    ensures { MatchOption result (IsPast answer.now index)
+        (λ line. IsLineAt answer.now index line) }
 {
     match answer {
         Answer::Totals(lines) => total_line(lines, index),
@@ -135,14 +153,16 @@ fn line_of<'a>(answer: &'a Answer, index: usize) -> Option<FcLine<'a>>
 }
 
 fn total_line<'a>(lines: &'a TotalLines, index: usize) -> Option<FcLine<'a>>
-    ensures { MatchOption result (slice_get lines.now index ≡ None) (λ line. IsSomeAnd (slice_get lines.now index) (λ found. IsTotalLine found line)) }
+    ensures { MatchOption result (slice_get lines.now index ≡ None)
+        (λ line. IsSomeAnd (slice_get lines.now index) (λ found. IsTotalLine found line)) }
 {
     let line = lines.as_slice().get(index)?;
     Some(FcLine::of_total(line))
 }
 
 fn extrema_line<'a>(lines: &'a ExtremaLines, index: usize) -> Option<FcLine<'a>>
-    ensures { MatchOption result (slice_get lines.now index ≡ None) (λ line. IsSomeAnd (slice_get lines.now index) (λ found. IsExtremaLine found line)) }
+    ensures { MatchOption result (slice_get lines.now index ≡ None)
+        (λ line. IsSomeAnd (slice_get lines.now index) (λ found. IsExtremaLine found line)) }
 {
     let line = lines.as_slice().get(index)?;
     Some(FcLine::of_extrema(line))

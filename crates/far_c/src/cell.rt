@@ -1,8 +1,10 @@
 // Cells and rows as C passes them.
 ghost use Rattle.std.specs.Prelude.{◌≡◌, ◌≢◌, ◌<◌, ◌≤◌, ◌+◌, ◌++◌, [], ◌∷◌, IfErr, IfOk, OnOk, take, vec_len};
+ghost use Rattle.std.specs.List.{All};
 ghost use Rattle.std.specs.String.{string_bytes};
 ghost use Rattle.far_types.specs.Lent.{lent_cell};
 ghost use Rattle.far_c.specs.Cells.{cell_of, row_of};
+ghost use Rattle.far_c.specs.Unreadable.{CellFault, IsReadable, RowFault};
 
 use crate::unread::Unread;
 use far_types::{Cell, CellRef, Row, Text};
@@ -30,6 +32,8 @@ impl<'a> FcCell<'a> {
     #[inline(always)]
     pub fn lend(&self) -> Result<CellRef<'_>, Unread>
         ensures ok { IfOk result (λ cell. lent_cell cell ≡ cell_of self.now) }
+        ensures readable { OnOk result (IsReadable self.now) }
+        ensures fault { IfErr result (CellFault self.now) }
         ensures err { IfErr result (λ why. why ≢ Unread.NoMemory) }
     {
         match self.kind {
@@ -45,7 +49,10 @@ impl<'a> FcCell<'a> {
 
     /// Copies the cell for a table.
     pub fn read(&self, alloc: Global) -> Result<Cell, Unread>
-        ensures { IfOk result (λ cell. cell ≡ cell_of self.now) }
+        ensures ok { IfOk result (λ cell. cell ≡ cell_of self.now) }
+        ensures readable { OnOk result (IsReadable self.now) }
+        ensures fault { IfErr result (CellFault self.now) }
+        ensures memory { IfErr result (λ why. why ≡ Unread.NoMemory → IsReadable self.now) }
     {
         copy_cell(alloc, self.lend()?)
     }
@@ -54,7 +61,8 @@ impl<'a> FcCell<'a> {
 /// Copies a cell for a table. It allocates for a text alone.
 #[inline(always)]
 pub fn copy_cell(alloc: Global, cell: CellRef<'_>) -> Result<Cell, Unread>
-    ensures { IfOk result (λ made. made ≡ lent_cell cell.entry) }
+    ensures ok { IfOk result (λ made. made ≡ lent_cell cell.entry) }
+    ensures memory { IfErr result (λ why. why ≡ Unread.NoMemory) }
 {
     match cell {
         CellRef::Missing => Ok(Cell::Missing),
@@ -66,7 +74,9 @@ pub fn copy_cell(alloc: Global, cell: CellRef<'_>) -> Result<Cell, Unread>
 /// Copies a row for a table, into the memory of cells that are no longer needed.
 #[inline(always)]
 pub fn read_row(alloc: Global, spare: Vec<Cell>, cells: &[FcCell<'_>]) -> Result<Row, Unread>
-    ensures { IfOk result (λ row. row ≡ row_of cells.now) }
+    ensures ok { IfOk result (λ row. row ≡ row_of cells.now) }
+    ensures readable { OnOk result (All IsReadable cells.now) }
+    ensures fault { IfErr result (RowFault cells.now) }
 {
     let mut made = spare;
     for column in 0..cells.len() {
@@ -85,8 +95,10 @@ pub fn write_cell(
     cell: CellRef<'_>,
 ) -> Result<(), Unread>
     requires { at ≤ vec_len cells.old }
-    ensures cell { OnOk result (take (at + 1) cells.new.items ≡ take at cells.old.items ++ lent_cell cell.entry ∷ []) }
+    ensures cell { OnOk result
+        (take (at + 1) cells.new.items ≡ take at cells.old.items ++ lent_cell cell.entry ∷ []) }
     ensures there { OnOk result (at < vec_len cells.new) }
+    ensures memory { IfErr result (λ why. why ≡ Unread.NoMemory) }
 {
     if at == cells.len() {
         cells.push(Cell::Missing)?;

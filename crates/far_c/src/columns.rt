@@ -34,10 +34,13 @@ pub extern "C" fn fc_insert_columns(
     rows: usize,
     inserted: &mut usize,
 ) -> u32
-    ensures rows { IfSome handle.old.table (λ old. IsSomeAnd handle.new.table (AreAppended columns.now inserted.new old)) }
+    ensures rows { IfSome handle.old.table
+        (λ old. IsSomeAnd handle.new.table (AreAppended columns.now inserted.new old)) }
     ensures all { result ≡ 0 → inserted.new ≡ rows }
-    ensures next { IsRefusal result → IsSomeAnd handle.new.table (IsNextRefused (insert_of columns.now inserted.new) result) }
-    ensures rejected { 100 ≤ result → MatchOption handle.old.table (result ≡ 100) (λ _. IsOneOf (102 ∷ 103 ∷ []) result) }
+    ensures next { IsRefusal result
+        → IsSomeAnd handle.new.table (IsNextRefused (insert_of columns.now inserted.new) result) }
+    ensures rejected { 100 ≤ result
+        → MatchOption handle.old.table (result ≡ 100) (λ _. IsOneOf (102 ∷ 103 ∷ []) result) }
 {
     let Some(table) = handle.table() else {
         return CLOSED;
@@ -68,7 +71,8 @@ fn insert_rows(
 ) -> u32
     ensures rows { AreAppended columns.now inserted.new table.old table.new }
     ensures all { result ≡ 0 → inserted.new ≡ rows }
-    ensures next { IsRefusal result → IsNextRefused (insert_of columns.now inserted.new) result table.new }
+    ensures next { IsRefusal result
+        → IsNextRefused (insert_of columns.now inserted.new) result table.new }
     ensures codes { 100 ≤ result → IsOneOf (102 ∷ 103 ∷ []) result }
 {
     for row in 0..rows {
@@ -116,11 +120,15 @@ pub extern "C" fn fc_set_column(
     values: &FcColumn<'_>,
     set: &mut usize,
 ) -> u32
-    ensures cells { IfSome handle.old.table (λ old. IsSomeAnd handle.new.table (AreSet column places.now values.now set.new old)) }
+    ensures cells { IfSome handle.old.table
+        (λ old. IsSomeAnd handle.new.table (AreSet column places.now values.now set.new old)) }
     ensures within { IfSome handle.old.table (λ _. set.new ≤ length places.now) }
     ensures all { result ≡ 0 → set.new ≡ length places.now }
-    ensures next { IsRefusal result → IsSomeAnd handle.new.table (IsNextRefused (set_of column places.now values.now set.new) result) }
-    ensures rejected { 100 ≤ result → MatchOption handle.old.table (result ≡ 100) (λ _. IsOneOf (102 ∷ 103 ∷ []) result) }
+    ensures next { IsRefusal result
+        → IsSomeAnd handle.new.table
+        (IsNextRefused (set_of column places.now values.now set.new) result) }
+    ensures rejected { 100 ≤ result
+        → MatchOption handle.old.table (result ≡ 100) (λ _. IsOneOf (102 ∷ 103 ∷ []) result) }
 {
     let Some(table) = handle.table() else {
         return CLOSED;
@@ -144,7 +152,8 @@ fn set_cells(
     ensures cells { AreSet column places.now values.now set.new table.old table.new }
     ensures within { set.new ≤ length places.now }
     ensures all { result ≡ 0 → set.new ≡ length places.now }
-    ensures next { IsRefusal result → IsNextRefused (set_of column places.now values.now set.new) result table.new }
+    ensures next { IsRefusal result
+        → IsNextRefused (set_of column places.now values.now set.new) result table.new }
     ensures codes { 100 ≤ result → IsOneOf (102 ∷ 103 ∷ []) result }
 {
     for index in 0..places.len() {
@@ -229,7 +238,10 @@ impl<'a> FcColumn<'a> {
     // The bytes of a row's text.
     #[inline(always)]
     fn text(&self, row: usize) -> Option<&[u8]>
-        ensures { IfSome result (λ bytes. bytes.now ≡ slice_range self.now.bytes.now (offset_at self.now.offsets.now row) (offset_at self.now.offsets.now (row + 1))) }
+        ensures { IfSome result
+            (λ bytes. bytes.now
+            ≡ slice_range self.now.bytes.now (offset_at self.now.offsets.now row)
+            (offset_at self.now.offsets.now (row + 1))) }
     {
         let from = *self.offsets.get(row)?;
         let to = *self.offsets.get(row.checked_add(1)?)?;

@@ -1,13 +1,15 @@
 // Contents that go out to the calling program, and come back.
-ghost use Rattle.std.specs.Prelude.{◌≡◌, ◌≢◌, ◌≤◌, [], ◌∷◌, IfSome, IsSomeAnd};
+ghost use Rattle.std.specs.Prelude.{◌≡◌, ◌≢◌, ◌≤◌, IfSome, IsSomeAnd};
+ghost use Rattle.std.specs.Option.{MatchOption};
 ghost use Rattle.far_rows.specs.Copies.{copy_of};
 ghost use Rattle.far_frame.specs.Delivering.{HasNoCollision, wanted_by};
+ghost use Rattle.far_frame.specs.Ending.{no_job};
 ghost use Rattle.far_frame.specs.Renewing.{IsMigratedTo};
 ghost use Rattle.far_frame.specs.Waiting.{job_at};
 ghost use Rattle.far_c.specs.Carrying.{OnWorld};
 ghost use Rattle.far_c.specs.Contents.{content, matches, number_of};
-ghost use Rattle.far_c.specs.Delivering.{IsCounted, IsDelivered, IsOutgoing, IsWanted};
-ghost use Rattle.far_c.specs.Outcomes.{Behind, IsRefusal, IsRejected};
+ghost use Rattle.far_c.specs.Delivering.{HasNothingOut, IsCounted, IsCountedFor, IsDelivered, IsNotAway, IsOutgoing, IsWanted, WantsNoMore, WhyNoCopy, WhyNotTaken};
+ghost use Rattle.far_c.specs.Outcomes.{Behind, IsDue, IsNumberOf, IsRefusal, IsRejectedFor, IsUsedUp};
 
 use crate::code::{CLOSED, NOTHING, OK, USED_UP};
 use crate::handle::Handle;
@@ -22,7 +24,13 @@ pub extern "C" fn fc_outgoing<'a>(
     number: &mut u64,
     bytes: &mut &'a [u8],
 ) -> u32
-    ensures { result ≡ 0 → IsSomeAnd handle.old.table (λ old. IsOutgoing (job_at old.world.jobs job) number.new bytes.new.now) }
+    ensures outgoing { result ≡ 0
+        → IsSomeAnd handle.old.table
+        (λ old. IsOutgoing (job_at old.world.jobs job) number.new bytes.new.now) }
+    ensures refused { IsRefusal result
+        → IsSomeAnd handle.old.table (λ old. IsNumberOf (no_job old.world job) result) }
+    ensures rejected { 100 ≤ result
+        → MatchOption handle.old.table (result ≡ 100) (λ old. HasNothingOut job old result) }
 {
     let Some(table) = handle.table() else {
         return CLOSED;
@@ -45,7 +53,13 @@ pub extern "C" fn fc_outgoing<'a>(
 /// Writes the number of the content at an index of those that a begun fetch or offload needs.
 #[unsafe(no_mangle)]
 pub extern "C" fn fc_wanted(handle: &mut Handle, job: u64, index: usize, number: &mut u64) -> u32
-    ensures wanted { result ≡ 0 → IsSomeAnd handle.old.table (λ old. IsWanted (job_at old.world.jobs job) index number.new) }
+    ensures wanted { result ≡ 0
+        → IsSomeAnd handle.old.table
+        (λ old. IsWanted (job_at old.world.jobs job) index number.new) }
+    ensures refused { IsRefusal result
+        → Behind (IsDue (λ old. no_job old.world job) result) handle.old.table handle.new.table }
+    ensures rejected { 100 ≤ result
+        → IsRejectedFor (WantsNoMore job index) result handle.old.table handle.new.table }
     ensures same { result ≢ 20 → handle.new.table ≡ handle.old.table }
 {
     let Some(table) = handle.table() else {
@@ -66,10 +80,20 @@ pub extern "C" fn fc_wanted(handle: &mut Handle, job: u64, index: usize, number:
 /// The premise: if these bytes have the length and the SHA-256 of what went out under this number, they are those bytes.
 #[unsafe(no_mangle)]
 pub extern "C" fn fc_deliver(handle: &mut Handle, job: u64, number: u64, bytes: &[u8]) -> u32
-    requires no_collision { IfSome handle.old.table (λ old. HasNoCollision matches content (wanted_by number_of old.world job number) bytes.now) }
-    ensures delivered { result ≡ 0 → Behind (λ old. IsDelivered (wanted_by number_of old.world job number) bytes.now old) handle.old.table handle.new.table }
-    ensures refused { IsRefusal result → Behind (IsCounted result) handle.old.table handle.new.table }
-    ensures rejected { 100 ≤ result → IsRejected (106 ∷ []) result handle.old.table handle.new.table }
+    requires no_collision { IfSome handle.old.table
+        (λ old. HasNoCollision matches content
+        (wanted_by number_of old.world job number) bytes.now) }
+    ensures delivered { result ≡ 0
+        → Behind
+        (λ old. IsDelivered (wanted_by number_of old.world job number) bytes.now old)
+        handle.old.table handle.new.table }
+    ensures refused { IsRefusal result
+        → Behind
+        (λ old. IsCountedFor
+        (WhyNotTaken (wanted_by number_of old.world job number) bytes.now) result old)
+        handle.old.table handle.new.table }
+    ensures rejected { 100 ≤ result
+        → IsRejectedFor IsUsedUp result handle.old.table handle.new.table }
 {
     let Some(table) = handle.table() else {
         return CLOSED;
@@ -84,10 +108,19 @@ pub extern "C" fn fc_deliver(handle: &mut Handle, job: u64, number: u64, bytes: 
 /// Takes the content of an object that is away, for a migration. The bytes are copied. The premise is that of `fc_deliver`.
 #[unsafe(no_mangle)]
 pub extern "C" fn fc_deliver_copy(handle: &mut Handle, column: u32, group: u32, bytes: &[u8]) -> u32
-    requires no_collision { IfSome handle.old.table (λ old. HasNoCollision matches content (copy_of old.world.state.rows column group) bytes.now) }
-    ensures delivered { result ≡ 0 → Behind (λ old. IsDelivered (copy_of old.world.state.rows column group) bytes.now old) handle.old.table handle.new.table }
-    ensures refused { IsRefusal result → Behind (IsCounted result) handle.old.table handle.new.table }
-    ensures rejected { 100 ≤ result → IsRejected (104 ∷ 106 ∷ []) result handle.old.table handle.new.table }
+    requires no_collision { IfSome handle.old.table
+        (λ old. HasNoCollision matches content
+        (copy_of old.world.state.rows column group) bytes.now) }
+    ensures delivered { result ≡ 0
+        → Behind
+        (λ old. IsDelivered (copy_of old.world.state.rows column group) bytes.now old)
+        handle.old.table handle.new.table }
+    ensures refused { IsRefusal result
+        → Behind
+        (λ old. IsCountedFor (WhyNoCopy old.world.state.rows column group bytes.now) result old)
+        handle.old.table handle.new.table }
+    ensures rejected { 100 ≤ result
+        → IsRejectedFor (IsNotAway column group) result handle.old.table handle.new.table }
 {
     let Some(table) = handle.table() else {
         return CLOSED;
@@ -105,9 +138,13 @@ pub extern "C" fn fc_deliver_copy(handle: &mut Handle, column: u32, group: u32, 
 /// Goes on with new numbers below `capacity`, and frees what was noted of the old ones.
 #[unsafe(no_mangle)]
 pub extern "C" fn fc_migrate(handle: &mut Handle, capacity: u64) -> u32
-    ensures migrated { result ≡ 0 → Behind (OnWorld (λ old new. IsMigratedTo content content new.store old new)) handle.old.table handle.new.table }
-    ensures refused { IsRefusal result → Behind (IsCounted result) handle.old.table handle.new.table }
-    ensures rejected { 100 ≤ result → IsRejected (106 ∷ []) result handle.old.table handle.new.table }
+    ensures migrated { result ≡ 0
+        → Behind (OnWorld (λ old new. IsMigratedTo content content new.store old new))
+        handle.old.table handle.new.table }
+    ensures refused { IsRefusal result
+        → Behind (IsCounted result) handle.old.table handle.new.table }
+    ensures rejected { 100 ≤ result
+        → IsRejectedFor IsUsedUp result handle.old.table handle.new.table }
 {
     let Some(table) = handle.table() else {
         return CLOSED;

@@ -33,7 +33,8 @@ impl Handle {
     /// Lends the table, if the handle is open.
     pub fn table(&mut self) -> Option<&mut Table>
         ensures* writes_back { sem 𝓛 (LendsTable self.entry result) }
-        ensures value { MatchOption result (self.old.table ≡ None) (λ table. self.old.table ≡ Some table.now) }
+        ensures value { MatchOption result (self.old.table ≡ None)
+            (λ table. self.old.table ≡ Some table.now) }
     {
         if self.at.is_null() {
             return None;

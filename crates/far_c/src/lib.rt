@@ -10,6 +10,7 @@ mod delivering;
 mod edits;
 mod handle;
 mod jobs;
+mod key_line;
 mod loose;
 mod moving;
 mod numbers;

@@ -1,11 +1,12 @@
 // Pins, space and the access history.
-ghost use Rattle.std.specs.Prelude.{◌≡◌, ◌≤◌, [], ◌∷◌, take, length};
-ghost use Rattle.far_frame.specs.Lending.{AreObserved};
-ghost use Rattle.far_c.specs.Carrying.{OnWorld};
+ghost use Rattle.std.specs.Prelude.{◌≡◌, ◌≢◌, ◌<◌, ◌≤◌, [], take, length, min};
+ghost use Rattle.far_c.specs.Carrying.{IsSeen, OnWorld};
 ghost use Rattle.far_frame.specs.declared.step.Step.TheVariants as step;
 ghost use Rattle.far_frame.specs.declared.step.Reply.TheVariants as reply;
 ghost use Rattle.far_c.specs.Opening.{kind_of};
-ghost use Rattle.far_c.specs.Outcomes.{Behind, IsServed, IsRefused, IsRefusal, IsRejected};
+ghost use Rattle.far_c.specs.Outcomes.{Behind, IsServed, IsRefused, IsRefusal, IsRejected, IsRejectedFor, IsUnfit};
+ghost use Rattle.far_c.specs.Proposals.{AreProposed};
+ghost use Rattle.far_c.specs.Unreadable.{IsKind};
 
 use crate::code::{BAD_ARGUMENT, CLOSED, OK};
 use crate::handle::Handle;
@@ -16,8 +17,10 @@ use far_frame::Step;
 /// Pins an object once more.
 #[unsafe(no_mangle)]
 pub extern "C" fn fc_pin(handle: &mut Handle, column: u32, group: u32) -> u32
-    ensures served { result ≡ 0 → Behind (IsServed (step.Pin column group) reply.Done) handle.old.table handle.new.table }
-    ensures refused { IsRefusal result → Behind (IsRefused result (step.Pin column group)) handle.old.table handle.new.table }
+    ensures served { result ≡ 0
+        → Behind (IsServed (step.Pin column group) reply.Done) handle.old.table handle.new.table }
+    ensures refused { IsRefusal result
+        → Behind (IsRefused result (step.Pin column group)) handle.old.table handle.new.table }
     ensures rejected { 100 ≤ result → IsRejected [] result handle.old.table handle.new.table }
 {
     let Some(table) = handle.table() else {
@@ -30,8 +33,10 @@ pub extern "C" fn fc_pin(handle: &mut Handle, column: u32, group: u32) -> u32
 /// Removes one pin of an object.
 #[unsafe(no_mangle)]
 pub extern "C" fn fc_unpin(handle: &mut Handle, column: u32, group: u32) -> u32
-    ensures served { result ≡ 0 → Behind (IsServed (step.Unpin column group) reply.Done) handle.old.table handle.new.table }
-    ensures refused { IsRefusal result → Behind (IsRefused result (step.Unpin column group)) handle.old.table handle.new.table }
+    ensures served { result ≡ 0
+        → Behind (IsServed (step.Unpin column group) reply.Done) handle.old.table handle.new.table }
+    ensures refused { IsRefusal result
+        → Behind (IsRefused result (step.Unpin column group)) handle.old.table handle.new.table }
     ensures rejected { 100 ≤ result → IsRejected [] result handle.old.table handle.new.table }
 {
     let Some(table) = handle.table() else {
@@ -44,9 +49,15 @@ pub extern "C" fn fc_unpin(handle: &mut Handle, column: u32, group: u32) -> u32
 /// Compacts a segment of the local region of a kind into an empty one.
 #[unsafe(no_mangle)]
 pub extern "C" fn fc_compact(handle: &mut Handle, kind: u32, segment: u32) -> u32
-    ensures served { result ≡ 0 → Behind (IsServed (step.Compact (kind_of kind) segment) reply.Done) handle.old.table handle.new.table }
-    ensures refused { IsRefusal result → Behind (IsRefused result (step.Compact (kind_of kind) segment)) handle.old.table handle.new.table }
-    ensures rejected { 100 ≤ result → IsRejected (103 ∷ []) result handle.old.table handle.new.table }
+    ensures served { result ≡ 0
+        → Behind (IsServed (step.Compact (kind_of kind) segment) reply.Done)
+        handle.old.table handle.new.table }
+    ensures refused { IsRefusal result
+        → Behind (IsRefused result (step.Compact (kind_of kind) segment))
+        handle.old.table handle.new.table }
+    ensures rejected { 100 ≤ result
+        → IsRejectedFor (IsUnfit (IsKind kind)) result handle.old.table handle.new.table }
+    ensures kind { result < 100 → IsKind kind }
 {
     let Some(table) = handle.table() else {
         return CLOSED;
@@ -61,7 +72,8 @@ pub extern "C" fn fc_compact(handle: &mut Handle, kind: u32, segment: u32) -> u3
 /// Records an access to an object, and marks it as recently used.
 #[unsafe(no_mangle)]
 pub extern "C" fn fc_saw(handle: &mut Handle, column: u32, group: u32) -> u32
-    ensures seen { result ≡ 0 → Behind (OnWorld (λ old new. AreObserved column (group ∷ []) old.state new.state × (new ≡ record old { state = new.state }))) handle.old.table handle.new.table }
+    ensures seen { result ≡ 0
+        → Behind (OnWorld (IsSeen column group)) handle.old.table handle.new.table }
     ensures rejected { 100 ≤ result → IsRejected [] result handle.old.table handle.new.table }
 {
     let Some(table) = handle.table() else {
@@ -79,8 +91,14 @@ pub extern "C" fn fc_proposals(
     groups: &mut [u32],
     count: &mut usize,
 ) -> u32
-    ensures refused { IsRefusal result → Behind (IsRefused result (step.Prefetch column)) handle.old.table handle.new.table }
-    ensures rejected { 100 ≤ result → IsRejected (103 ∷ []) result handle.old.table handle.new.table }
+    ensures served { result ≡ 0
+        → Behind (AreProposed column groups.new count.new) handle.old.table handle.new.table }
+    ensures refused { IsRefusal result
+        → Behind (IsRefused result (step.Prefetch column)) handle.old.table handle.new.table }
+    ensures rejected { 100 ≤ result
+        → IsRejectedFor (IsUnfit (length groups.old ≡ 2)) result handle.old.table handle.new.table }
+    ensures two { result < 100 → length groups.old ≡ 2 }
+    ensures count { result ≢ 0 → count.new ≡ count.old }
 {
     let Some(table) = handle.table() else {
         return CLOSED;
@@ -99,7 +117,8 @@ pub extern "C" fn fc_proposals(
 
 // Writes the first of some row groups, as many as have room, and returns how many.
 fn write_groups(found: &[u32], groups: &mut [u32]) -> usize
-    ensures { take result groups.new ≡ take (length groups.old) found.now }
+    ensures count { result ≡ min (length found.now) (length groups.old) }
+    ensures groups { take result groups.new ≡ take (length groups.old) found.now }
 {
     let count = found.len().min(groups.len());
     groups[..count].copy_from_slice(&found[..count]);

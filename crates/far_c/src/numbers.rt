@@ -1,10 +1,16 @@
 // Numbers of a column, copied.
-ghost use Rattle.std.specs.Prelude.{◌≡◌, ◌≤◌, ◌+◌, ◌++◌, [], ◌∷◌, map, take, drop, length, is_some, IsSomeAnd};
-ghost use Rattle.far_c.specs.Outcomes.{IsRejected};
-ghost use Rattle.far_c.specs.Parts.{alive_of, flags_in, numbers_in, or_zero, valid_of, values_of};
+ghost use Rattle.std.specs.Prelude.{◌≡◌, ◌<◌, ◌≤◌, ◌+◌, ◌++◌, None, Some, map, take, drop, length, is_some, IfErr, IfOk, IsSomeAnd, OnErr, OnOk};
+ghost use Rattle.far_types.specs.Lent.{int_cell};
+ghost use Rattle.far_types.specs.Table.{part};
+ghost use Rattle.far_rows.specs.Refusing.{ints_refusal};
+ghost use Rattle.far_frame.specs.Lending.{lend_refusal};
+ghost use Rattle.far_c.specs.TableState.{places_of};
+ghost use Rattle.far_c.specs.Outcomes.{Behind, IsDue, IsRefusal, IsRejectedFor, IsUnfit};
+ghost use Rattle.far_c.specs.Parts.{FitNumbers, IsPartLent, alive_of, flags_in, numbers_in, or_zero, valid_of, values_of};
 
 use crate::code::{BAD_ARGUMENT, CLOSED};
 use crate::handle::Handle;
+use crate::table::Table;
 use far_columns::Lents;
 use far_host::HostStore;
 use far_types::Refusal;
@@ -20,10 +26,24 @@ pub extern "C" fn fc_numbers(
     valid: &mut [bool],
     alive: &mut [bool],
 ) -> u32
-    ensures values { result ≡ 0 → IsSomeAnd handle.old.table (λ old. values.new ≡ values_of old.world.state.table.places column from to) }
-    ensures valid { result ≡ 0 → IsSomeAnd handle.old.table (λ old. valid.new ≡ valid_of old.world.state.table.places column from to) }
-    ensures alive { result ≡ 0 → IsSomeAnd handle.old.table (λ old. alive.new ≡ alive_of old.world.state.table.places from to) }
-    ensures rejected { 100 ≤ result → IsRejected (103 ∷ []) result handle.old.table handle.new.table }
+    ensures values { result ≡ 0
+        → IsSomeAnd handle.old.table
+        (λ old. values.new ≡ values_of (places_of old) column from to) }
+    ensures valid { result ≡ 0
+        → IsSomeAnd handle.old.table (λ old. valid.new ≡ valid_of (places_of old) column from to) }
+    ensures alive { result ≡ 0
+        → IsSomeAnd handle.old.table (λ old. alive.new ≡ alive_of (places_of old) from to) }
+    ensures lent { result ≡ 0
+        → Behind (IsPartLent column from to) handle.old.table handle.new.table }
+    ensures refused { IsRefusal result
+        → Behind (IsDue (λ old. ints_refusal old.world.state.rows column from to) result)
+        handle.old.table handle.new.table }
+    ensures rejected { 100 ≤ result
+        → IsRejectedFor
+        (IsUnfit (FitNumbers from to (length values.old) (length valid.old) (length alive.old)))
+        result handle.old.table handle.new.table }
+    ensures lengths { result < 100
+        → FitNumbers from to (length values.old) (length valid.old) (length alive.old) }
 {
     let Some(table) = handle.table() else {
         return CLOSED;
@@ -32,39 +52,70 @@ pub extern "C" fn fc_numbers(
     if values.len() != len || valid.len() != len || alive.len() != len {
         return BAD_ARGUMENT;
     }
-    let frame = table.world().frame();
-    // For the proof: a row group has a place, and a part that is lent is within the places.
-    let _limits = frame.limits();
-    let places = frame.places();
-    match frame.scope().ints(column, from, to) {
-        Ok(lents) => {
-            if from > to {
-                return table.refuse(Refusal::OutOfRange);
-            }
-            if to > places {
-                return table.refuse(Refusal::OutOfRange);
-            }
-            copy_pieces(lents, values, valid, alive);
-        }
-        Err(refusal) => return table.refuse(refusal),
-    }
-    let outcome = table.record_lending(column, from, to);
+    let outcome = read_numbers(table, column, from, to, values, valid, alive);
     table.end(outcome)
 }
 
-// Copies lent pieces, one after another.
+// Copies numbers into buffers of their length, and records that they were read.
+fn read_numbers(
+    table: &mut Table,
+    column: u32,
+    from: u32,
+    to: u32,
+    values: &mut [i64],
+    valid: &mut [bool],
+    alive: &mut [bool],
+) -> Result<(), Refusal>
+    requires { FitNumbers from to (length values.old) (length valid.old) (length alive.old) }
+    ensures values { OnOk result (values.new ≡ values_of (places_of table.old) column from to) }
+    ensures valid { OnOk result (valid.new ≡ valid_of (places_of table.old) column from to) }
+    ensures alive { OnOk result (alive.new ≡ alive_of (places_of table.old) from to) }
+    ensures lent { OnOk result (IsPartLent column from to table.old table.new) }
+    ensures refused { IfErr result
+        (λ why. ints_refusal table.old.world.state.rows column from to ≡ Some why) }
+    ensures err { OnErr result (table.new ≡ table.old) }
+{
+    let lents = lent_numbers(table, column, from, to)?;
+    copy_pieces(lents, values, valid, alive);
+    table.record_lending(column, from, to)
+}
+
+// Lends the numbers of a part of a column.
+fn lent_numbers<'a>(
+    table: &'a Table,
+    column: u32,
+    from: u32,
+    to: u32,
+) -> Result<Lents<'a, HostStore>, Refusal>
+    ensures cells { IfOk result
+        (λ lents. map int_cell (numbers_in lents) ≡ part column from to (places_of table.now)) }
+    ensures flags { IfOk result (λ lents. flags_in lents ≡ alive_of (places_of table.now) from to) }
+    ensures free { OnOk result (lend_refusal table.now.world.state.rows column from to ≡ None) }
+    ensures refused { IfErr result
+        (λ why. ints_refusal table.now.world.state.rows column from to ≡ Some why) }
+{
+    let frame = table.world().frame();
+    // For the proof: a row group has a place.
+    let _limits = frame.limits();
+    frame.scope().ints(column, from, to)
+}
+
+// Copies lent pieces, one after another. What they do not fill of the buffers stays.
 fn copy_pieces(
     lents: Lents<'_, HostStore>,
     values: &mut [i64],
     valid: &mut [bool],
     alive: &mut [bool],
 )
-    requires values { length values.old ≡ length (numbers_in lents) }
-    requires valid { length valid.old ≡ length (numbers_in lents) }
-    requires alive { length alive.old ≡ length (flags_in lents) }
-    ensures values { values.new ≡ map or_zero (numbers_in lents.entry) }
-    ensures valid { valid.new ≡ map is_some (numbers_in lents.entry) }
-    ensures alive { alive.new ≡ flags_in lents.entry }
+    requires values { length (numbers_in lents) ≤ length values.old }
+    requires valid { length (numbers_in lents) ≤ length valid.old }
+    requires alive { length (flags_in lents) ≤ length alive.old }
+    ensures values { length (numbers_in lents.entry) ≡ length values.old
+        → values.new ≡ map or_zero (numbers_in lents.entry) }
+    ensures valid { length (numbers_in lents.entry) ≡ length valid.old
+        → valid.new ≡ map is_some (numbers_in lents.entry) }
+    ensures alive { length (flags_in lents.entry) ≡ length alive.old
+        → alive.new ≡ flags_in lents.entry }
 {
     let mut lents = lents;
     let mut at = 0;
@@ -81,8 +132,11 @@ fn copy_pieces(
 fn copy_numbers(numbers: &[Option<i64>], values: &mut [i64], valid: &mut [bool], at: usize)
     requires values { at + length numbers.now ≤ length values.old }
     requires valid { at + length numbers.now ≤ length valid.old }
-    ensures values { values.new ≡ take at values.old ++ map or_zero numbers.now ++ drop (at + length numbers.now) values.old }
-    ensures valid { valid.new ≡ take at valid.old ++ map is_some numbers.now ++ drop (at + length numbers.now) valid.old }
+    ensures values { values.new
+        ≡ take at values.old ++ map or_zero numbers.now ++ drop
+        (at + length numbers.now) values.old }
+    ensures valid { valid.new
+        ≡ take at valid.old ++ map is_some numbers.now ++ drop (at + length numbers.now) valid.old }
 {
     let end = at + numbers.len();
     write_numbers(numbers, &mut values[at..end], &mut valid[at..end]);
@@ -104,7 +158,8 @@ fn write_numbers(numbers: &[Option<i64>], values: &mut [i64], valid: &mut [bool]
 // Copies flags to a place of a buffer.
 fn copy_flags(flags: &[bool], buffer: &mut [bool], at: usize)
     requires { at + length flags.now ≤ length buffer.old }
-    ensures { buffer.new ≡ take at buffer.old ++ flags.now ++ drop (at + length flags.now) buffer.old }
+    ensures { buffer.new
+        ≡ take at buffer.old ++ flags.now ++ drop (at + length flags.now) buffer.old }
 {
     buffer[at..at + flags.len()].copy_from_slice(flags);
 }

@@ -1,7 +1,10 @@
 // Tables that are opened and closed.
-ghost use Rattle.std.specs.Prelude.{◌≡◌, ◌≢◌, None, Some, IsSome, IsSomeAnd, IfOk, IfSome, map};
+ghost use Rattle.std.specs.Prelude.{◌≡◌, ◌≢◌, ◌≤◌, ◌⊎◌, None, Some, IsSome, IsSomeAnd, IfErr, IfOk, OnOk, map};
+ghost use Rattle.std.specs.List.{All};
+ghost use Rattle.std.specs.Option.{MatchOption};
 ghost use Rattle.far_c.specs.TableState.{IsNew};
-ghost use Rattle.far_c.specs.Opening.{kind_of, limits_of};
+ghost use Rattle.far_c.specs.Opening.{IsNotOpened, kind_of, limits_of};
+ghost use Rattle.far_c.specs.Unreadable.{FirstFault, IsKind, KindFault};
 
 use crate::cell::{INT, TEXT};
 use crate::code::{ALREADY_OPEN, BAD_ARGUMENT, CLOSED, OK};
@@ -64,9 +67,12 @@ pub extern "C" fn fc_open(
     limits: &FcLimits,
     capacity: u64,
 ) -> u32
-    ensures opened { result ≡ 0 → IsSomeAnd handle.new.table (IsNew (map kind_of kinds.now) (limits_of limits.now)) }
+    ensures opened { result ≡ 0
+        → IsSomeAnd handle.new.table (IsNew (map kind_of kinds.now) (limits_of limits.now)) }
     ensures closed { result ≡ 0 → handle.old.table ≡ None }
     ensures refused { result ≢ 0 → handle.new.table ≡ handle.old.table }
+    ensures kinds { result ≡ 0 → All IsKind kinds.now }
+    ensures rejected { 100 ≤ result → IsNotOpened kinds.now handle.old.table result }
 {
     if handle.is_open() {
         return ALREADY_OPEN;
@@ -87,7 +93,7 @@ pub extern "C" fn fc_open(
 
 /// The kind that C passes by its number.
 pub fn read_kind(kind: u32) -> Option<Kind>
-    ensures { IfSome result (λ made. made ≡ kind_of kind) }
+    ensures { MatchOption result (¬ (IsKind kind)) (λ made. (made ≡ kind_of kind) × IsKind kind) }
 {
     match kind {
         INT => Some(Kind::Int),
@@ -97,7 +103,11 @@ pub fn read_kind(kind: u32) -> Option<Kind>
 }
 
 fn read_kinds(alloc: Global, kinds: &[u32]) -> Result<Vec<Kind>, Unread>
-    ensures { IfOk result (λ made. made.items ≡ map kind_of kinds.now) }
+    ensures ok { IfOk result (λ made. made.items ≡ map kind_of kinds.now) }
+    ensures readable { OnOk result (All IsKind kinds.now) }
+    ensures fault { IfErr result
+        (λ why. (why ≡ Unread.NoMemory)
+        ⊎ ((why ≡ Unread.BadArgument) × FirstFault KindFault IsKind kinds.now why)) }
 {
     let mut made = Vec::new(alloc);
     for kind in kinds {

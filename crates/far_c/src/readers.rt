@@ -1,11 +1,12 @@
 // What a table is, and what it holds.
-ghost use Rattle.std.specs.Prelude.{◌≡◌, ◌≢◌, ◌≤◌, [], ◌∷◌, None, Some, length, option_map, slice_get, IsSomeAnd};
-ghost use Rattle.far_rows.specs.Moving.{object_at};
+ghost use Rattle.std.specs.Prelude.{◌≡◌, ◌≢◌, ◌≤◌, [], None, Some, length, option_map, slice_get, IsSomeAnd};
+ghost use Rattle.far_rows.specs.Moving.{object_at, object_refusal};
 ghost use Rattle.far_frame.specs.Objects.{space_at, state_of};
 ghost use Rattle.far_c.specs.Contents.{number_of};
 ghost use Rattle.far_c.specs.Opening.{kind_of, limits_of};
-ghost use Rattle.far_c.specs.Outcomes.{IsRejected};
+ghost use Rattle.far_c.specs.Outcomes.{Behind, IsDue, IsRefusal, IsRejected, IsRejectedFor, IsUnfit};
 ghost use Rattle.far_c.specs.Reading.{AreDetailsOf, IsObjectOf, IsSpaceOf};
+ghost use Rattle.far_c.specs.Unreadable.{IsKind};
 
 use crate::cell::{INT, TEXT};
 use crate::code::{BAD_ARGUMENT, CLOSED, OK};
@@ -17,7 +18,8 @@ use far_types::{Kind, Refusal};
 /// Writes how many places there are, removed rows among them.
 #[unsafe(no_mangle)]
 pub extern "C" fn fc_places(handle: &mut Handle, places: &mut u32) -> u32
-    ensures places { result ≡ 0 → IsSomeAnd handle.old.table (λ old. places.new ≡ length old.world.state.table.places) }
+    ensures places { result ≡ 0
+        → IsSomeAnd handle.old.table (λ old. places.new ≡ length old.world.state.table.places) }
     ensures closed { result ≢ 0 → (result ≡ 100) × (handle.old.table ≡ None) }
     ensures same { handle.new.table ≡ handle.old.table }
 {
@@ -32,7 +34,8 @@ pub extern "C" fn fc_places(handle: &mut Handle, places: &mut u32) -> u32
 /// Writes how many columns there are.
 #[unsafe(no_mangle)]
 pub extern "C" fn fc_columns(handle: &mut Handle, columns: &mut u32) -> u32
-    ensures columns { result ≡ 0 → IsSomeAnd handle.old.table (λ old. columns.new ≡ length old.world.state.table.schema) }
+    ensures columns { result ≡ 0
+        → IsSomeAnd handle.old.table (λ old. columns.new ≡ length old.world.state.table.schema) }
     ensures closed { result ≢ 0 → (result ≡ 100) × (handle.old.table ≡ None) }
     ensures same { handle.new.table ≡ handle.old.table }
 {
@@ -47,8 +50,11 @@ pub extern "C" fn fc_columns(handle: &mut Handle, columns: &mut u32) -> u32
 /// Writes the kind of a column.
 #[unsafe(no_mangle)]
 pub extern "C" fn fc_kind_of(handle: &mut Handle, column: u32, kind: &mut u32) -> u32
-    ensures kind { result ≡ 0 → IsSomeAnd handle.old.table (λ old. slice_get old.world.state.table.schema column ≡ Some (kind_of kind.new)) }
-    ensures none { result ≡ 4 → IsSomeAnd handle.old.table (λ old. slice_get old.world.state.table.schema column ≡ None) }
+    ensures kind { result ≡ 0
+        → IsSomeAnd handle.old.table
+        (λ old. slice_get old.world.state.table.schema column ≡ Some (kind_of kind.new)) }
+    ensures none { result ≡ 4
+        → IsSomeAnd handle.old.table (λ old. slice_get old.world.state.table.schema column ≡ None) }
     ensures same { result ≢ 4 → handle.new.table ≡ handle.old.table }
 {
     let Some(table) = handle.table() else {
@@ -67,7 +73,8 @@ pub extern "C" fn fc_kind_of(handle: &mut Handle, column: u32, kind: &mut u32) -
 /// Writes the limits of the table.
 #[unsafe(no_mangle)]
 pub extern "C" fn fc_limits_of(handle: &mut Handle, limits: &mut FcLimits) -> u32
-    ensures limits { result ≡ 0 → IsSomeAnd handle.old.table (λ old. limits_of limits.new ≡ old.world.state.table.limits) }
+    ensures limits { result ≡ 0
+        → IsSomeAnd handle.old.table (λ old. limits_of limits.new ≡ old.world.state.table.limits) }
     ensures closed { result ≢ 0 → (result ≡ 100) × (handle.old.table ≡ None) }
     ensures same { handle.new.table ≡ handle.old.table }
 {
@@ -100,7 +107,14 @@ pub extern "C" fn fc_object_of(
     group: u32,
     object: &mut FcObject,
 ) -> u32
-    ensures object { result ≡ 0 → IsSomeAnd handle.old.table (λ old. IsSomeAnd (option_map (state_of number_of old.world.state.rows) (object_at old.world.state.rows column group)) (λ state. IsObjectOf state object.new)) }
+    ensures object { result ≡ 0
+        → IsSomeAnd handle.old.table
+        (λ old. IsSomeAnd
+        (option_map (state_of number_of old.world.state.rows)
+        (object_at old.world.state.rows column group)) (λ state. IsObjectOf state object.new)) }
+    ensures refused { IsRefusal result
+        → Behind (IsDue (λ old. object_refusal old.world.state.rows column group) result)
+        handle.old.table handle.new.table }
     ensures rejected { 100 ≤ result → IsRejected [] result handle.old.table handle.new.table }
 {
     let Some(table) = handle.table() else {
@@ -134,8 +148,12 @@ pub struct FcSpace {
 /// Writes the space of the local region of a kind.
 #[unsafe(no_mangle)]
 pub extern "C" fn fc_space_of(handle: &mut Handle, kind: u32, space: &mut FcSpace) -> u32
-    ensures space { result ≡ 0 → IsSomeAnd handle.old.table (λ old. IsSpaceOf (space_at old.world.state (kind_of kind)) space.new) }
-    ensures rejected { result ≢ 0 → IsRejected (103 ∷ []) result handle.old.table handle.new.table }
+    ensures space { result ≡ 0
+        → IsSomeAnd handle.old.table
+        (λ old. IsSpaceOf (space_at old.world.state (kind_of kind)) space.new) }
+    ensures kind { result ≡ 0 → IsKind kind }
+    ensures rejected { result ≢ 0
+        → IsRejectedFor (IsUnfit (IsKind kind)) result handle.old.table handle.new.table }
     ensures same { handle.new.table ≡ handle.old.table }
 {
     let Some(table) = handle.table() else {
@@ -155,7 +173,8 @@ pub extern "C" fn fc_space_of(handle: &mut Handle, kind: u32, space: &mut FcSpac
 /// Writes how many faults were counted since the table was opened.
 #[unsafe(no_mangle)]
 pub extern "C" fn fc_faults(handle: &mut Handle, faults: &mut u64) -> u32
-    ensures faults { result ≡ 0 → IsSomeAnd handle.old.table (λ old. faults.new ≡ old.world.faults) }
+    ensures faults { result ≡ 0
+        → IsSomeAnd handle.old.table (λ old. faults.new ≡ old.world.faults) }
     ensures closed { result ≢ 0 → (result ≡ 100) × (handle.old.table ≡ None) }
     ensures same { handle.new.table ≡ handle.old.table }
 {
@@ -179,7 +198,8 @@ pub struct FcDetails {
 /// Writes the last refusal of a call with this handle.
 #[unsafe(no_mangle)]
 pub extern "C" fn fc_last_refusal(handle: &mut Handle, details: &mut FcDetails) -> u32
-    ensures details { result ≡ 0 → IsSomeAnd handle.old.table (λ old. AreDetailsOf old.refusal details.new) }
+    ensures details { result ≡ 0
+        → IsSomeAnd handle.old.table (λ old. AreDetailsOf old.refusal details.new) }
     ensures closed { result ≢ 0 → (result ≡ 100) × (handle.old.table ≡ None) }
     ensures same { handle.new.table ≡ handle.old.table }
 {

@@ -1,9 +1,20 @@
 // Replies, apart into what they give and why they refuse.
 ghost use Rattle.std.specs.Prelude.{◌≡◌, IfOk, IfErr, OnOk};
-ghost use Rattle.far_c.specs.Replies.{GivesDone, GivesPlace, GivesAggregate, GivesAnswer, GivesJob, GivesNext};
+ghost use Rattle.far_c.specs.Replies.{IsRefusedReply, GivesDone, GivesPlace, GivesAggregate, GivesAnswer, GivesJob, GivesNext};
 
 use far_frame::Reply;
 use far_types::{Answer, Refusal};
+
+// Why a step was refused.
+fn refusal(reply: Reply) -> Refusal
+    requires { IsRefusedReply reply }
+    ensures { reply ≡ Reply.Refused result }
+{
+    match reply {
+        Reply::Refused(why) => why,
+        _ => unreachable!(),
+    }
+}
 
 pub fn done(reply: Reply) -> Result<(), Refusal>
     requires { GivesDone reply }
@@ -12,8 +23,7 @@ pub fn done(reply: Reply) -> Result<(), Refusal>
 {
     match reply {
         Reply::Done => Ok(()),
-        Reply::Refused(why) => Err(why),
-        _ => unreachable!(),
+        other => Err(refusal(other)),
     }
 }
 
@@ -24,8 +34,7 @@ pub fn place(reply: Reply) -> Result<u32, Refusal>
 {
     match reply {
         Reply::Place(place) => Ok(place),
-        Reply::Refused(why) => Err(why),
-        _ => unreachable!(),
+        other => Err(refusal(other)),
     }
 }
 
@@ -36,8 +45,7 @@ pub fn aggregate(reply: Reply) -> Result<u32, Refusal>
 {
     match reply {
         Reply::Aggregate(a) => Ok(a),
-        Reply::Refused(why) => Err(why),
-        _ => unreachable!(),
+        other => Err(refusal(other)),
     }
 }
 
@@ -48,8 +56,7 @@ pub fn answer(reply: Reply) -> Result<Answer, Refusal>
 {
     match reply {
         Reply::Answer(answer) => Ok(answer),
-        Reply::Refused(why) => Err(why),
-        _ => unreachable!(),
+        other => Err(refusal(other)),
     }
 }
 
@@ -60,8 +67,7 @@ pub fn job(reply: Reply) -> Result<u64, Refusal>
 {
     match reply {
         Reply::Job(job) => Ok(job),
-        Reply::Refused(why) => Err(why),
-        _ => unreachable!(),
+        other => Err(refusal(other)),
     }
 }
 
@@ -72,7 +78,6 @@ pub fn next(reply: Reply) -> Result<Vec<u32>, Refusal>
 {
     match reply {
         Reply::Next(groups) => Ok(groups),
-        Reply::Refused(why) => Err(why),
-        _ => unreachable!(),
+        other => Err(refusal(other)),
     }
 }

@@ -44,7 +44,8 @@ impl SortedAnswer {
 
     /// Returns the index of the line with this key, or `None` if no line has it.
     pub fn index_of(&self, key: CellRef<'_>) -> Option<usize>
-        ensures { MatchOption result (IsNoKeyOf (keys_of self.now) (key_of (lent_cell key.entry))) (λ index. IsKeyAt (keys_of self.now) index (key_of (lent_cell key.entry))) }
+        ensures { MatchOption result (IsNoKeyOf (keys_of self.now) (key_of (lent_cell key.entry)))
+            (λ index. IsKeyAt (keys_of self.now) index (key_of (lent_cell key.entry))) }
     {
         match &self.answer {
             Answer::Totals(lines) => total_at(lines.as_slice(), key),
@@ -55,14 +56,16 @@ impl SortedAnswer {
 
 fn total_at(lines: &[(Option<Key>, u64, i128)], key: CellRef<'_>) -> Option<usize>
     requires { Ascend (keys_in lines.now) }
-    ensures { MatchOption result (IsNoKeyOf (keys_in lines.now) (key_of (lent_cell key.entry))) (λ index. IsKeyAt (keys_in lines.now) index (key_of (lent_cell key.entry))) }
+    ensures { MatchOption result (IsNoKeyOf (keys_in lines.now) (key_of (lent_cell key.entry)))
+        (λ index. IsKeyAt (keys_in lines.now) index (key_of (lent_cell key.entry))) }
 {
     lines.binary_search_by(|line| compared(&line.0, key)).ok()
 }
 
 fn extrema_at(lines: &[(Option<Key>, i64, i64)], key: CellRef<'_>) -> Option<usize>
     requires { Ascend (keys_in lines.now) }
-    ensures { MatchOption result (IsNoKeyOf (keys_in lines.now) (key_of (lent_cell key.entry))) (λ index. IsKeyAt (keys_in lines.now) index (key_of (lent_cell key.entry))) }
+    ensures { MatchOption result (IsNoKeyOf (keys_in lines.now) (key_of (lent_cell key.entry)))
+        (λ index. IsKeyAt (keys_in lines.now) index (key_of (lent_cell key.entry))) }
 {
     lines.binary_search_by(|line| compared(&line.0, key)).ok()
 }

@@ -1,6 +1,9 @@
 // Aggregates as C passes them.
-ghost use Rattle.std.specs.Prelude.{◌≡◌, ◌==◌, IfOk, IfSome, map, cond};
+ghost use Rattle.std.specs.Prelude.{◌≡◌, ◌==◌, ◌<◌, ◌≤◌, IfErr, IfOk, OnOk, map, cond};
+ghost use Rattle.std.specs.List.{All};
+ghost use Rattle.std.specs.Option.{MatchOption};
 ghost use Rattle.far_c.specs.Specs.{fold_of, key_of, op_of, spec_of, test_of};
+ghost use Rattle.far_c.specs.Unreadable.{FirstFault, IsReadableSpec, IsReadableTest, SpecFault, TestFault};
 
 use crate::unread::Unread;
 use far_types::{Filter, Fold, Op, Refusal, Spec, Test};
@@ -39,7 +42,9 @@ const TEXT_BEGINS: u32 = 7;
 
 impl<'a> FcTest<'a> {
     fn read(&self, alloc: Global) -> Result<Test, Unread>
-        ensures { IfOk result (λ test. test ≡ test_of self.now) }
+        ensures ok { IfOk result (λ test. test ≡ test_of self.now) }
+        ensures readable { OnOk result (IsReadableTest self.now) }
+        ensures fault { IfErr result (TestFault self.now) }
     {
         let column = self.column;
         if self.op != TEXT_IS && self.op != TEXT_BEGINS {
@@ -69,7 +74,7 @@ impl<'a> FcTest<'a> {
 
 // The comparison of a number.
 fn read_op(op: u32) -> Option<Op>
-    ensures { IfSome result (λ made. made ≡ op_of op) }
+    ensures { MatchOption result (5 < op) (λ made. (made ≡ op_of op) × (op ≤ 5)) }
 {
     match op {
         0 => Some(Op::Eq),
@@ -83,7 +88,7 @@ fn read_op(op: u32) -> Option<Op>
 }
 
 fn read_fold(fold: u32) -> Option<Fold>
-    ensures { IfSome result (λ made. made ≡ fold_of fold) }
+    ensures { MatchOption result (1 < fold) (λ made. (made ≡ fold_of fold) × (fold ≤ 1)) }
 {
     match fold {
         TOTALS => Some(Fold::Totals),
@@ -95,7 +100,9 @@ fn read_fold(fold: u32) -> Option<Fold>
 impl<'a> FcSpec<'a> {
     /// Copies the aggregate for a table.
     pub fn read(&self, alloc: Global) -> Result<Spec, Unread>
-        ensures { IfOk result (λ spec. spec ≡ spec_of self.now) }
+        ensures ok { IfOk result (λ spec. spec ≡ spec_of self.now) }
+        ensures readable { OnOk result (IsReadableSpec self.now) }
+        ensures fault { IfErr result (SpecFault self.now) }
     {
         let Some(fold) = read_fold(self.fold) else {
             return Err(Unread::BadArgument);
@@ -111,7 +118,9 @@ impl<'a> FcSpec<'a> {
 }
 
 fn read_tests(alloc: Global, tests: &[FcTest<'_>]) -> Result<Vec<Test>, Unread>
-    ensures { IfOk result (λ made. made.items ≡ map test_of tests.now) }
+    ensures ok { IfOk result (λ made. made.items ≡ map test_of tests.now) }
+    ensures readable { OnOk result (All IsReadableTest tests.now) }
+    ensures fault { IfErr result (FirstFault TestFault IsReadableTest tests.now) }
 {
     let mut made = Vec::new(alloc);
     for test in tests {

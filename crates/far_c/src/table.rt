@@ -131,6 +131,22 @@ impl Table {
         }
     }
 
+    /// Ends a call with this outcome, as `end` does, and writes what it gives.
+    pub fn give<T: Copy>(&mut self, outcome: Result<T, Refusal>, to: &mut T) -> u32
+        ensures ok { IfOk outcome
+            (λ given. (result ≡ 0) × (to.new ≡ given) × (self.new ≡ self.old)) }
+        ensures code { IfErr outcome (λ why. result ≡ refusal_number why) }
+        ensures kept { IfErr outcome (λ why. self.new ≡ refused_with self.old why) }
+        ensures number { OnErr outcome (IsRefusal result × (to.new ≡ to.old)) }
+    {
+        let given = match outcome {
+            Ok(given) => given,
+            Err(refusal) => return self.refuse(refusal),
+        };
+        *to = given;
+        OK
+    }
+
     /// Ends a call whose arguments cannot be read.
     pub fn turn_away(&mut self, why: Unread) -> u32
         ensures { IsTurnedAway why result self.old self.new }

@@ -1,5 +1,5 @@
 // Jobs, and the contents that go to the calling program and come back.
-ghost use Rattle.std.specs.Prelude.{◌≡◌, ◌+◌, ◌<◌, ◌^◌, [], ◌∷◌, None, Some, IfErr, IfOk, OnErr, OnOk};
+ghost use Rattle.std.specs.Prelude.{◌≡◌, ◌+◌, ◌<◌, ◌≤◌, ◌^◌, [], ◌∷◌, None, Some, IfErr, IfOk, OnErr, OnOk, length};
 ghost use Rattle.far_store.specs.Faults.{faults_in, faults_of};
 ghost use Rattle.far_rows.specs.Moving.{object_refusal};
 ghost use Rattle.far_table.specs.Recounting.{IsAnswerNow};
@@ -21,6 +21,8 @@ use std::mem;
 
 impl Table {
     ghost use Rattle.far_c.specs.Carrying.{OnWorld};
+    ghost use Rattle.far_c.specs.Delivering.{WhyNoCopy, WhyNotTaken};
+    ghost use Rattle.far_c.specs.Parts.{IsPartLent};
     ghost use Rattle.far_c.specs.Outcomes.{IsServed};
     ghost use Rattle.far_c.specs.Replies.{GivesDone};
 
@@ -35,15 +37,20 @@ impl Table {
 
     /// Begins to evict the coldest object, as [`World::begin_coldest`] does.
     pub fn begin_coldest(&mut self) -> Result<Option<u64>, Refusal>
-        ensures begun { IfOk result (λ n. OnWorld (λ old new. IsColdestBegun old n new) self.old self.new) }
-        ensures refused { IfErr result (λ why. OnWorld (λ old new. IsNotBegun None old why new) self.old self.new) }
+        ensures begun { IfOk result
+            (λ n. OnWorld (λ old new. IsColdestBegun old n new) self.old self.new) }
+        ensures refused { IfErr result
+            (λ why. OnWorld (λ old new. IsNotBegun None old why new) self.old self.new) }
     {
         self.world.begin_coldest()
     }
 
     /// Gives up the job of a number, as [`World::give_up_delivered`] does.
     pub fn give_up(&mut self, job: u64) -> Result<(), Refusal>
-        ensures given_up { OnOk result (OnWorld (λ old new. new ≡ record old { jobs = without_job old.jobs job }) self.old self.new) }
+        ensures given_up { OnOk result
+            (OnWorld
+            (λ old new. new ≡ record old { jobs = without_job old.jobs job }) self.old
+            self.new) }
         ensures refused { IfErr result (λ why. why ≡ Refusal.StaleJob) }
         ensures err { OnErr result (self.new ≡ self.old) }
     {
@@ -53,7 +60,9 @@ impl Table {
     /// Counts a fault of the storage, as [`World::fault`] does.
     pub fn fault(&mut self, job: u64) -> Refusal
         requires { self.old.world.faults < 2 ^ 62 }
-        ensures counted { OnWorld (λ old new. new ≡ record old { faults = old.faults + faults_of result }) self.old self.new }
+        ensures counted { OnWorld
+            (λ old new. new ≡ record old { faults = old.faults + faults_of result }) self.old
+            self.new }
     {
         self.world.fault(job)
     }
@@ -61,9 +70,15 @@ impl Table {
     /// Takes a content for a job, as [`World::deliver`] does.
     pub fn deliver(&mut self, job: u64, number: u64, bytes: &[u8]) -> Result<(), Refusal>
         requires few { self.old.world.faults < 2 ^ 62 }
-        requires no_collision { HasNoCollision matches content (wanted_by number_of self.old.world job number) bytes.now }
-        ensures content { OnOk result (IsContentOf content (wanted_by number_of self.old.world job number) bytes.now) }
-        ensures counted { OnWorld (λ old new. new ≡ record old { faults = old.faults + faults_in result }) self.old self.new }
+        requires no_collision { HasNoCollision matches content
+            (wanted_by number_of self.old.world job number) bytes.now }
+        ensures content { OnOk result
+            (IsContentOf content (wanted_by number_of self.old.world job number) bytes.now) }
+        ensures refused { IfErr result
+            (WhyNotTaken (wanted_by number_of self.old.world job number) bytes.now) }
+        ensures counted { OnWorld
+            (λ old new. new ≡ record old { faults = old.faults + faults_in result }) self.old
+            self.new }
     {
         self.world.deliver(job, number, bytes)
     }
@@ -71,9 +86,15 @@ impl Table {
     /// Takes the content of an object that is away, as [`World::deliver_copy`] does.
     pub fn deliver_copy(&mut self, column: u32, group: u32, bytes: &[u8]) -> Result<(), Refusal>
         requires few { self.old.world.faults < 2 ^ 62 }
-        requires no_collision { HasNoCollision matches content (copy_of self.old.world.state.rows column group) bytes.now }
-        ensures content { OnOk result (IsContentOf content (copy_of self.old.world.state.rows column group) bytes.now) }
-        ensures counted { OnWorld (λ old new. new ≡ record old { faults = old.faults + faults_in result }) self.old self.new }
+        requires no_collision { HasNoCollision matches content
+            (copy_of self.old.world.state.rows column group) bytes.now }
+        ensures content { OnOk result
+            (IsContentOf content (copy_of self.old.world.state.rows column group) bytes.now) }
+        ensures refused { IfErr result
+            (WhyNoCopy self.old.world.state.rows column group bytes.now) }
+        ensures counted { OnWorld
+            (λ old new. new ≡ record old { faults = old.faults + faults_in result }) self.old
+            self.new }
     {
         self.world.deliver_copy(column, group, bytes)
     }
@@ -83,16 +104,20 @@ impl Table {
         requires { self.old.world.faults < 2 ^ 62 }
         ensures answer { IfOk result (IsAnswerNow self.old.world.state.table aggregate) }
         ensures none { OnOk result (self.new ≡ self.old) }
-        ensures world { OnWorld (λ old new. new ≡ record old { faults = new.faults }) self.old self.new }
+        ensures world { OnWorld
+            (λ old new. new ≡ record old { faults = new.faults }) self.old self.new }
     {
         self.world.recount_alone(aggregate)
     }
 
     /// Records an access to an object, as [`World::saw`] does.
     pub fn saw(&mut self, column: u32, group: u32) -> Result<(), Refusal>
-        ensures accesses { OnOk result (AreObserved column (group ∷ []) self.old.world.state self.new.world.state) }
-        ensures world { OnWorld (λ old new. new ≡ record old { state = new.state }) self.old self.new }
-        ensures refused { IfErr result (λ why. object_refusal self.old.world.state.rows column group ≡ Some why) }
+        ensures accesses { OnOk result
+            (AreObserved column (group ∷ []) self.old.world.state self.new.world.state) }
+        ensures world { OnWorld
+            (λ old new. new ≡ record old { state = new.state }) self.old self.new }
+        ensures refused { IfErr result
+            (λ why. object_refusal self.old.world.state.rows column group ≡ Some why) }
         ensures err { OnErr result (self.new ≡ self.old) }
     {
         self.world.saw(column, group)
@@ -100,8 +125,10 @@ impl Table {
 
     /// Records that a part of a column was read, as [`World::record_lending`] does.
     pub fn record_lending(&mut self, column: u32, from: u32, to: u32) -> Result<(), Refusal>
-        ensures lent { OnOk result ((given : Reply) × IsServed (Step.Lend column from to) given self.old self.new) }
-        ensures refused { IfErr result (λ why. lend_refusal self.old.world.state.rows column from to ≡ Some why) }
+        ensures lent { OnOk result (IsPartLent column from to self.old self.new) }
+        ensures within { OnOk result (to ≤ length self.old.world.state.table.places) }
+        ensures refused { IfErr result
+            (λ why. lend_refusal self.old.world.state.rows column from to ≡ Some why) }
         ensures err { OnErr result (self.new ≡ self.old) }
     {
         self.world.record_lending(column, from, to)
@@ -111,8 +138,13 @@ impl Table {
     #[tactic(auto, using(crate::proofs::Faults::few_faults))]
     pub fn migrate(&mut self, capacity: u64) -> Result<(), Refusal>
         requires { self.old.world.faults < 2 ^ 62 }
-        ensures migrated { OnOk result (OnWorld (λ old new. IsMigratedTo content content new.store old new) self.old self.new) }
-        ensures back { IfErr result (λ why. OnWorld (λ old new. new ≡ record old { faults = old.faults + faults_of why }) self.old self.new) }
+        ensures migrated { OnOk result
+            (OnWorld
+            (λ old new. IsMigratedTo content content new.store old new) self.old self.new) }
+        ensures back { IfErr result
+            (λ why. OnWorld
+            (λ old new. new ≡ record old { faults = old.faults + faults_of why }) self.old
+            self.new) }
     {
         let store = HostStore::new(self.alloc, capacity)?;
         let old = mem::replace(&mut self.world, stand_in(self.alloc)?);

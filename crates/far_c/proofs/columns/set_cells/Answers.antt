@@ -1,7 +1,7 @@
 use Rattle.std.proofs.Common.{◌≡◌, rules, sym, subst}
 use Rattle.far_frame.specs.declared.step.Reply.TheVariants as reply
-use Rattle.far_c.specs.Columns.{IsAccepted, set_of}
-use Rattle.far_c.specs.Outcomes.{IsServed}
+use Rattle.far_c.specs.Columns.{set_of}
+use Rattle.far_c.specs.Outcomes.{IsAccepted, IsServed}
 use Rattle.far_c.proofs.InOrder.{next-served}
 use Rattle.far_c.proofs.columns.set_cells.Goals as goal
 
