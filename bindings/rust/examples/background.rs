@@ -74,7 +74,7 @@ fn main() -> Result<(), Box<dyn Error>> {
     let mut table = table.into_inner()?;
     println!("{} rows in {:.1?}", table.places(), start.elapsed());
     println!("{evicted} objects were evicted in the background");
-    println!("{:?}", table.ask(by_sku)?.get("sku 0"));
+    println!("{:?}", table.ask_key(by_sku, "sku 0")?);
     println!("{:#?}", table.stats());
     Ok(())
 }

@@ -34,6 +34,19 @@ enum StoredKey {
     Text(Range<usize>),
 }
 
+impl StoredLine {
+    /// The numbers of a line, without its key.
+    pub(crate) fn of_numbers(line: &fc_line) -> StoredLine {
+        StoredLine {
+            key: StoredKey::None,
+            count: line.count,
+            sum: sum_of(line.sum_low, line.sum_high),
+            min: line.min,
+            max: line.max,
+        }
+    }
+}
+
 impl Answer {
     pub fn clear(&mut self) {
         self.lines.clear();
@@ -66,10 +79,7 @@ impl Answer {
         };
         self.lines.push(StoredLine {
             key,
-            count: line.count,
-            sum: sum_of(line.sum_low, line.sum_high),
-            min: line.min,
-            max: line.max,
+            ..StoredLine::of_numbers(line)
         });
     }
 
@@ -109,6 +119,8 @@ pub struct Lines<'a, A> {
 
 impl<'a, A: Aggregate> Lines<'a, A> {
     /// The line of a key, if there is one among the lines that are left. It is found by halving.
+    ///
+    /// For one key, [`Table::ask_key`](crate::Table::ask_key) makes no other line.
     ///
     /// ```
     /// # use fullercoral::{Limits, Memory, Schema, Table, row, totals};

@@ -3,8 +3,8 @@ use std::marker::PhantomData;
 use std::sync::Arc;
 
 use crate::schema::sealed::Find;
-use crate::sys::{FC_EXTREMA, FC_TOTALS, fc_bytes, fc_test};
-use crate::{Kind, Refusal, Schema};
+use crate::sys::{FC_EXTREMA, FC_TOTALS, fc_bytes, fc_cell, fc_test};
+use crate::{Cell, Kind, Refusal, Schema};
 
 /// The comparison of a test: of a number with a constant, or of a text with one, by bytes.
 ///
@@ -189,6 +189,16 @@ impl<'a> Key<'a> {
             Key::Text(text) => Some(text),
             _ => None,
         }
+    }
+
+    /// The key as the library reads it.
+    pub(crate) fn raw(self) -> fc_cell {
+        match self {
+            Key::None => Cell::Missing,
+            Key::Int(number) => Cell::Int(number),
+            Key::Text(text) => Cell::Text(text),
+        }
+        .raw()
     }
 }
 

@@ -229,6 +229,12 @@ unsafe extern "C" {
     pub fn fc_ask(table: *mut fc_table, aggregate: u32, lines: *mut usize) -> u32;
     pub fn fc_recount(table: *mut fc_table, aggregate: u32, lines: *mut usize) -> u32;
     pub fn fc_line_at(table: *mut fc_table, index: usize, line: *mut fc_line) -> u32;
+    pub fn fc_ask_key(
+        table: *mut fc_table,
+        aggregate: u32,
+        key: *const fc_cell,
+        line: *mut fc_line,
+    ) -> u32;
     pub fn fc_plain(table: *mut fc_table, aggregate: u32, sum: *mut fc_sum) -> u32;
 
     pub fn fc_row(table: *mut fc_table, place: u32, cells: *mut fc_cell, cells_len: usize) -> u32;

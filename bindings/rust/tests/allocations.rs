@@ -57,6 +57,10 @@ fn calls_that_are_made_often_allocate_nothing() -> Result<(), Box<dyn std::error
         second_round(|| assert_eq!(table.ask(ends).unwrap().len(), 1)),
         0
     );
+    assert_eq!(
+        second_round(|| assert!(table.ask_key(by_sku, "rye").unwrap().is_some())),
+        0
+    );
     let rye = Some(Cell::Text("rye"));
     assert_eq!(
         second_round(|| assert_eq!(table.row(0).unwrap().get("sku"), rye)),

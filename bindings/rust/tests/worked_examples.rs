@@ -242,6 +242,32 @@ fn single_cells_and_lines_are_read() -> Outcome {
 }
 
 #[test]
+fn one_key_is_asked() -> Outcome {
+    let mut table = by_hand(Schema::new().int("n").text("t"));
+    table.extend([row![5, "a"], row![7, "b"], row![-2, "a"]])?;
+    let by_text = table.watch(totals("n").by("t"))?;
+    let ends = table.watch(extrema("n").by("t"))?;
+    let total = table.watch(totals("n"))?;
+    let none = table.watch(extrema("n").only("n", Op::Gt, 99))?;
+    let building = Refusal::Building { pending: 1 };
+    assert_eq!(refusal(table.ask_key(by_text, "a")), building);
+    table.set_policy(Policy::Demand);
+    let line = table.ask_key(by_text, "a")?.unwrap();
+    assert_eq!((line.key, line.count, line.sum), (Key::Text("a"), 2, 3));
+    let line = table.ask_key(ends, "a")?.unwrap();
+    assert_eq!((line.min, line.max), (-2, 5));
+    assert_eq!(table.ask_key(ends, "c")?, None);
+    assert_eq!(table.ask_key(by_text, 5)?, None);
+    assert_eq!(table.ask_key(by_text, Key::None)?, None);
+    let line = table.ask_key(total, Key::None)?.unwrap();
+    assert_eq!((line.count, line.sum), (3, 10));
+    assert_eq!(table.ask_key(none, Key::None)?, None);
+    table.unwatch(ends)?;
+    assert_eq!(refusal(table.ask_key(ends, "a")), Refusal::NoAggregate);
+    Ok(())
+}
+
+#[test]
 fn a_stride_of_reads_goes_on() -> Outcome {
     let limits = Limits::new().group(1);
     let mut table = Table::open(Schema::new().int("n"), limits, Memory::new())?;

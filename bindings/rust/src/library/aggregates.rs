@@ -1,6 +1,6 @@
 use super::{Coded, Library, at, done, some};
-use crate::answer::Answer;
-use crate::spec::Resolved;
+use crate::answer::{Answer, StoredLine};
+use crate::spec::{Key, Resolved};
 use crate::sys::*;
 
 impl Library {
@@ -64,6 +64,16 @@ impl Library {
             unsafe { answer.push(&line) };
         }
         Ok(())
+    }
+
+    /// Asks an aggregate for one key: the line of an answer, or none if the answer has no line with it.
+    #[inline]
+    pub fn ask_key(&mut self, aggregate: u32, key: Key<'_>) -> Coded<Option<StoredLine>> {
+        let key = key.raw();
+        let mut line = fc_line::BLANK;
+        // SAFETY: rules 1, 2 and 4; the text of the key lives until this call returns.
+        let code = unsafe { fc_ask_key(&mut self.raw, aggregate, &key, &mut line) };
+        some(code, StoredLine::of_numbers(&line))
     }
 
     /// The count and the sum of totals without a key; none if it is another aggregate, or row groups

@@ -2,9 +2,9 @@ use std::sync::atomic::{AtomicU64, Ordering};
 
 use super::work::Passing;
 use super::{Table, Watched};
-use crate::answer::Lines;
+use crate::answer::{Lines, StoredLine};
 use crate::library::{Code, Coded};
-use crate::spec::{Aggregate, Id, Resolved, Spec};
+use crate::spec::{Aggregate, Id, Key, Resolved, Spec};
 use crate::sys::{FC_BUILDING, FC_TOTALS};
 use crate::{Engine, Error, Policy, Refusal};
 
@@ -99,6 +99,55 @@ impl<E: Engine> Table<E> {
             self.ask_after(number, code)?;
         }
         Ok(self.answer.lines())
+    }
+
+    /// Asks an aggregate for one key: its line of the answer that [`ask`](Table::ask) would give, or `None` if
+    /// that has no line with this key. No other line is made, so it costs one look-up.
+    ///
+    /// Without a key column the key is [`Key::None`]. By an automatic policy the row groups that are pending
+    /// are scanned or built first, as by `ask`.
+    ///
+    /// ```
+    /// # use fullercoral::{Limits, Memory, Schema, Table, row, totals};
+    /// # let schema = Schema::new().text("sku").int("quantity");
+    /// # let mut table = Table::open(schema, Limits::new(), Memory::new())?;
+    /// let sold = table.watch(totals("quantity").by("sku"))?;
+    /// table.extend([row!["rye", 3], row!["bread", 5], row!["bread", 2]])?;
+    /// let line = table.ask_key(sold, "bread")?.unwrap();
+    /// assert_eq!((line.count, line.sum), (2, 7));
+    /// assert_eq!(table.ask_key(sold, "cake")?, None);
+    /// # Ok::<(), Box<dyn std::error::Error>>(())
+    /// ```
+    ///
+    /// # Errors
+    /// As those of [`ask`](Table::ask).
+    #[inline]
+    pub fn ask_key<'k, A: Aggregate>(
+        &mut self,
+        aggregate: A,
+        key: impl Into<Key<'k>>,
+    ) -> Result<Option<A::Line<'k>>, Error<E::Error>> {
+        let (number, key) = (self.number_of(aggregate.id())?, key.into());
+        let found = match self.library.ask_key(number, key) {
+            Ok(found) => found,
+            Err(code) => self.ask_key_after(number, key, code)?,
+        };
+        Ok(found.map(|line| A::line(key, &line)))
+    }
+
+    #[cold]
+    fn ask_key_after(
+        &mut self,
+        number: u32,
+        key: Key<'_>,
+        code: Code,
+    ) -> Result<Option<StoredLine>, Error<E::Error>> {
+        if code.0 == FC_BUILDING && self.policy != Policy::Manual {
+            self.build_pending(number)?;
+            let asked = self.library.ask_key(number, key);
+            return self.outcome(asked);
+        }
+        self.outcome(Err(code))
     }
 
     fn ask_into_answer(&mut self, number: u32) -> Coded<()> {

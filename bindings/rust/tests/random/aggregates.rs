@@ -86,9 +86,35 @@ where
             }),
         };
         match lines {
-            Reply::Value(lines) => assert_eq!(lines, due),
+            Reply::Value(lines) => {
+                assert_eq!(lines, due);
+                if !anew {
+                    self.ask_keys(number, handle);
+                }
+            }
             Reply::Fault => assert!(!self.manual()),
             Reply::Refused(number) => assert!(self.manual() && (15..17).contains(&number)),
+        }
+    }
+
+    // Each line of the answer is the one that an ask of its key alone gives.
+    fn ask_keys(&mut self, number: usize, handle: Handle) {
+        let table = &mut self.table;
+        self.plain
+            .answer(number, |due: PlainLine<'_>| match handle {
+                Handle::Totals(totals) => {
+                    let line = table.ask_key(totals, due.key).unwrap().unwrap();
+                    assert_eq!((line.count, line.sum), (due.count, due.sum));
+                }
+                Handle::Extrema(extrema) => {
+                    let line = table.ask_key(extrema, due.key).unwrap().unwrap();
+                    assert_eq!((line.min, line.max), (due.min, due.max));
+                }
+            });
+        let absent = fullercoral::Key::Text("\u{1}no key");
+        match handle {
+            Handle::Totals(it) => assert_eq!(table.ask_key(it, absent).unwrap(), None),
+            Handle::Extrema(it) => assert_eq!(table.ask_key(it, absent).unwrap(), None),
         }
     }
 
