@@ -1,12 +1,13 @@
-"""Reads the lines of the answer that stays in a table's handle.
+"""Reads the lines of the answer that stays in a table's handle, and the line of one key.
 
 A line's key is lent until the next call, so a line costs a call, and a text as its key one more,
-which copies it. What both read and write is prepared once.
+which copies it. The line of one key is asked for by one call, which makes no other line. What they
+read and write is prepared once.
 """
 
 from __future__ import annotations
 
-from ctypes import byref, c_size_t
+from ctypes import byref
 from struct import Struct
 from typing import Any, Callable
 
@@ -14,7 +15,6 @@ from . import _header as header
 from ._buffers import BYTES_AT
 from ._handle import EMPTY_AT, Handle
 from ._lent import lent_text
-from .errors import Nothing
 
 _KEY_AT, _KEY_LEN, _KEY_NUMBER = 0, 1, 2  # words of a line
 _TOTALS = Struct(f"{header.LineStruct.count.offset}xQQq")  # count, and the sum in two halves
@@ -43,28 +43,34 @@ class LineReader:
         wanted = header.Cell(0, b"", 0, header.TEXT if key is str else header.INT)
         self._wanted_at = byref(wanted)
         self._wanted_words = memoryview(wanted).cast("B").cast("q")
-        self._index = c_size_t()
-        self._index_at = byref(self._index)
+        self._missing_at = byref(header.Cell(0, b"", 0, header.MISSING))
         self._fc_line_at = handle.lib.short("fc_line_at")
-        self._fc_find = handle.lib.short("fc_find")
+        self._fc_ask_key = handle.lib.short("fc_ask_key")
 
-    def find(self, key: Any) -> Any:
-        """Returns the line of a key of the answer's kind; None if there is none."""
-        words = self._wanted_words
+    def ask(self, number: int, key: Any) -> int:
+        """Asks an aggregate for the line of a key of its kind, and returns the code of the call.
+
+        None is the key of an aggregate without key column.
+        """
+        words, wanted_at = self._wanted_words, self._wanted_at
         try:
             if self._key is str:
                 text = str.encode(key)
                 words[1], words[2] = id(text) + BYTES_AT, len(text)
-            else:
+            elif self._key is int:
                 words[0] = key
+            else:
+                wanted_at = self._missing_at
         except ValueError:
-            return None  # no column holds such a value
-        code = self._fc_find(self._at, self._wanted_at, self._index_at)
-        if code:
-            if code == Nothing.number:
-                return None
-            raise self._handle.refusal(code)
-        self._read(self._index.value)
+            wanted_at = self._missing_at  # no column holds such a value, and no line has this key
+        line = self._words
+        line[_KEY_AT] = EMPTY_AT
+        line[_KEY_LEN] = 0
+        code: int = self._fc_ask_key(self._at, number, wanted_at, self._line_at)
+        return code
+
+    def asked(self) -> Any:
+        """Returns the line that the last ask for a key wrote."""
         return self._made_of([self._unpack(self._bytes)])[0]
 
     def first(self, count: int) -> list[tuple[Any, Any]]:
@@ -84,14 +90,6 @@ class LineReader:
             keys.append(key_of())
             numbers.append(unpack(bytes_))
         return list(zip(keys, self._made_of(numbers)))
-
-    def _read(self, index: int) -> None:
-        words = self._words
-        words[_KEY_AT] = EMPTY_AT
-        words[_KEY_LEN] = 0
-        code = self._fc_line_at(self._at, index, self._line_at)
-        if code:
-            raise self._handle.refusal(code)
 
     def _no_key(self) -> None:
         return None

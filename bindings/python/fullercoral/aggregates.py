@@ -202,7 +202,7 @@ class Watched(Generic[Line]):
                 if not self._fc_plain(self._at, self._number, self._sum_at):
                     of = self._sum
                     return Total(of.count, (of.sum_high << 64) + of.sum_low)
-            return self._lines.first(1)[0][1] if self._ask() else None
+            return self._line_of(None)
 
     def _need_no_key(self) -> None:
         if self.spec.by is not None:
@@ -249,9 +249,20 @@ class Watched(Generic[Line]):
         if not isinstance(key, self._key_kind):
             return default
         with self.table._lock:
-            self._ask()
-            found = self._lines.find(key)
+            found = self._line_of(key)
             return default if found is None else found
+
+    def _line_of(self, key: Key | None) -> Any:
+        """Returns the line of one key, and makes no other; None if there is none."""
+        number, lines = self.number, self._lines
+        code = lines.ask(number, key)
+        if code and code != Nothing.number:
+            self.table._build_for(self, code)
+            code = lines.ask(number, key)
+        if code == Nothing.number:
+            return None
+        self._handle.check(code)
+        return lines.asked()
 
     def _ask(self) -> int:
         """Has the answer stay in the handle, unless it is there; returns how many lines it has."""

@@ -38,6 +38,26 @@ def filled(rows: int = 200, **options: Any) -> fc.Table:
 
 
 class Aggregates(unittest.TestCase):
+    def test_one_key_is_asked_alone(self) -> None:
+        with filled() as table:
+            sold = table.watch(fc.totals("quantity", by="sku"))
+            ends = table.watch(fc.extrema("quantity", by="quantity"))
+            low = table.watch(fc.extrema("quantity", where=[("quantity", "<", 0)]))
+            self.assertEqual(sold["sku1"], (40, sum(range(1, 200, 5))))
+            self.assertEqual((ends[7], ends.get(-1), low.value), ((7, 7), None, None))
+            table.set(7, "quantity", -7)
+            self.assertEqual((ends.get(7), ends[-7], low.value), (None, (-7, -7), (-7, -7)))
+            for absent in ("sku", "sku10", "", "a" * 5000, "\ud800", "\0"):
+                self.assertIsNone(sold.get(absent))
+            for absent in (1 << 63, -(1 << 63) - 1, 200):
+                self.assertNotIn(absent, ends)
+            self.assertIsNone(table._answer)  # no answer was made
+            self.assertEqual(sold.to_dict()["sku1"], sold["sku1"])
+            ends.unwatch()
+            for call in (lambda: ends[7], lambda: ends.get(1 << 63)):
+                with self.assertRaises(errors.NoAggregate):
+                    call()
+
     def test_all_kinds(self) -> None:
         with fc.Table(KINDS, local="1MB") as table:
             sold = table.watch(fc.totals("quantity", by="sku", where=[("quantity", ">", 0)]))
