@@ -6,7 +6,7 @@ use Rattle.far_groups.specs.Live.{CanJoin}
 use Rattle.far_groups.specs.CountSums.{AreCountSums}
 use Rattle.far_groups.specs.ByKey.{in_form, totals_in}
 use Rattle.far_groups.proofs.ByKeyLaws.{count_sum_there, plain_capacity, plain_joined}
-use Rattle.far_groups.proofs.by_key.join.Goals as goal
+use Rattle.far_groups.proofs.by_key.joining.join.Goals as goal
 
 pub add_under-requires-clause-more_valid_sums : goal.add_under-requires-clause-more_valid_sums
 add_under-requires-clause-more_valid_sums c =

@@ -1,7 +1,7 @@
 use Rattle.std.proofs.Common.{rules, ◌≡◌, length}
 use Rattle.far_groups.specs.ByKey.{totals_in}
 use Rattle.far_groups.proofs.ByKeyLaws.{joined_none}
-use Rattle.far_groups.proofs.by_key.join_numbers.Goals as goal
+use Rattle.far_groups.proofs.by_key.joining.join_numbers.Goals as goal
 
 pub returns-then-is_empty-clause-ok : goal.returns-then-is_empty-clause-ok
 returns-then-is_empty-clause-ok c =

@@ -1,0 +1,125 @@
+// Counts and sums by key that are joined, whatever forms both have.
+ghost use Rattle.std.specs.Prelude.{◌≡◌, OnOk, OnErr, IfOk, IfErr};
+ghost use Rattle.far_types.specs.Effects.{joined_totals};
+ghost use Rattle.far_groups.specs.Live.{CanJoin};
+ghost use Rattle.far_groups.specs.CountSums.{totals_of, AreCountSums};
+ghost use Rattle.far_groups.specs.Numbers.{by_number};
+ghost use Rattle.far_groups.specs.Dense.{by_place};
+ghost use Rattle.far_groups.specs.ByKey.{totals_in};
+
+use super::{ByKey, Form, add_under, keyed_plain};
+use crate::count_sums::CountSums;
+use crate::dense::{self, Dense, numbers_of};
+use crate::joins::join_all;
+use crate::numbers::{self, Numbers, keyed};
+use far_types::Refusal;
+use std::alloc::Global;
+
+/// Joins another tree of keys to a tree of keys.
+fn with_keys(alloc: Global, mut keys: CountSums, more: &CountSums) -> Result<CountSums, Refusal>
+    requires valid_sums { AreCountSums (totals_of keys.entries) }
+    requires other_valid_sums { AreCountSums (totals_of more.now.entries) }
+    requires can_join { CanJoin (totals_of keys.entries) (totals_of more.now.entries) }
+    ensures ok { IfOk result (λ all. totals_of all.entries ≡ joined_totals (totals_of keys.entries) (totals_of more.now.entries)) }
+    ensures valid_sums { IfOk result (λ all. AreCountSums (totals_of all.entries)) }
+    ensures memory { IfErr result (λ e. e ≡ Refusal.NoMemory) }
+{
+    join_all(alloc, &mut keys, more)?;
+    Ok(keys)
+}
+
+/// Joins a tree of keys to these counts and sums.
+fn join_keys(by_key: &mut ByKey, more: &CountSums) -> Result<(), Refusal>
+    requires valid_sums { AreCountSums (totals_in by_key.old) }
+    requires other_valid_sums { AreCountSums (totals_of more.now.entries) }
+    requires can_join { CanJoin (totals_in by_key.old) (totals_of more.now.entries) }
+    ensures valid_sums { AreCountSums (totals_in by_key.new) }
+    ensures ok { OnOk result (totals_in by_key.new ≡ joined_totals (totals_in by_key.old) (totals_of more.now.entries)) }
+    ensures err { OnErr result (totals_in by_key.new ≡ totals_in by_key.old) }
+    ensures memory { IfErr result (λ e. e ≡ Refusal.NoMemory) }
+{
+    match &mut by_key.form {
+        Form::Plain(count_sum) => {
+            let keys = keyed_plain(by_key.alloc, *count_sum)?;
+            by_key.form = Form::Keyed(with_keys(by_key.alloc, keys, more)?);
+            Ok(())
+        }
+        Form::Dense(dense) => {
+            let numbers = numbers_of(by_key.alloc, dense)?;
+            let keys = keyed(by_key.alloc, &numbers)?;
+            by_key.form = Form::Keyed(with_keys(by_key.alloc, keys, more)?);
+            Ok(())
+        }
+        Form::Numbered(numbers) => {
+            let keys = keyed(by_key.alloc, numbers)?;
+            by_key.form = Form::Keyed(with_keys(by_key.alloc, keys, more)?);
+            Ok(())
+        }
+        Form::Keyed(keys) => join_all(by_key.alloc, keys, more),
+    }
+}
+
+/// Joins a tree of numbers to these counts and sums.
+fn join_numbers(by_key: &mut ByKey, more: &Numbers) -> Result<(), Refusal>
+    requires valid_sums { AreCountSums (totals_in by_key.old) }
+    requires other_valid_sums { AreCountSums (by_number more.now.entries) }
+    requires can_join { CanJoin (totals_in by_key.old) (by_number more.now.entries) }
+    ensures valid_sums { AreCountSums (totals_in by_key.new) }
+    ensures ok { OnOk result (totals_in by_key.new ≡ joined_totals (totals_in by_key.old) (by_number more.now.entries)) }
+    ensures err { OnErr result (totals_in by_key.new ≡ totals_in by_key.old) }
+    ensures memory { IfErr result (λ e. e ≡ Refusal.NoMemory) }
+{
+    if more.is_empty() {
+        return Ok(());
+    }
+    match &mut by_key.form {
+        Form::Dense(dense) => {
+            let mut numbers = numbers_of(by_key.alloc, dense)?;
+            numbers::join(&mut numbers, more)?;
+            by_key.form = Form::Numbered(numbers);
+            Ok(())
+        }
+        Form::Numbered(numbers) => numbers::join(numbers, more),
+        _ => {
+            let keys = keyed(by_key.alloc, more)?;
+            join_keys(by_key, &keys)
+        }
+    }
+}
+
+/// Joins a list by small number to these counts and sums.
+fn join_dense(by_key: &mut ByKey, more: &Dense) -> Result<(), Refusal>
+    requires valid_sums { AreCountSums (totals_in by_key.old) }
+    requires other_valid_sums { AreCountSums (by_place more.now.items) }
+    requires can_join { CanJoin (totals_in by_key.old) (by_place more.now.items) }
+    ensures valid_sums { AreCountSums (totals_in by_key.new) }
+    ensures ok { OnOk result (totals_in by_key.new ≡ joined_totals (totals_in by_key.old) (by_place more.now.items)) }
+    ensures err { OnErr result (totals_in by_key.new ≡ totals_in by_key.old) }
+    ensures memory { IfErr result (λ e. e ≡ Refusal.NoMemory) }
+{
+    match &mut by_key.form {
+        Form::Dense(dense) => dense::join(dense, more),
+        _ => {
+            let numbers = numbers_of(by_key.alloc, more)?;
+            join_numbers(by_key, &numbers)
+        }
+    }
+}
+
+/// Joins other counts and sums to these.
+pub fn join(by_key: &mut ByKey, other: &ByKey) -> Result<(), Refusal>
+    requires valid_sums { AreCountSums (totals_in by_key.old) }
+    requires other_valid_sums { AreCountSums (totals_in other.now) }
+    requires can_join { CanJoin (totals_in by_key.old) (totals_in other.now) }
+    ensures valid_sums { AreCountSums (totals_in by_key.new) }
+    ensures ok { OnOk result (totals_in by_key.new ≡ joined_totals (totals_in by_key.old) (totals_in other.now)) }
+    ensures err { OnErr result (totals_in by_key.new ≡ totals_in by_key.old) }
+    ensures memory { IfErr result (λ e. e ≡ Refusal.NoMemory) }
+{
+    match &other.form {
+        Form::Plain(count_sum) => add_under(by_key, &None, *count_sum),
+        Form::Dense(more) => join_dense(by_key, more),
+        Form::Numbered(more) => join_numbers(by_key, more),
+        Form::Keyed(more) => join_keys(by_key, more),
+    }
+}
