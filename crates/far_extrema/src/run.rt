@@ -29,7 +29,16 @@ impl Model for Run {
 }
 
 /// Returns the place of a row group, or the place at which it would stand.
-pub fn place_of(groups: &[u32], group: u32) -> Result<usize, usize>
+pub fn search(groups: &[u32], group: u32) -> Result<usize, usize>
+    requires { RiseFrom 0 groups.now }
+    ensures found { IfOk result (IsAt groups.now group) }
+    ensures absent { IfErr result (IsGap groups.now group) }
+{
+    groups.binary_search(&group)
+}
+
+/// Returns what `search` does, at once for a row group after all others. Most new ones are such.
+fn place_of(groups: &[u32], group: u32) -> Result<usize, usize>
     requires { RiseFrom 0 groups.now }
     ensures found { IfOk result (IsAt groups.now group) }
     ensures absent { IfErr result (IsGap groups.now group) }
@@ -38,7 +47,7 @@ pub fn place_of(groups: &[u32], group: u32) -> Result<usize, usize>
     if len == 0 || groups[len - 1] < group {
         return Err(len);
     }
-    groups.binary_search(&group)
+    search(groups, group)
 }
 
 /// Joins all min-maxes. Returns `None` if there is none.
@@ -172,7 +181,7 @@ impl Run {
     pub fn min_max(&self, group: u32) -> Option<MinMax>
         ensures { result ≡ at self.now.min_maxes group }
     {
-        match place_of(&self.groups, group) {
+        match search(&self.groups, group) {
             Ok(place) => Some(self.values[place]),
             Err(_) => None,
         }
@@ -212,7 +221,7 @@ impl Run {
         requires { at self.old.min_maxes group ≢ None }
         ensures { IsSet self.old.min_maxes group (Some min_max) self.new.min_maxes }
     {
-        match place_of(&self.groups, group) {
+        match search(&self.groups, group) {
             Ok(place) => {
                 let previous = self.values[place];
                 self.values[place] = min_max;
@@ -233,7 +242,7 @@ impl Run {
         requires { at self.old.min_maxes group ≢ None }
         ensures { IsSet self.old.min_maxes group None self.new.min_maxes }
     {
-        match place_of(&self.groups, group) {
+        match search(&self.groups, group) {
             Ok(place) => {
                 self.groups.remove(place);
                 let previous = self.values.remove(place);

@@ -6,7 +6,7 @@ ghost use Rattle.far_extrema.specs.Spreads.{at, IsSet, IsTopOf};
 ghost use Rattle.far_extrema.specs.Runs.{RiseFrom, IsGap, whole, AreParts, IsPart, IsReached, JoinsOthers};
 
 use super::min_max::{MinMax, either};
-use super::run::{Run, place_of};
+use super::run::{Run, search};
 use far_types::Refusal;
 use std::alloc::Global;
 use std::marker::Model;
@@ -61,7 +61,7 @@ fn part_of(firsts: &[u32], group: u32) -> Option<usize>
     ensures some { IfSome result (IsPart firsts.now group) }
     ensures none { result ≡ None → IsGap firsts.now group 0 }
 {
-    match place_of(firsts, group) {
+    match search(firsts, group) {
         Ok(place) => Some(place),
         Err(place) => { if place == 0 { None } else { Some(place - 1) } }
     }

@@ -1,5 +1,5 @@
 use Rattle.std.proofs.Common.{◌≡◌, ◌-◌, length, arith}
-use Rattle.far_extrema.proofs.RunsLaws.{searched, gap_at_end}
+use Rattle.far_extrema.proofs.RunsLaws.{gap_at_end}
 use Rattle.far_extrema.proofs.run.place_of.Goals as goal
 use Rattle.far_extrema.proofs.run.place_of.Goals.{then-len-eq0-via-then-len-eq0, then-len-eq0-via-else-len-eq0+then-groups-len}
 
@@ -10,6 +10,3 @@ returns-then-len-eq0-clause-absent c = gap_at_end c.args.groups.now c.args.group
       let last : k ≡ length c.args.groups.now - 1 = omega (arith, e) in
       grind (arith, last, w.if-groups-len)
 ])
-
-pub returns-clause-absent : goal.returns-clause-absent
-returns-clause-absent c = (searched c.args.groups.now c.args.group c.binary_search.result c.requires c.binary_search.ensures.bound c.binary_search.ensures.position).1
