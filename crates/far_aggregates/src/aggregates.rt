@@ -313,6 +313,7 @@ impl Aggregates {
     /// as it is. Once the rows have the cell, `retract` retracts those pairs. If they refuse it, `undo` undoes the deltas.
     ///
     /// Refused with `NoMemory` (1) alone. A refusal changes no answer.
+    #[inline(always)]
     pub fn change_in<R: LendCells>(
         &mut self,
         alloc: Global,
@@ -366,6 +367,7 @@ impl Aggregates {
 
     /// Looks up the pairs of a place's row that is to be removed. Once the place is dead, `retract` retracts them. If it stays
     /// alive, there is nothing to undo. Refused with `NoMemory` (1) alone. All answers are as before.
+    #[inline(always)]
     pub fn leave<R: LendCells>(
         &mut self,
         alloc: Global,
@@ -426,6 +428,7 @@ impl Aggregates {
 
     /// Retracts the pairs that the row gave before an edit, which the rows have. The row group lends its columns as they are
     /// now. Its rows are read only if the least or the greatest value of a key is retracted. Allocates nothing.
+    #[inline(always)]
     pub fn retract<G: LendGroup>(&mut self, group: &G, pending: Pending)
         requires may { MayRetractAll (G.places group.now) self.old pending }
         requires served { AreServed (G.has group.now) (registered_of self.old) }
@@ -450,6 +453,7 @@ impl Aggregates {
     }
 
     /// Does what `retract` does, if `needs_rows` returned that no rows are needed: none are lent. Allocates nothing.
+    #[inline(always)]
     pub fn retract_totals(&mut self, pending: Pending)
         requires may { (here : List Place) × MayRetractAll here self.old pending }
         requires plain { EachIsPlain self.old pending.to_retract.items }

@@ -194,6 +194,7 @@ fn apply_next<R: LendCells>(
 
 /// Applies the deltas of a row that is alive at a place to all aggregates, or to none if an allocation fails. Returns them in a
 /// list that may have been made for an earlier edit. `undo_all` undoes them.
+#[inline(always)]
 pub fn apply_deltas<R: LendCells>(
     keys: &mut SpareKeys,
     list: Vec<Option<Delta>>,

@@ -68,6 +68,7 @@ fn leave_out_each(keys: &mut SpareKeys, to_retract: &mut [Option<Pair>], deltas:
 }
 
 /// Returns the pairs to retract without those that need not be. So the min-max under their keys is not looked up again.
+#[inline(always)]
 pub fn leave_out(
     keys: &mut SpareKeys,
     pairs: Vec<Option<Pair>>,

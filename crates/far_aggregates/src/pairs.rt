@@ -79,6 +79,7 @@ fn push_pair(
 
 /// Returns the pairs that a row that is alive at a place gives to the aggregates. The list may have been made for an earlier
 /// edit. Texts are written into the strings of spare keys.
+#[inline(always)]
 pub fn row_pairs<R: LendCells>(
     keys: &mut SpareKeys,
     list: Vec<Option<Pair>>,
@@ -104,6 +105,7 @@ pub fn row_pairs<R: LendCells>(
 
 /// Returns the pairs that a row that is alive at a place gives to the aggregates whose values stand in a column, as `row_pairs`
 /// returns those of all.
+#[inline(always)]
 pub fn value_pairs<R: LendCells>(
     keys: &mut SpareKeys,
     list: Vec<Option<Pair>>,

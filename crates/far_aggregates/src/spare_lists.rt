@@ -53,17 +53,18 @@ impl SpareLists {
         ensures pairs { self.old.pairs.items ≡ [] → self.new.pairs.items ≡ [] }
     {
         let Pending {
-            mut applied,
-            mut to_retract,
+            applied,
+            to_retract,
             ..
         } = pending;
+        // The lists are emptied in their places, so that they need no other place in memory.
         if applied.capacity() > 0 {
-            keys.keep_deltas(&mut applied);
             self.deltas = applied;
+            keys.keep_deltas(&mut self.deltas);
         }
         if to_retract.capacity() > 0 {
-            keys.keep_pairs(&mut to_retract);
             self.pairs = to_retract;
+            keys.keep_pairs(&mut self.pairs);
         }
     }
 }

@@ -52,9 +52,9 @@ impl<'a> Model for PlaceRow<'a> {
 }
 
 impl<'a> PlaceRow<'a> {
-    // Makes a row without cells.
+    /// Makes a row without cells. Allocates nothing.
     #[inline(always)]
-    pub(crate) fn new() -> PlaceRow<'a>
+    pub fn new() -> PlaceRow<'a>
         ensures { result ≡ [] }
     {
         PlaceRow {

@@ -141,7 +141,9 @@ impl<S: FarTickets> TableRows<S> {
         ensures row { IfOk result (λ row. option_map (λ p. p.cells) (slice_get self.now.places place) ≡ Some row) }
         ensures refused { refusal_in result ≡ first_of (absents self.now.held (place / self.now.limits.group)) }
     {
-        self.rows.place_row(place)
+        let mut row = PlaceRow::new();
+        self.rows.place_row(place, &mut row)?;
+        Ok(row)
     }
 
     /// Returns the row of a place. It borrows each cell when it is asked for. Allocates nothing.

@@ -39,6 +39,7 @@ impl Aggregates {
     /// `from`, `end` ends the edit: nothing is to be undone.
     ///
     /// Refused with `NoMemory` (1) alone.
+    #[inline(always)]
     pub fn note_values<R: LendCells>(
         &mut self,
         alloc: Global,
@@ -81,6 +82,7 @@ impl Aggregates {
 
     /// Replaces the values of the noted pairs by a number, which the rows have. It searches each key once, and allocates
     /// nothing.
+    #[inline(always)]
     pub fn replace(&mut self, pending: Pending, to: i64)
         requires { MayReplaceAll self.old pending }
         ensures replaced { self.new ≡ after_replace_all to self.old pending }

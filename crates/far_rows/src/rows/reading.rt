@@ -1,5 +1,5 @@
 // Checks that the objects of a row group are local, and reads cells in place.
-ghost use Rattle.std.specs.Prelude.{◌≡◌, ℕ, ◌∷◌, ◌<◌, ◌/◌, [], length, false, slice_get, option_map, slice_index_or, Some, None, IsTrue, IfOk};
+ghost use Rattle.std.specs.Prelude.{◌≡◌, ℕ, ◌∷◌, ◌<◌, ◌/◌, [], length, false, slice_get, option_map, slice_index_or, Some, None, IsTrue, IfOk, OnOk};
 ghost use Rattle.std.specs.Option.{option_copied, option_map_or};
 ghost use Rattle.far_types.specs.declared.cell.Cell.TheVariants.{Missing};
 ghost use Rattle.far_types.specs.FirstOf.{first_of};
@@ -132,21 +132,22 @@ impl<S: FarTickets> Rows<S> {
         Ok(row)
     }
 
-    /// Returns the row of a place. Looks up each column once, and reads a number only on demand. Allocates nothing.
+    /// Borrows the row of a place into a row without cells. Looks up each column once, and reads a number only on demand. The caller
+    /// makes the row, so that it is not moved. Allocates nothing.
     ///
-    /// Refused as `row` is, only with `Absent` (16).
-    pub fn place_row(&self, place: usize) -> Result<PlaceRow<'_>, Refusal>
-        requires { place < length self.now.alive }
-        ensures row { IfOk result (λ row. row ≡ row_at (all_cells S.content self.now) place) }
+    /// Refused as `row` is, only with `Absent` (16). Then the row has the cells of the columns before.
+    pub fn place_row<'a>(&'a self, place: usize, row: &mut PlaceRow<'a>) -> Result<(), Refusal>
+        requires place { place < length self.now.alive }
+        requires empty { row.old ≡ [] }
+        ensures row { OnOk result (row.new ≡ row_at (all_cells S.content self.now) place) }
         ensures refused { refusal_in result ≡ first_of (absents self.now (place / self.now.size)) }
     {
         // For the proof: shows that a table has at most 16 columns.
         let _len = self.len();
-        let mut row = PlaceRow::new();
         for (column, column_index) in self.column_indexes.iter().enumerate() {
             row.push(self.place_cell(column, *column_index, place)?);
         }
-        Ok(row)
+        Ok(())
     }
 
     // Borrows the cell of a place that exists, in the column with this index, without reading a number.

@@ -1,6 +1,5 @@
 use Rattle.std.proofs.Common.{length, Some, sym, ap, ◌∙◌, arith}
 use Rattle.std.specs.Prelude.{option_map, slice_get}
-use Rattle.std.proofs.lemmas.Result.{IfOk-weaker}
 use Rattle.far_types.specs.Table.{Place}
 use Rattle.far_rows.specs.Rows.{all_cells}
 use Rattle.far_table.specs.TableRows.{TableRows}
@@ -8,8 +7,8 @@ use Rattle.far_table.proofs.EditsSetRefusals.{found-at}
 use Rattle.far_table.proofs.Places.{length-places, cells-get}
 use Rattle.far_table.proofs.table_rows.TableRows.place_row.Goals as goal
 
-pub place_row-requires-after_bounds : goal.place_row-requires-after_bounds
-place_row-requires-after_bounds g c κs within =
+pub place_row-requires-clause-place : goal.place_row-requires-clause-place
+place_row-requires-clause-place g c =
     let rows = c.self.inside.rows in
     let count = length-places (all_cells g.S.FarTickets.content rows) rows.alive in
     let places = ap (λ (t : TableRows g.row.S-Ticket.Denot). length t.places) c.self.view_is in
@@ -22,7 +21,6 @@ returns-clause-row g c =
     let count = length-places cells rows.alive in
     let places = ap (λ (t : TableRows g.row.S-Ticket.Denot). length t.places) c.self.view_is in
     let flag = found-at rows.alive c.args.place (omega (arith, c.requires, count, places)) in
-    IfOk-weaker c.place_row.result _ _ (λ row is.
     sym (ap (λ (t : TableRows g.row.S-Ticket.Denot). option_map (λ (p : Place). p.cells) (slice_get t.places c.args.place)) c.self.view_is)
     ∙ cells-get cells rows.alive c.args.place flag.0 flag.1
-    ∙ ap Some (sym is)) c.place_row.ensures.row
+    ∙ ap Some (sym c.in_ok-place_row.ensures.row)
