@@ -1,7 +1,7 @@
-// Tests of far_groups and far_extrema: what no clause says, that calls succeed with ample memory, worked examples, and
-// what a failed allocation leaves.
+// Tests of far_groups and far_extrema: that calls succeed with ample memory, which no clause says, worked examples, and the
+// state after a failed allocation.
 //
-// What is tested is made in one place and lent to the function that plays the case, so no return of that drops it.
+// A value under test is made in one function and lent to another that plays the case, so that no return of that drops it.
 mod extrema;
 mod live_extrema;
 mod totals;

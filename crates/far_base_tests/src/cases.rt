@@ -1,23 +1,23 @@
-// Tables of cases, and answers that are due.
+// Tables of cases, and comparison with expected answers.
 //
-// A test hands them on and has no return of its own. What is made for a case goes to these functions as it is, refused or not: they
-// know it as a type parameter alone.
+// Tests pass values to these functions and return nothing themselves. Results are passed on as they are, refused or not,
+// and the functions are generic over their types.
 use far_types::Refusal;
 use std::alloc::Global;
 use std::process::Abort;
 
-/// A row of a table of tests.
+/// A case of a table of tests.
 pub trait Case {
-    /// Returns what the row shows, if its values do not say it.
+    /// Returns the case in words, if its values do not say it.
     fn name(&self) -> &'static str {
         ""
     }
 
-    /// Returns whether all calls return what the row says.
+    /// Returns whether all calls return what the case expects.
     fn is_right(&self, alloc: Global) -> Result<bool, Refusal>;
 }
 
-/// Ends the test at the first case that is not right.
+/// Ends the test at the first case that fails.
 pub fn all_are_right<R: Abort, C: Case>(rt: &R, alloc: Global, cases: &[C]) {
     for (i, case) in cases.iter().enumerate() {
         let name = case.name();
@@ -25,7 +25,7 @@ pub fn all_are_right<R: Abort, C: Case>(rt: &R, alloc: Global, cases: &[C]) {
     }
 }
 
-/// Ends the test unless an answer is the one that is due.
+/// Ends the test unless an answer is the expected one.
 pub fn must_be<R: Abort, T: PartialEq + Drop>(rt: &R, answer: T, due: T) {
     assert!(rt; answer == due);
 }
@@ -40,7 +40,7 @@ pub fn all(answers: &[Result<bool, Refusal>]) -> Result<bool, Refusal> {
     Ok(true)
 }
 
-/// Returns whether two values that were made are equal.
+/// Returns whether two results are equal values.
 pub fn are_equal<T: PartialEq + Drop>(
     one: Result<T, Refusal>,
     other: Result<T, Refusal>,
@@ -50,7 +50,7 @@ pub fn are_equal<T: PartialEq + Drop>(
     Ok(one == other)
 }
 
-/// Returns whether a list that was made has these elements.
+/// Returns whether a result is a list of these elements.
 pub fn is_list<T: PartialEq + Drop>(
     made: Result<Vec<T>, Refusal>,
     list: &[T],
@@ -61,7 +61,7 @@ pub fn is_list<T: PartialEq + Drop>(
     }
 }
 
-/// Returns whether nothing was found.
+/// Returns whether a search found nothing.
 pub fn is_nothing<T: Drop>(found: Result<Option<T>, Refusal>) -> Result<bool, Refusal> {
     match found {
         Ok(found) => Ok(found.is_none()),

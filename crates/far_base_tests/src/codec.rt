@@ -1,4 +1,4 @@
-// Tests of far_codec: forms known from the description of the format, and bytes near them.
+// Tests of far_codec: forms known from the description of the format, and bytes that differ slightly from them.
 mod case;
 mod changes;
 mod forms;

@@ -1,4 +1,4 @@
-// Tests of far_aggregates: edits that allocate nothing.
+// Tests of far_aggregates: edits that need no allocation.
 ghost use Rattle.std.specs.Prelude.{◌≡◌, ◌+◌, ◌<◌, ◌^◌, [], List, length, IfOk, OnOk};
 ghost use Rattle.far_types.specs.Table.{Place};
 ghost use Rattle.far_aggregates.specs.Accumulators.{Keeps};
@@ -9,7 +9,7 @@ use far_aggregates::Aggregates;
 use far_types::{CellRef, LendCells, Refusal, Spec};
 use std::alloc::Global;
 
-/// A row of a name and the price 5.
+/// A row with a name and the price 5.
 struct Sale {
     name: &'static str,
 }
@@ -30,7 +30,7 @@ impl LendCells for Sale {
     }
 }
 
-/// Returns one aggregate over no rows, in row groups of 4.
+/// Returns one aggregate without rows, for row groups of 4.
 fn with_one(alloc: Global, spec: Spec) -> Result<Aggregates, Refusal>
     ensures { IfOk result (λ aggregates. Keeps 4 [] aggregates) }
 {
@@ -68,7 +68,7 @@ fn knows_a_name(alloc: Global, aggregates: &mut Aggregates) -> Result<bool, Refu
     Ok(append(alloc, aggregates, &ANN, 1).is_ok())
 }
 
-/// The same of one aggregate by name.
+/// Returns the same for one aggregate by name.
 fn knows_its_name(alloc: Global, spec: Spec) -> Result<bool, Refusal> {
     knows_a_name(alloc, &mut with_one(alloc, spec.by(0))?)
 }

@@ -1,4 +1,4 @@
-// Keys, rows and lines, as tables of tests give them.
+// Keys, rows and lines in tables of tests.
 use far_types::{Answer, Key, Refusal, Text};
 use std::alloc::Global;
 
@@ -16,9 +16,9 @@ pub type Row = (Name, i64);
 /// The lines of an answer, each with the name of its key.
 #[derive(Clone, Copy)]
 pub enum Lines<'a> {
-    /// A count and a sum.
+    /// Lines with a count and a sum.
     Totals(&'a [(Name, u64, i128)]),
-    /// The least and the greatest value.
+    /// Lines with a least and a greatest value.
     Extrema(&'a [(Name, i64, i64)]),
 }
 

@@ -1,4 +1,4 @@
-// Tests of far_log: worked scripts of calls on a region of numbers, and a caller that writes through what it lends.
+// Tests of far_log: scripts of calls on a region of numbers, and a caller that writes to the parts that it borrows.
 mod cases;
 mod order;
 mod script;

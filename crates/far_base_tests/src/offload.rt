@@ -1,4 +1,4 @@
-// Tests of far_offload: worked row groups that are folded from memory, and a job that is carried at the second call.
+// Tests of far_offload: row groups that are folded from memory, and a job that is carried again after a fault.
 mod cases;
 mod folding;
 mod jobs;

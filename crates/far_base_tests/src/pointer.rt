@@ -1,7 +1,7 @@
-// Words against the table of the layout.
+// Tests of far_pointer: words against the table of the layout.
 use far_pointer::{At, Pointer, Word};
 
-// Each word of the table, by what it says, with its bits.
+// Each word of the table, with its bits.
 static WORDS: [(Pointer, u64); 4] = [
     (
         Pointer::Local {
@@ -54,7 +54,7 @@ fn word_of(pointer: Pointer) -> Option<Word> {
     }
 }
 
-/// Returns whether a word has these bits, and is read back from them.
+/// Returns whether a word has these bits, and they are read as this word.
 fn is_laid_out(pointer: Pointer, bits: u64) -> bool {
     let Some(word) = word_of(pointer) else {
         return false;
@@ -77,7 +77,7 @@ fn a_word_has_the_bits_of_the_layout_and_is_read_back(rt: HostRuntime) {
 }
 
 static OTHER_BITS: [u64; 4] = [
-    // Nothing is set.
+    // No bit is set.
     0,
     // Neither dirty nor far.
     0x8000_0000_0000_0000,
@@ -111,7 +111,7 @@ fn a_local_word_that_is_neither_dirty_nor_far_is_not_made(rt: HostRuntime) {
     assert!(rt; Word::local(AT_1, false, true, false).is_none());
 }
 
-/// Returns whether a local word that is far alone is moved, is hot, is dirty, and is cold again.
+/// Returns whether a local word of a clean object is moved, becomes hot, becomes dirty and becomes cold again.
 fn changes_part_by_part() -> bool {
     let Some(word) = Word::from_bits(0x9000_0000_0000_0000) else {
         return false;

@@ -1,4 +1,4 @@
-// Row groups that are proposed after others were accessed.
+// Tests of far_prefetcher: row groups that are proposed after accesses.
 ghost use Rattle.std.specs.Prelude.{◌≡◌, length, IfOk};
 
 use crate::cases::{Case, all, all_are_right, is_list, must_be};
@@ -17,7 +17,7 @@ fn after(alloc: Global, accessed: &[u32]) -> Result<Prefetcher, Refusal>
     Ok(prefetcher)
 }
 
-// A case: the row groups of a column that were accessed, how many the column has, and those that are proposed then.
+// A case: the row groups of a column that were accessed, how many row groups the column has, and the proposals.
 struct Accessed(&'static [u32], u32, &'static [u32]);
 
 impl Case for Accessed {
@@ -39,7 +39,7 @@ fn the_next_two_groups_of_a_stride_are_proposed_if_they_exist(rt: HostRuntime) {
     all_are_right(&rt, rt.alloc(), &CASES);
 }
 
-// Returns whether groups that were accessed of all three columns are proposed for the first, and none for the second.
+// Returns whether accesses to all three columns lead to proposals for the first and to none for the second.
 fn are_proposed_distinct(alloc: Global, prefetcher: &mut Prefetcher) -> Result<bool, Refusal> {
     prefetcher.saw(1, 9);
     prefetcher.saw(2, 0);

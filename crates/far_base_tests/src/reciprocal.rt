@@ -1,9 +1,9 @@
-// Quotients with the hint for the divisor and with another one.
+// Tests of far_reciprocal: quotients with the right reciprocal and with a wrong one.
 use far_reciprocal::Reciprocal;
 
 static NUMBERS: [usize; 7] = [0, 1, 63, 64, 4_099, 16_777_215, 1_099_511_627_776];
 
-/// Returns whether a number is divided by 64 with the hint for that, and with the one for 3.
+/// Returns whether a number is divided by 64 with the reciprocal of 64, and with that of 3.
 fn is_divided(number: usize) -> bool {
     let hint = Reciprocal::new(64);
     hint.quotient(number, 64) == number / 64

@@ -1,14 +1,14 @@
-// Reading a script, and what the faults that end one print.
+// Tests of far_script: reading a script, and the sentences of faults.
 use crate::cases::{Case, all_are_right, must_be};
 use far_script::{Fallible, Input, Output, ShellFault, Sink, Source};
 use far_types::Refusal;
 use std::alloc::Global;
 use std::io;
 
-/// Two lines, which come at one read.
+/// Two lines that one read brings.
 const SCRIPT: &[u8] = b"schema 4 int\ninsert 1\n";
 
-/// Returns how many reads and bytes are left of a script once two lines and its end were read.
+/// Returns how many reads and bytes are still allowed after two lines and the end of a script were read.
 fn left_behind<R: Source + Drop, W: Sink>(
     input: &mut Input<R>,
     output: &mut Output<W>,
@@ -31,10 +31,10 @@ fn a_script_takes_its_reads_and_bytes_off_the_bounds(rt: HostRuntime) {
     must_be(&rt, left, Ok((1_048_574, 16_777_194)));
 }
 
-/// What a writer with space for 11 bytes takes of two replies.
+/// The prefix of two replies that a writer with space for 11 bytes takes.
 const TAKEN: &[u8] = b"place 0\npla";
 
-/// Writes a reply, and then another one.
+/// Writes two replies.
 fn write_two<W: Sink>(alloc: Global, writer: &mut W) -> Result<(), ShellFault> {
     let mut output = Output::new(alloc);
     output.add_text("place 0\n")?;
@@ -58,7 +58,7 @@ fn a_writer_that_is_full_is_the_fault_output(rt: HostRuntime) {
     assert!(&rt; taken == TAKEN);
 }
 
-/// A fault, and what is printed of it.
+/// A fault, and its sentence.
 struct Printed(ShellFault, &'static str);
 
 impl Case for Printed {

@@ -1,5 +1,5 @@
-// Tests of `far_store`: what no clause says, that is, that calls are served, when a planned fault comes, and what threads
-// see of one another.
+// Tests of far_store: what no clause says, namely that calls are served, when a planned fault comes, and what threads see
+// of one another.
 mod agent;
 mod carrying;
 mod case;

@@ -10,11 +10,11 @@ use std::fmt;
 use std::marker::Model;
 use std::sync::atomic::{AtomicUsize, Ordering};
 
-/// A log of bytes in memory, to which each write is appended. Contracts see the ids of its slots, one for each byte that it
-/// can hold.
+/// A log of bytes in memory, to which each write is appended. Contracts see the list of the ids of its slots, one for each
+/// byte of its capacity.
 ///
 /// A write takes its slots in one atomic step and then fills them, so threads share the log without a lock. A write that
-/// does not fit fails with [`LogFull`] and takes none. Reading never fails unless memory runs out.
+/// does not fit fails with [`LogFull`] and takes none. Reading fails only if memory runs out.
 #[derive(Drop)]
 pub struct ByteLog {
     slots: Vec<OnceSlot<u8, AnyByte>>,
@@ -56,7 +56,7 @@ impl fmt::Display for LogFull {
 
 impl Error for LogFull {}
 
-// A slot takes any byte.
+// The rule of a slot: any byte may be written.
 pub struct AnyByte;
 
 impl SlotRule<u8> for AnyByte {
@@ -76,7 +76,7 @@ impl ByteLog {
         })
     }
 
-    /// Returns how many bytes the log can hold. Allocates nothing.
+    /// Returns the capacity in bytes. Allocates nothing.
     pub fn size(&self) -> usize
         ensures { result ≡ length self.now }
     {
@@ -91,7 +91,7 @@ impl ByteLog {
         self.used.load(Ordering::SeqCst).min(self.size())
     }
 
-    // Takes `count` slots, if as many are free, and returns the place of the first.
+    // Takes `count` slots, and returns the offset of the first, or `None` if fewer are free.
     fn take(&self, count: usize) -> Option<usize>
         ensures { IfSome result (λ offset. offset + count ≤ length self.now) }
     {
@@ -113,7 +113,7 @@ impl ByteLog {
     {
         match self.slots[at].set_written(byte) {
             Ok(token) => Ok(token),
-            // No slot is taken twice, so this never happens.
+            // Unreachable: no slot is taken twice.
             Err(_) => Err(Failure::Engine(LogFull)),
         }
     }
@@ -126,15 +126,15 @@ impl ByteLog {
     }
 }
 
-// Returns the end of `count` slots from an offset on, if that is within the log.
+// Returns the end of `count` slots from an offset on, or `None` if it is past the end of the log.
 fn end_of(offset: usize, count: usize, size: usize) -> Option<usize>
     ensures { IfSome result (λ end. (end ≡ offset + count) × (end ≤ size)) }
 {
     offset.checked_add(count).filter(|end| *end <= size)
 }
 
-// Returns element `n` of a list of any type. The compiler does not index elements that it knows to have no bytes, such as
-// tokens.
+// Returns element `n` of a list. Generic, since the compiler does not index elements that it knows to have no bytes, such
+// as tokens.
 fn nth<T>(list: &Vec<T>, n: usize) -> &T
     requires { n < length list.now.items }
     ensures { slice_get list.now.items n ≡ Some result.now }
@@ -158,7 +158,7 @@ impl Engine for ByteLog {
         let Some(offset) = self.take(bytes.len()) else {
             return Err(Failure::Engine(LogFull));
         };
-        // For the proof: the place of a slot is a `usize`.
+        // For the proof: shows that the offset of a slot is a `usize`.
         let _size = self.size();
         for (i, byte) in bytes.iter().enumerate() {
             written.push(self.write_at(offset + i, *byte)?)?;
@@ -172,7 +172,7 @@ impl Engine for ByteLog {
         key: &LogKey,
         buffer: &mut Vec<u8>,
     ) -> Result<(), Failure<LogFull>> {
-        // For the proof: the place of a slot is a `usize`.
+        // For the proof: shows that the offset of a slot is a `usize`.
         let _size = self.size();
         for i in 0..key.written.len() {
             let token = nth(&key.written, i);

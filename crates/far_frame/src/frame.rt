@@ -1,4 +1,4 @@
-// A table and its answers.
+// A table with its aggregates.
 ghost use Rattle.std.specs.Prelude.{◌≡◌, ◌⊎◌, ℕ, List, true, false, length, option_map, IfOk, IfErr, IfSome, IfNone, OnOk};
 ghost use Rattle.std.specs.Option.{option_copied};
 ghost use Rattle.far_types.specs.declared.edit.Edit.TheVariants as edit;
@@ -29,10 +29,10 @@ pub use renewing::migrate;
 use std::alloc::Global;
 use std::marker::Model;
 
-/// A table whose rows lie in objects that are local or away, and whose aggregates are kept up to date under every edit.
-/// Contracts see its state: the plain table, the rows over objects that hold its places, and the access history of each column.
+/// A table whose rows are in objects that are local or away, and whose aggregates are kept up to date under every edit.
+/// Contracts see the plain table, the rows over objects, and the access history of each column.
 ///
-/// All calls of one table that take a store get the store to which its objects went.
+/// Each call that takes a store must get the one that holds the table's objects.
 ///
 /// A table without rows:
 ///
@@ -52,7 +52,7 @@ use std::marker::Model;
 /// }
 /// ```
 ///
-/// An insert of a row, which gets the next place:
+/// Inserts a row, which gets the next place:
 ///
 /// ```
 /// pub fn insert<S: FarTickets>(
@@ -87,12 +87,11 @@ impl<S: FarTickets> Model for Frame<S> {
 }
 
 impl<S: FarTickets> Frame<S> {
-    /// Returns an empty table. The number distinguishes the jobs of its objects from those of other tables. Allocates all
-    /// memory for elements.
+    /// Makes an empty table. `number` tells its jobs from those of other tables. Allocates all memory for elements at once.
     ///
     /// Refused with the first of these that applies:
     ///
-    /// - `BadSchema` (2): the limits are not what a table may have.
+    /// - `BadSchema` (2): the limits are not valid.
     /// - `NoMemory` (1): an allocation fails.
     pub fn open(
         alloc: Global,
@@ -115,7 +114,7 @@ impl<S: FarTickets> Frame<S> {
         })
     }
 
-    /// Returns cells that are no longer needed: a later row may be made in their memory. Allocates nothing.
+    /// Takes cells that are no longer needed, whose memory the next row can reuse. Allocates nothing.
     pub fn spare_cells(&mut self) -> Vec<Cell>
         ensures { self.new ≡ self.old }
     {
@@ -138,7 +137,7 @@ impl<S: FarTickets> Frame<S> {
         self.table.insert(row)
     }
 
-    /// Puts a cell in a place's column; the same cell again counts as an edit too.
+    /// Sets the cell of a place in a column. Counts as an edit even if the cell had this value.
     ///
     /// Refused with the first of these that applies:
     ///
@@ -153,7 +152,7 @@ impl<S: FarTickets> Frame<S> {
         self.table.set(column, place, cell)
     }
 
-    /// Marks a place dead; its cells stay.
+    /// Marks a place as dead. Its cells stay.
     ///
     /// Refused with the first of these that applies:
     ///
@@ -168,12 +167,13 @@ impl<S: FarTickets> Frame<S> {
         self.table.remove(place)
     }
 
-    /// Registers an aggregate under the lowest free number of 0 to 31. All row groups that hold a place are pending in it.
+    /// Registers an aggregate and returns its number, the lowest free one of 0 to 31. Every row group that has a place is
+    /// pending in it.
     ///
     /// Refused with the first of these that applies:
     ///
-    /// - `BadSpec` (3), `NoColumn` (4) or `WrongKind` (5): the aggregate cannot be had over this schema.
-    /// - `TooManyAggregates` (13): 32 are registered, or 2^32 were.
+    /// - `BadSpec` (3), `NoColumn` (4) or `WrongKind` (5): the aggregate does not fit the schema.
+    /// - `TooManyAggregates` (13): 32 are registered now, or 2^32 were registered in all.
     /// - `NoMemory` (1): an allocation fails.
     pub fn watch(&mut self, spec: Spec) -> Result<u32, Refusal>
         ensures ok { IfOk result (λ a. Accepts S.content self.old (step.Watch spec) (reply.Aggregate a) self.new) }
@@ -182,7 +182,7 @@ impl<S: FarTickets> Frame<S> {
         self.table.watch(spec)
     }
 
-    /// Forgets the aggregate of a number. Refused with `NoAggregate` (12) exactly if there is none. Allocates nothing.
+    /// Forgets an aggregate. Refused with `NoAggregate` (12) exactly if there is none of this number. Allocates nothing.
     pub fn unwatch(&mut self, a: u32) -> Result<(), Refusal>
         ensures ok { OnOk result (Accepts S.content self.old (step.Unwatch a) reply.Done self.new) }
         ensures err { IfErr result (λ e. Refuses self.old (step.Unwatch a) e self.new) }
@@ -195,9 +195,9 @@ impl<S: FarTickets> Frame<S> {
     /// Refused with the first of these that applies:
     ///
     /// - `NoAggregate` (12): there is no such aggregate.
-    /// - `OutOfRange` (14): no place is in the row group.
-    /// - `StaleJob` (20): it is scanned already.
-    /// - `Absent` (16): the object of a column that the aggregate needs is away. It names the lowest such column.
+    /// - `OutOfRange` (14): the row group has no place.
+    /// - `StaleJob` (20): the row group was scanned already.
+    /// - `Absent` (16): the object of a column that the aggregate needs is away. The refusal names the lowest such column.
     /// - `NoMemory` (1): an allocation fails.
     pub fn scan_group(&mut self, a: u32, group: u32) -> Result<(), Refusal>
         ensures ok { OnOk result (Accepts S.content self.old (step.ScanGroup a group) reply.Done self.new) }
@@ -206,12 +206,12 @@ impl<S: FarTickets> Frame<S> {
         self.table.scan_group(a, group)
     }
 
-    /// Returns the answer of the aggregate of a number over the rows as they are, whichever objects are away.
+    /// Returns the answer of an aggregate over the rows as they are, whichever objects are away.
     ///
     /// Refused with the first of these that applies:
     ///
     /// - `NoAggregate` (12): there is no such aggregate.
-    /// - `Building` (15): row groups are pending. It says how many.
+    /// - `Building` (15): row groups are pending. The refusal says how many.
     /// - `NoMemory` (1): an allocation fails.
     pub fn ask(&self, a: u32) -> Result<Answer, Refusal>
         ensures ok { IfOk result (λ answer. Accepts S.content self.now (step.Ask a) (reply.Answer answer) self.now) }
@@ -242,7 +242,7 @@ impl<S: FarTickets> Frame<S> {
         self.table.rows().limits()
     }
 
-    /// For the proof: gives what always holds of a table, its rows and their objects. It does nothing.
+    /// For the proof: shows the invariant of a table, its rows and their objects. Does nothing.
     #[inline(always)]
     pub(crate) fn keeps(&self)
         ensures { IsKept S.content self.now }
@@ -253,23 +253,24 @@ impl<S: FarTickets> Frame<S> {
         held.each_object_has_a_word();
     }
 
-    /// Returns how many places there are, dead ones too. Allocates nothing.
+    /// Returns how many places there are, including dead ones. Allocates nothing.
     pub fn places(&self) -> u32
         ensures { result ≡ length self.now.table.places }
     {
-        // For the proof: gives that a table has at most 16,777,216 places.
+        // For the proof: shows that a table has at most 16,777,216 places.
         let _limits = self.table.rows().limits();
         self.table.rows().len() as u32
     }
 
-    /// Returns the specification of the aggregate of a number, or `None` if there is none. Allocates nothing.
+    /// Returns the specification of an aggregate, or `None` if there is none of this number. Allocates nothing.
     pub fn spec(&self, a: u32) -> Option<&Spec>
         ensures { option_copied result ≡ option_map (λ aggregate. aggregate.spec) (aggregate_at self.now.table a) }
     {
         self.table.spec(a)
     }
 
-    /// Returns an aggregate and a row group that is still pending in it, or `None` if there is none. Allocates nothing.
+    /// Returns an aggregate and a row group that is pending in it, or `None` if no row group is pending in any. Allocates
+    /// nothing.
     pub fn unbuilt(&self) -> Option<(u32, u32)>
         ensures some { IfSome result (λ at. is_pending_in (aggregate_at self.now.table at.0) at.1 ≡ true) }
         ensures none { IfNone result ((a : ℕ) → (g : ℕ) → is_pending_in (aggregate_at self.now.table a) g ≡ false) }
@@ -277,8 +278,8 @@ impl<S: FarTickets> Frame<S> {
         self.table.unbuilt()
     }
 
-    /// Returns how many rows an aggregate of totals without key column folds, and the sum of their values. `None` if there is
-    /// no such aggregate, or row groups are still pending. Allocates nothing.
+    /// Returns the count and the sum of an aggregate of totals without key column. `None` if there is no such aggregate, or
+    /// row groups are pending in it. Allocates nothing.
     pub fn plain(&self, a: u32) -> Option<(u64, i128)>
         ensures { result ≡ plain_in self.now.table.places (aggregate_at self.now.table a) }
     {

@@ -1,4 +1,4 @@
-// Jobs that move objects, of every kind and in every phase.
+// Jobs of every kind and phase.
 ghost use Rattle.std.specs.Prelude.{◌≡◌, ◌+◌, ◌<◌, ◌^◌, is_none, IfOk, IfErr, option_copied, option_map, slice_get};
 ghost use Rattle.far_store.specs.Faults.{faults_in, outcome};
 ghost use Rattle.far_frame.specs.Jobs.{IsWorkAt, IsWorkCarried, WorkRefusal, IsJobAt, IsCarried, CarryRefusal, is_offload, job_kind};
@@ -11,29 +11,29 @@ use far_types::{Name, Refusal};
 use std::alloc::Global;
 use std::marker::Model;
 
-/// What a job does.
+/// The kind of a job.
 #[derive(Clone, Copy, Debug, PartialEq, Eq)]
 pub enum JobKind {
-    /// It sends an object away.
+    /// Evicts an object.
     Evac,
-    /// It brings an object back.
+    /// Fetches an object.
     Fetch,
-    /// It builds a row group into an aggregate from the far store's copies of its columns.
+    /// Scans a row group into an aggregate from the far copies of its columns.
     Offload,
 }
 
 /// The work of a job, by kind and phase. The parameters are the jobs of the crates below.
 #[derive(Drop)]
 pub enum JobPhase<E, C, F, D, B, M> {
-    /// A begun evacuation.
+    /// An eviction that was begun.
     Evac(E),
-    /// An evacuation whose far form is in the store.
+    /// An eviction whose far form is in the store.
     Carried(C),
-    /// A begun fetch.
+    /// A fetch that was begun.
     Fetch(F),
     /// A fetch whose bytes were read.
     Fetched(D),
-    /// A begun offloaded build.
+    /// An offloaded build that was begun.
     Offload(B),
     /// An offloaded build whose contents were read.
     Offloaded(M),
@@ -49,8 +49,8 @@ type JobWork<S> = JobPhase<
     OffloadCarried<S>,
 >;
 
-/// A job of a table. It owns all that it holds, so it borrows no table between its beginning and its end, and any thread can
-/// carry it. Contracts see the name of its object, if it moves one, and its work.
+/// A job of a table. It owns all its data and borrows no table, so any thread can carry it. Contracts see the name of its
+/// object, if it moves one, and its work.
 #[derive(Drop)]
 pub struct Job<S: FarTickets> {
     pub(crate) name: Option<Name>,
@@ -69,7 +69,7 @@ impl<S: FarTickets> Model for Job<S> {
 }
 
 impl<S: FarTickets> Job<S> {
-    /// Returns what the job does. Allocates nothing.
+    /// Returns the kind of the job. Allocates nothing.
     pub fn kind(&self) -> JobKind
         ensures { result ≡ job_kind self.now }
     {
@@ -83,8 +83,8 @@ impl<S: FarTickets> Job<S> {
         }
     }
 
-    /// Returns the column and the row group of the object that the job moves; `None` exactly for an offloaded build. Allocates
-    /// nothing.
+    /// Returns the column and the row group of the object that the job moves; `None` exactly for an offloaded build.
+    /// Allocates nothing.
     pub fn object(&self) -> Option<Name>
         ensures name { result ≡ self.now.name }
         ensures offload { is_none result ≡ is_offload self.now.work }
@@ -106,9 +106,9 @@ impl<S: FarTickets> Job<S> {
         }
     }
 
-    /// Returns the number of the ticket under which the job put its object's far form, and borrows the bytes of that. `None`
-    /// unless it is a carried evacuation of an object that was dirty: of a clean one the store has the far form already.
-    /// Allocates nothing.
+    /// Returns the number of the ticket for the far form that the job put, and borrows its bytes. `None` unless the job is
+    /// a carried eviction of an object that was dirty: the store has the far form of a clean one already. Allocates
+    /// nothing.
     pub fn outgoing(&self, store: &S) -> Option<(u64, &[u8])>
         requires here { IsJobAt S.is_of (S.store_id store.now) self.now }
         ensures number { option_map (λ out. out.0) result ≡ option_map S.number_of (outgoing_of self.now.work) }
@@ -124,8 +124,8 @@ impl<S: FarTickets> Job<S> {
         }
     }
 
-    /// Returns the ticket at an index of those whose contents the job reads, or has read; `None` if there are no more than
-    /// `index` of them. A fetch has one, an offloaded build one for each column that its aggregate needs, an evacuation none.
+    /// Returns the ticket at an index, among those whose contents the job reads or has read; `None` if the index is past
+    /// the last. A fetch has one ticket, an offloaded build one for each column that its aggregate needs, an eviction none.
     /// Allocates nothing.
     pub fn ticket(&self, index: usize) -> Option<&S::Ticket>
         ensures { option_copied result ≡ slice_get (tickets_of_work self.now.work) index }
@@ -140,8 +140,8 @@ impl<S: FarTickets> Job<S> {
         }
     }
 
-    /// Returns the ticket of a number, of those whose contents the job has still to read; `None` if none has it, or the job was
-    /// carried. Allocates nothing.
+    /// Returns the ticket of this number among those whose contents the job has still to read; `None` if there is none or
+    /// the job was carried. Allocates nothing.
     pub fn wanted(&self, store: &S, number: u64) -> Option<&S::Ticket>
         requires here { IsJobAt S.is_of (S.store_id store.now) self.now }
         ensures { option_copied result ≡ wanted_of S.number_of self.now.work number }
@@ -161,17 +161,17 @@ impl<S: FarTickets> Job<S> {
 }
 
 impl<S: FarStore> Job<S> {
-    /// Carries the job. An evacuation puts its far form into the store, a fetch reads its ticket's content, an offloaded build
-    /// those of its tickets. It borrows no table, so it may run while any other step is served.
+    /// Carries the job: an eviction puts its far form into the store, a fetch reads the content of its ticket, and an
+    /// offloaded build reads those of its tickets. Borrows no table, so it may run while any other step is served.
     ///
-    /// Refused with one of these; the job then comes back whole:
+    /// Refused with one of these; the job is then returned unchanged:
     ///
     /// - `StaleJob` (20), before all others, exactly if the job was carried already.
-    /// - `FarFault` (21): the store fails in this call, exactly if the meter rises, by one.
-    /// - `FarFull` (22), for an evacuation alone: the number drawn from the store is not below its capacity.
+    /// - `FarFault` (21): the store fails in this call. Only then the meter rises, by one.
+    /// - `FarFull` (22), only for an eviction: the store has no space for another content.
     /// - `NoMemory` (1): an allocation fails.
     ///
-    /// An evacuation that was begun on a clean object puts nothing, and is not refused.
+    /// An eviction of a clean object puts nothing and is not refused.
     pub fn carry(
         self,
         alloc: Global,
@@ -194,7 +194,7 @@ impl<S: FarStore> Job<S> {
     }
 }
 
-/// Carries the work of a job, or returns it.
+/// Carries the work of a job, or returns it with the refusal.
 fn carry_work<S: FarStore>(
     work: JobWork<S>,
     alloc: Global,

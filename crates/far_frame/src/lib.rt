@@ -1,6 +1,6 @@
 #![tactic(auto)]
-//! The table that programs use: rows in objects of the local region, aggregates that are kept up to date under every edit, and
-//! whole runs of steps.
+//! The table that programs use: its rows are in objects that can be evicted, its aggregates are kept up to date under every
+//! edit, and whole lists of steps run on it.
 
 pub mod frame;
 pub mod job;

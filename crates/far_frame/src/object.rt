@@ -1,4 +1,4 @@
-// What an object is.
+// The state of an object.
 ghost use Rattle.std.specs.Prelude.{◌≡◌, ◌<◌, length};
 ghost use Rattle.far_scopes.specs.Movement.{AreHere};
 ghost use Rattle.far_frame.specs.Objects.{state_in};
@@ -7,24 +7,24 @@ use far_codec::Elem;
 use far_scopes::Objects;
 use far_store::FarTickets;
 
-/// What an object is: the chunk of one column in one row group.
+/// The state of an object, which is the chunk of one column in one row group.
 #[derive(Clone, Copy, Debug, PartialEq, Eq)]
 pub struct ObjectState {
-    /// It lies in the local region; if not, it is away.
+    /// Whether it is in the local region; if not, it is away.
     pub local: bool,
-    /// It was written since its far copy was made, or has none.
+    /// Whether it was written since its far copy was made, or has none.
     pub dirty: bool,
-    /// It is local, and was used since it was last passed over as a victim or compacted.
+    /// Whether it is local and was used since it was last passed over as a victim or compacted.
     pub hot: bool,
     /// How many pins it has.
     pub pins: u32,
     /// How often it was written.
     pub version: u64,
-    /// The number of its newest far copy, up to date or not, if it has one.
+    /// The number of its newest far copy, if it has one, even if that is outdated.
     pub copy: Option<u64>,
 }
 
-/// Returns what an object is.
+/// Returns the state of an object.
 pub(crate) fn state_in<T: Elem, S: FarTickets>(
     objects: &Objects<T, S>,
     store: &S,

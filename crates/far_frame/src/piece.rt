@@ -1,19 +1,19 @@
-// What the step `Lend` returns: copies of parts of columns.
+// Copies of parts of columns, which the step `Lend` returns.
 use far_types::Text;
 
-/// Numbers of adjacent places of one row group, each of which may be missing, and whether each place is alive.
+/// The numbers of adjacent places of one row group.
 #[derive(Drop, Debug)]
 pub struct IntPiece {
-    /// The numbers.
+    /// The number of each place, or `None` if it is missing.
     pub values: Vec<Option<i64>>,
     /// Whether each place is alive.
     pub flags: Vec<bool>,
 }
 
-/// Texts of adjacent places of one row group, each of which may be missing, and whether each place is alive.
+/// The texts of adjacent places of one row group.
 #[derive(Drop, Debug)]
 pub struct TextPiece {
-    /// The texts.
+    /// The text of each place, or `None` if it is missing.
     pub values: Vec<Option<Text>>,
     /// Whether each place is alive.
     pub flags: Vec<bool>,

@@ -1,4 +1,4 @@
-// Steps of a table, and their replies.
+// Steps of a table, and the replies to them.
 ghost use Rattle.std.specs.Prelude.{◌≡◌};
 ghost use Rattle.far_frame.specs.Effects.{done_or};
 
@@ -8,22 +8,22 @@ use far_types::{Answer, Edit, Kind, Refusal, Spec};
 /// One request to a table.
 #[derive(Drop, Debug)]
 pub enum Step {
-    /// Changes the rows.
+    /// Edits the rows.
     Edit(Edit),
     /// Registers an aggregate under the lowest free number.
     Watch(Spec),
-    /// Forgets the aggregate of a number.
+    /// Forgets an aggregate, by its number.
     Unwatch(u32),
-    /// Scans the rows of one row group into an aggregate.
+    /// Scans the rows of a row group into an aggregate.
     ScanGroup {
         /// The aggregate.
         aggregate: u32,
         /// The row group.
         group: u32,
     },
-    /// Asks the aggregate of a number.
+    /// Asks for the answer of an aggregate, by its number.
     Ask(u32),
-    /// Copies the places `from` up to `to` of a column, and records the accesses.
+    /// Copies the cells of some places in a column, and records the accesses.
     Lend {
         /// The column.
         column: u32,
@@ -32,80 +32,80 @@ pub enum Step {
         /// The place after the last.
         to: u32,
     },
-    /// Pins the object of a row group of a column once more, so that it does not go away.
+    /// Adds a pin to the object of a row group of a column, which then cannot be evicted.
     Pin {
         /// The column.
         column: u32,
         /// The row group.
         group: u32,
     },
-    /// Removes one pin of an object.
+    /// Removes a pin from an object.
     Unpin {
         /// The column.
         column: u32,
         /// The row group.
         group: u32,
     },
-    /// Begins to send an object away: a job, under the next number.
+    /// Begins to evict an object, as a job with the next number.
     BeginEvac {
         /// The column.
         column: u32,
         /// The row group.
         group: u32,
     },
-    /// Begins to bring an object back: a job, under the next number.
+    /// Begins to fetch an object, as a job with the next number.
     BeginFetch {
         /// The column.
         column: u32,
         /// The row group.
         group: u32,
     },
-    /// Begins to build the rows of one row group into an aggregate from the far store's copies: a job, under the next number.
+    /// Begins to scan a row group into an aggregate from the far copies of its columns, as a job with the next number.
     BeginOffload {
         /// The aggregate.
         aggregate: u32,
         /// The row group.
         group: u32,
     },
-    /// Carries the job of a number.
+    /// Carries a job, by its number.
     Carry(u64),
-    /// Ends the job of a number, a carried evacuation: its object is away.
+    /// Ends a carried eviction, by the job's number: its object is away.
     Commit(u64),
-    /// Ends the job of a number, a carried fetch: its object is back.
+    /// Ends a carried fetch, by the job's number: its object is local.
     Install(u64),
-    /// Ends the job of a number, a carried offloaded build: its row group is scanned.
+    /// Ends a carried offloaded build, by the job's number: its row group is scanned.
     Merge(u64),
-    /// Compacts a segment, the second, of the objects of a kind.
+    /// Compacts a segment of the objects of a kind.
     Compact(Kind, u32),
     /// Asks which row groups of a column to fetch next.
     Prefetch(u32),
 }
 
-/// The reply to a step: there is one for each.
+/// The reply to a step. Each step has one.
 #[derive(Drop, Debug)]
 pub enum Reply {
     /// The place of an inserted row.
     Place(u32),
-    /// The step is done, and returns nothing.
+    /// The step is done and returns nothing.
     Done,
     /// The number of a registered aggregate.
     Aggregate(u32),
     /// The answer of an aggregate.
     Answer(Answer),
-    /// A part of a column of numbers, a piece for each row group that has some of it.
+    /// A part of a column of numbers, as one piece for each of its row groups.
     Ints(Vec<IntPiece>),
-    /// A part of a column of texts, a piece for each row group that has some of it.
+    /// A part of a column of texts, as one piece for each of its row groups.
     Texts(Vec<TextPiece>),
     /// The number of a begun job.
     Job(u64),
     /// The row groups to fetch next.
     Next(Vec<u32>),
-    /// Why the step was refused: the table and its objects are unchanged.
+    /// Why the step was refused. The table and its objects did not change.
     Refused(Refusal),
 }
 
 impl Reply {
-    /// Returns the reply of a call that returns nothing if it is done.
+    /// Returns the reply for a call without result.
     pub(crate) fn done_or(outcome: Result<(), Refusal>) -> Reply
         ensures { result ≡ done_or outcome }
     {

@@ -1,4 +1,4 @@
-// The rows and columns of a table, borrowed.
+// A borrow of the rows and columns of a table.
 ghost use Rattle.std.specs.Prelude.{◌≡◌, ◌<◌, ◌≤◌, ◌/◌, ◌^◌, ℕ, None, Some, length, map, option_map, option_copied, slice_get, slice_range, IfOk, OnOk};
 ghost use Rattle.far_types.specs.FirstOf.{first_of};
 ghost use Rattle.far_scopes.specs.Refusing.{refusal_in};
@@ -17,9 +17,9 @@ use far_texts::TextCells;
 use far_types::{Kind, LentRow, Refusal};
 use std::marker::Model;
 
-/// The rows of a table, read in place: no object comes, goes or changes while a view is there. Contracts see the table's state.
+/// The rows of a table, read in place. No object moves or changes while a view exists. Contracts see the table's state.
 ///
-/// A part of a column is borrowed piece by piece. Here each piece is copied:
+/// Borrows a part of a column piece by piece, and copies each:
 ///
 /// ```
 /// fn copied_ints<S: FarTickets>(
@@ -56,7 +56,7 @@ impl<'a, S: FarTickets> Model for View<'a, S> {
 }
 
 impl<'a, S: FarTickets> View<'a, S> {
-    /// Returns a view of the rows of this table. Allocates nothing.
+    /// Returns a view of the rows of a table. Allocates nothing.
     pub(crate) fn new(table: &'a LiveTable<S>) -> View<'a, S>
         ensures { result ≡ table.now }
     {
@@ -72,13 +72,13 @@ impl<'a, S: FarTickets> View<'a, S> {
 
     /// Checks that every place can be lent. Allocates nothing.
     ///
-    /// Refused with `Absent` (16) exactly if an object is away. It names the first: of the lowest row group, and there of the
-    /// lowest column.
+    /// Refused with `Absent` (16) exactly if an object is away. The refusal names the first: of the lowest row group, and
+    /// there of the lowest column.
     pub fn all(&self) -> Result<(), Refusal>
         ensures refused { refusal_in result ≡ away self.now }
         ensures here { OnOk result ((place : ℕ) → place < length self.now.table.places → first_of (absents self.now.rows (place / self.now.table.limits.group)) ≡ None) }
     {
-        // For the proof: give `AreLimits`, and how few places there are.
+        // For the proof: shows `AreLimits`, and that there are few places.
         let rows = self.table.rows();
         let _limits = rows.limits();
         let _len = rows.len();
@@ -89,12 +89,13 @@ impl<'a, S: FarTickets> View<'a, S> {
         Ok(())
     }
 
-    /// Returns the row of a place, with each cell borrowed. A dead place still has its cells. Allocates nothing.
+    /// Borrows the row of a place, all cells at once. A dead place still has its cells. Allocates nothing.
     ///
     /// Refused with the first of these that applies:
     ///
     /// - `NoRow` (8): the place is past the end.
-    /// - `Absent` (16): an object of the place's row group is away. It names the first in the order of the columns.
+    /// - `Absent` (16): an object of the place's row group is away. The refusal names the first in the order of the
+    ///   columns.
     pub fn row(&self, place: u32) -> Result<LentRow<'a>, Refusal>
         ensures row { IfOk result (λ row. option_map (λ p. p.cells) (slice_get self.now.table.places place) ≡ Some row) }
         ensures past { length self.now.table.places ≤ place → refusal_in result ≡ Some Refusal.NoRow }
@@ -107,7 +108,7 @@ impl<'a, S: FarTickets> View<'a, S> {
         rows.row(place as usize)
     }
 
-    /// Returns the row of a place. It borrows each cell when it is asked for, so that the row is not copied. Allocates nothing.
+    /// Borrows the row of a place, each cell when it is read, so that the row is not copied. Allocates nothing.
     ///
     /// Refused as `row` is, with `NoRow` (8) and `Absent` (16).
     pub fn row_ref(&self, place: u32) -> Result<RowRef<'_, S>, Refusal>
@@ -128,7 +129,7 @@ impl<'a, S: FarTickets> View<'a, S> {
         ensures column_index { result ≡ option_map kind_of (slice_get self.now.rows.column_indexes column) }
     {
         let rows = self.table.rows();
-        // For the proof: gives that the kinds are those of the columns.
+        // For the proof: shows that the schema has the kinds of the columns.
         let _held = rows.held();
         rows.schema().get(column as usize)
     }
@@ -141,59 +142,58 @@ impl<'a, S: FarTickets> View<'a, S> {
         ensures small { result ≤ 2 ^ 16 }
     {
         let rows = self.table.rows();
-        // For the proof: gives that a row group has as many places as the limits say.
+        // For the proof: shows that the size of a row group is the one in the limits.
         let _held = rows.held();
         rows.limits().group as usize
     }
 
-    /// Returns the numbers of the places `from` up to `to` of a column with the flags of their places, borrowed. There is a
-    /// piece for each row group that has some of them. Allocates nothing.
+    /// Borrows the numbers and alive flags of the places `from` to `to` of a column, not including `to`, as one piece for
+    /// each row group. Allocates nothing.
     ///
     /// Refused with the first of these that applies:
     ///
     /// - `NoColumn` (4): there is no such column.
     /// - `WrongKind` (5): the column is a text column.
     /// - `OutOfRange` (14): `from` is above `to`, or `to` is past the places.
-    /// - `Absent` (16): the object of a row group with some of them is away. It names the first such.
+    /// - `Absent` (16): the object of one of the row groups is away. The refusal names the first.
     pub fn ints(&self, column: u32, from: u32, to: u32) -> Result<Lents<'a, S>, Refusal>
         ensures lent { IfOk result (λ lents. map ints_lent lents ≡ lent_part self.now.table column from to) }
         ensures refused { refusal_in result ≡ ints_refusal self.now.rows column from to }
     {
         let rows = self.table.rows();
-        // For the proof: what the rows are, and how many.
+        // For the proof: shows `AreRows`, and how many places there are.
         let _len = rows.len();
         let _limits = rows.limits();
         rows.held()
             .ints(column as usize, from as usize, to as usize)
     }
 
-    /// Returns the texts of the places `from` up to `to` of a column, each borrowed, with the flag of its place. Allocates
-    /// nothing.
+    /// Borrows the texts and alive flags of the places `from` to `to` of a column, not including `to`. Allocates nothing.
     ///
     /// Refused with the first of these that applies:
     ///
     /// - `NoColumn` (4): there is no such column.
-    /// - `WrongKind` (5): the column is of numbers.
+    /// - `WrongKind` (5): the column is a column of numbers.
     /// - `OutOfRange` (14): `from` is above `to`, or `to` is past the places.
-    /// - `Absent` (16): the object of a row group with some of them is away. It names the first such.
+    /// - `Absent` (16): the object of one of the row groups is away. The refusal names the first.
     pub fn texts(&self, column: u32, from: u32, to: u32) -> Result<TextCells<'a, S>, Refusal>
         ensures cells { IfOk result (λ lent. map (λ cell. text_cell cell.0) lent ≡ part column from to self.now.table.places) }
         ensures flags { IfOk result (λ lent. map (λ cell. cell.1) lent ≡ slice_range (flags_of self.now.table.places) from to) }
         ensures refused { refusal_in result ≡ texts_refusal self.now.rows column from to }
     {
         let rows = self.table.rows();
-        // For the proof: gives how many places there are.
+        // For the proof: shows how many places there are.
         let _len = rows.len();
         rows.held()
             .texts(column as usize, from as usize, to as usize)
     }
 
-    /// Returns the text of a place, borrowed; `None` if it is missing. A dead place still has its text. Allocates nothing.
+    /// Borrows the text of a place; `None` if it is missing. A dead place still has its text. Allocates nothing.
     ///
     /// Refused with the first of these that applies:
     ///
     /// - `NoColumn` (4): there is no such column.
-    /// - `WrongKind` (5): the column is of numbers.
+    /// - `WrongKind` (5): the column is a column of numbers.
     /// - `NoRow` (8): the place is past the end.
     /// - `Absent` (16): the object of the place's row group is away.
     pub fn text(&self, column: u32, place: u32) -> Result<Option<&'a str>, Refusal>
@@ -201,7 +201,7 @@ impl<'a, S: FarTickets> View<'a, S> {
         ensures refused { refusal_in result ≡ text_refusal self.now.rows column place }
     {
         let rows = self.table.rows();
-        // For the proof: gives how many places there are.
+        // For the proof: shows how many places there are.
         let _len = rows.len();
         rows.held().text(column as usize, place as usize)
     }

@@ -1,4 +1,4 @@
-// The jobs of a world, by number.
+// The jobs of a world, by their numbers.
 ghost use Rattle.std.specs.Prelude.{◌≡◌, ◌+◌, ◌<◌, ◌^◌, [], None, Some, IfSome, IfErr, OnOk, OnErr, cond, length, option_copied};
 ghost use Rattle.far_store.specs.Faults.{faults_in};
 ghost use Rattle.far_frame.specs.Jobs.{IsJobAt, CarryRefusal};
@@ -11,8 +11,7 @@ use std::alloc::Global;
 use std::collections::BTreeMap;
 use std::marker::Model;
 
-/// The jobs that are not spent, by number. A number has no job only while that is being carried. Its place is kept for its
-/// return.
+/// The jobs whose numbers are not spent. While a job is being carried, its number has no job, but its entry stays.
 #[derive(Drop)]
 pub(crate) struct Waiting<S: FarTickets> {
     jobs: BTreeMap<u64, Option<Job<S>>>,
@@ -27,7 +26,7 @@ impl<S: FarTickets> Model for Waiting<S> {
 }
 
 impl<S: FarTickets> Waiting<S> {
-    /// Returns the list of no job. Allocates nothing.
+    /// Makes an empty list. Allocates nothing.
     pub(crate) fn new(alloc: Global) -> Waiting<S>
         ensures { result ≡ [] }
     {
@@ -36,7 +35,7 @@ impl<S: FarTickets> Waiting<S> {
         }
     }
 
-    /// Returns the job of a number.
+    /// Returns the job of a number, or `None` if there is none.
     pub(crate) fn get(&self, n: u64) -> Option<&Job<S>>
         ensures { option_copied result ≡ job_at self.now n }
     {
@@ -53,7 +52,7 @@ impl<S: FarTickets> Waiting<S> {
         self.jobs.len() as u64
     }
 
-    /// Takes the job of a number out, while it is carried.
+    /// Takes out the job of a number, to carry it.
     fn take(&mut self, n: u64) -> Option<Job<S>>
         ensures value { result ≡ job_at self.old n }
         ensures after { self.new ≡ with_job self.old n None }
@@ -74,7 +73,7 @@ impl<S: FarTickets> Waiting<S> {
         let_go(place.replace(job));
     }
 
-    /// Adds a job. Refused with `NoMemory` (1) alone. A refused call changes nothing.
+    /// Adds a job. Refused only with `NoMemory` (1). A refused call changes nothing.
     pub(crate) fn add(&mut self, n: u64, job: Job<S>) -> Result<(), Refusal>
         ensures added { OnOk result (self.new ≡ one_more self.old n job) }
         ensures memory { IfErr result (λ e. e ≡ Refusal.NoMemory) }
@@ -91,7 +90,7 @@ impl<S: FarTickets> Waiting<S> {
         let_go(self.jobs.remove(&n));
     }
 
-    /// Records how the job of a number ended. Its number is spent if it was accepted or is stale.
+    /// Spends the number of a job if its end was accepted or the job is stale.
     pub(crate) fn end(&mut self, n: u64, ended: &Result<(), Refusal>)
         ensures { self.new ≡ cond (spends ended.now) (without_job self.old n) self.old }
     {
@@ -104,8 +103,8 @@ impl<S: FarTickets> Waiting<S> {
 }
 
 impl<S: FarStore> Waiting<S> {
-    /// Carries the job of a number. Refused as a carry is, and with `StaleJob` (20) if there is none. A refused call changes
-    /// nothing.
+    /// Carries the job of a number. Refused as `Job::carry` is, and with `StaleJob` (20) if there is no such job. A refused
+    /// call changes nothing.
     pub(crate) fn carry(
         &mut self,
         n: u64,
@@ -137,5 +136,5 @@ impl<S: FarStore> Waiting<S> {
     }
 }
 
-/// Drops a value.
+/// Drops a value. Generic for the proof, which then goes through no field of a job.
 fn let_go<T: Drop>(_value: T) {}

@@ -1,4 +1,4 @@
-// A table under lists of steps.
+// A table with its store and jobs, on which lists of steps run.
 ghost use Rattle.std.specs.Prelude.{◌≡◌, ℕ, ◌+◌, ◌<◌, ◌≤◌, ◌^◌, [], length, slice_get, IfOk, IfErr, OnOk, OnErr, IsOk};
 ghost use Rattle.far_scopes.specs.Refusing.{refusal_in};
 ghost use Rattle.far_rows.specs.Jobs.{AreAt};
@@ -25,12 +25,12 @@ use far_types::{Cell, Edit, Refusal};
 use std::alloc::Global;
 use std::marker::Model;
 
-/// A table, the store to which its objects go, its jobs, and all else that a step can see or change.
+/// A table, the store for its objects, its jobs, and all else that a step can see or change.
 ///
-/// Jobs are numbered 0, 1, 2, .. in the order in which they begin. A number is spent once its job was accepted at its end, or
-/// was stale there.
+/// Jobs are numbered 0, 1, 2, .. in the order in which they begin. The end of a job spends its number if the job is
+/// accepted or stale.
 ///
-/// Steps are served in order, and each has a reply. Here few faults occurred before:
+/// Serves steps in order, with a reply to each, if few faults occurred before:
 ///
 /// ```
 /// fn run_few<S: FarStore>(world: &mut World<S>, steps: Vec<Step>) -> Result<Vec<Reply>, Refusal> {
@@ -62,8 +62,8 @@ impl<S: FarStore> Model for World<S> {
 }
 
 impl<S: FarStore> World<S> {
-    /// Returns a world with this table and this store, in which no job was begun and no fault occurred. It allocates nothing,
-    /// so it is never refused. An error would return the frame and the store, for those who match on both outcomes.
+    /// Makes a world of this table and this store, without jobs or faults. Allocates nothing, so it is never refused; an
+    /// error would return the frame and the store, for those who match on both outcomes.
     pub fn new(alloc: Global, frame: Frame<S>, store: S) -> Result<World<S>, (Refusal, Frame<S>, S)>
         requires here { AreAt S.is_of (S.store_id store) frame.rows }
         ensures made { IsOk result }
@@ -86,7 +86,7 @@ impl<S: FarStore> World<S> {
         &self.frame
     }
 
-    /// Returns the store to which the table's objects go. All tickets of the rows are of it. Allocates nothing.
+    /// Returns the store for the table's objects. All tickets of the rows are of this store. Allocates nothing.
     pub fn store(&self) -> &S
         ensures store_id { S.store_id result.now ≡ self.now.store }
         ensures here { AreAt S.is_of self.now.store self.now.state.rows }
@@ -94,42 +94,42 @@ impl<S: FarStore> World<S> {
         &self.store
     }
 
-    /// Returns how many faults of its stores occurred since `new`. Allocates nothing.
+    /// Returns how many faults of its stores the world has counted since `new`. Allocates nothing.
     pub fn faults(&self) -> u64
         ensures { result ≡ self.now.faults }
     {
         self.meter.faults()
     }
 
-    /// Returns cells that are no longer needed: the row of a later edit may be made in their memory. Allocates nothing.
+    /// Takes cells that are no longer needed, whose memory the row of a later edit can reuse. Allocates nothing.
     pub fn spare_cells(&mut self) -> Vec<Cell>
         ensures { self.new ≡ self.old }
     {
         self.frame.spare_cells()
     }
 
-    /// Serves an edit, as its step is served. No fault occurs.
+    /// Serves an edit, as `serve` serves the step. No fault occurs.
     ///
-    /// It is inlined, so that a caller that knows the kind of its edit goes straight to that.
+    /// Inlined, so that a caller that knows the kind of its edit calls the code for that kind directly.
     #[inline(always)]
     pub fn edit(&mut self, edit: Edit) -> Reply
         ensures step { IsStep S.content S.number_of self.old (Step.Edit edit) result self.new }
         ensures table { IsTableStep (table_of self.old.state) (Step.Edit edit) result (table_of self.new.state) }
         ensures faults { self.new.faults ≡ self.old.faults }
     {
-        // For the proof: gives what always holds of the table.
+        // For the proof: shows the invariant of the table.
         self.frame.keeps();
         serving::edit(&mut self.frame, edit)
     }
 
-    /// Has the same effect as the step `Lend`, without copying the values. Use it after reading the part in a view of the frame.
-    /// Allocates nothing.
+    /// Has the same effect as the step `Lend`, without copying the values. Call it after reading the part through a view of
+    /// the frame. Allocates nothing.
     ///
     /// Refused with the first of these that applies:
     ///
     /// - `NoColumn` (4): there is no such column.
     /// - `OutOfRange` (14): `from` is above `to`, or `to` is past the places.
-    /// - `Absent` (16): the object of a row group with some of them is away. It names the first such.
+    /// - `Absent` (16): the object of one of the row groups is away. The refusal names the first.
     ///
     /// A refused call changes nothing.
     pub fn record_lending(&mut self, column: u32, from: u32, to: u32) -> Result<(), Refusal>
@@ -140,7 +140,7 @@ impl<S: FarStore> World<S> {
         ensures table { table_of self.new.state ≡ table_of self.old.state }
         ensures faults { self.new.faults ≡ self.old.faults }
     {
-        // For the proof: gives what always holds of the table.
+        // For the proof: shows the invariant of the table.
         self.frame.keeps();
         self.frame.record_lending(column, from, to)
     }
@@ -152,12 +152,12 @@ impl<S: FarStore> World<S> {
         ensures table { IsTableStep (table_of self.old.state) step result (table_of self.new.state) }
         ensures faults { self.new.faults ≤ self.old.faults + 1 }
     {
-        // For the proof: gives what always holds of the table.
+        // For the proof: shows the invariant of the table.
         self.frame.keeps();
         self.serve_step(step)
     }
 
-    /// Serves one step.
+    /// Serves one step, by the function for its kind.
     #[inline(always)]
     fn serve_step(&mut self, step: Step) -> Reply
         requires few { self.old.faults < 2 ^ 63 }
@@ -190,18 +190,19 @@ impl<S: FarStore> World<S> {
     }
 }
 
-/// Serves steps in order, with one reply to each. The replies and the new state are a run of the plain table from the old one.
+/// Serves steps in order, with one reply to each. The replies and the new state are a run of the plain table from the old
+/// one.
 ///
-/// Edits, registrations, lendings, pins and every phase of evacuations, fetches and offloaded builds may follow one another in
-/// any order. After any list of steps:
+/// Edits, registrations, lendings, pins and every phase of evictions, fetches and offloaded builds may follow one another
+/// in any order. After any list of steps:
 ///
-/// - Each answer of an aggregate is what folding it over the rows as they are gives.
-/// - Each lent slice is that part of its column.
+/// - Each answer of an aggregate is its fold over the rows as they are.
+/// - Each part that was lent is that part of its column.
 /// - Each edit's reply is the plain list's.
 /// - A refused step changes no row, column or answer.
 /// - A spent number of a job stays spent.
 ///
-/// Refused with `NoMemory` (1) alone, before any step. A refused call changes nothing.
+/// Refused only with `NoMemory` (1), before any step. A refused call changes nothing.
 pub fn run<S: FarStore>(world: &mut World<S>, steps: Vec<Step>) -> Result<Vec<Reply>, Refusal>
     requires few { world.old.faults + length steps.items < 2 ^ 63 }
     ensures run { IfOk result (λ replies. IsRun S.content S.number_of world.old steps.items replies.items world.new) }

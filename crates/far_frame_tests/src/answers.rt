@@ -1,22 +1,22 @@
-//! What a call returns, as plain data, and whether a reply is that.
+//! Expected replies, as plain data, and the comparison with replies.
 use crate::call::Value;
 use far_frame::{IntPiece, Reply, TextPiece};
 use far_types::{Answer, CellRef, Key, LentRow, Name, Refusal};
 
-/// A line of an answer: its key, which is missing if there is no key column, and count and sum or least and greatest value.
+/// A line of an answer: the key, or missing without key column, and count and sum or least and greatest value.
 pub type Line = (Value, i128, i128);
 
-/// What is lent of a place: its value in a column, and whether the place is alive.
+/// A lent place: its value in a column, and whether it is alive.
 pub type Lent = (Value, bool);
 
-/// What a call returns.
+/// An expected reply.
 #[derive(Clone, Copy)]
 pub enum Due<'a> {
     Done,
     Place(u32),
     Aggregate(u32),
     Lines(&'a [Line]),
-    /// The places from this one on, a piece for each row group.
+    /// The places from this one on, in one piece for each row group.
     Lent(u32, &'a [Lent]),
     Job(u64),
     Next(&'a [u32]),
@@ -25,7 +25,7 @@ pub enum Due<'a> {
     Refused(Refusal),
 }
 
-// Returns whether a cell is there and has this value.
+// Returns whether a cell exists and has this value.
 fn is_cell(cell: Option<CellRef<'_>>, due: Value) -> bool {
     match (cell, due) {
         (Some(CellRef::Int(number)), Value::Int(due)) => number == due,
@@ -35,7 +35,7 @@ fn is_cell(cell: Option<CellRef<'_>>, due: Value) -> bool {
     }
 }
 
-// Returns the value of a key, which is missing if there is no key column.
+// Returns the key as a cell, missing without key column.
 fn key_cell(key: &Option<Key>) -> CellRef<'_> {
     match key {
         Some(Key::Int(number)) => CellRef::Int(*number),
@@ -80,12 +80,12 @@ fn is_answer(answer: &Answer, due: &[Line]) -> bool {
     same
 }
 
-/// Places of one row group that follow each other.
+/// Adjacent places of one row group.
 trait Piece {
     /// Returns the value of the n-th place.
     fn value(&self, n: usize) -> Option<CellRef<'_>>;
 
-    /// Returns whether each place is alive.
+    /// Returns for each place whether it is alive.
     fn flags(&self) -> &[bool];
 }
 
@@ -125,7 +125,7 @@ fn is_piece<P: Piece>(piece: &P, due: &[Lent]) -> bool {
     same
 }
 
-// Returns how many places the piece has that begins at a place, if `left` are lent from there on.
+// Returns the length of the piece that begins at a place, if `left` places are lent from there on.
 fn piece_len(place: usize, size: usize, left: usize) -> usize {
     if size == 0 {
         return 0;
@@ -133,7 +133,7 @@ fn piece_len(place: usize, size: usize, left: usize) -> usize {
     size.saturating_sub(place % size).min(left)
 }
 
-// Returns whether pieces are these, the places from one on in row groups of a size.
+// Returns whether pieces have these places, from one on, in row groups of a size.
 fn are_pieces<P: Piece>(pieces: &[P], size: u32, from: u32, due: &[Lent]) -> bool {
     let (mut place, mut left) = (from as usize, due);
     for piece in pieces {
@@ -147,7 +147,7 @@ fn are_pieces<P: Piece>(pieces: &[P], size: u32, from: u32, due: &[Lent]) -> boo
     left.is_empty() && pieces.is_empty() == due.is_empty()
 }
 
-/// Returns whether a reply is the one that is due, of a table with row groups of this size.
+/// Returns whether a reply is the expected one, for a table with row groups of this size.
 pub fn is_reply(reply: &Reply, due: Due<'_>, size: u32) -> bool {
     match due {
         Due::Lines(lines) => match reply {
@@ -167,7 +167,7 @@ pub fn is_reply(reply: &Reply, due: Due<'_>, size: u32) -> bool {
     }
 }
 
-// The same of a reply that owns nothing.
+// Returns the same for a reply that owns no memory.
 fn is_plain(reply: &Reply, due: Due<'_>) -> bool {
     match reply {
         Reply::Done => match due {
@@ -194,7 +194,7 @@ fn is_plain(reply: &Reply, due: Due<'_>) -> bool {
     }
 }
 
-/// Returns whether a row that is lent has these values.
+/// Returns whether a lent row has these values.
 pub fn is_row(row: &LentRow<'_>, due: &[Value]) -> bool {
     let mut same = row.len() == due.len();
     for (column, value) in due.iter().enumerate() {

@@ -1,10 +1,10 @@
-//! Calls on a world, as data: every step of the table, and looks at what no step returns.
+//! Calls on a world, as data: every step of the table, and checks of what no step returns.
 use crate::opening::push;
 use far_frame::Step;
 use far_types::{Cell, Edit, Filter, Fold, Kind, Refusal, Row, Spec, Text};
 use std::alloc::Global;
 
-/// What a cell has.
+/// The value of a cell.
 #[derive(Clone, Copy)]
 pub enum Value {
     Missing,
@@ -12,7 +12,7 @@ pub enum Value {
     Text(&'static str),
 }
 
-/// An aggregate of all rows.
+/// An aggregate without conditions.
 #[derive(Clone, Copy)]
 pub struct Watched {
     pub fold: Fold,
@@ -27,39 +27,39 @@ pub const TOTALS: Watched = Watched {
     key: None,
 };
 
-/// The same under each text of column 1.
+/// Count and sum of column 0 by the text of column 1.
 pub const TOTALS_BY_TEXT: Watched = Watched {
     fold: Fold::Totals,
     value: 0,
     key: Some(1),
 };
 
-/// The least and the greatest of column 0.
+/// Least and greatest value of column 0.
 pub const EXTREMA: Watched = Watched {
     fold: Fold::Extrema,
     value: 0,
     key: None,
 };
 
-/// The same under each text of column 1.
+/// Least and greatest value of column 0 by the text of column 1.
 pub const EXTREMA_BY_TEXT: Watched = Watched {
     fold: Fold::Extrema,
     value: 0,
     key: Some(1),
 };
 
-/// A call on a world. Columns stand before places and row groups, aggregates before row groups.
+/// A call on a world. Columns come before places and row groups, aggregates before row groups.
 #[derive(Clone, Copy)]
 pub enum Call {
     Insert(&'static [Value]),
-    /// The place, the column and the value.
+    /// Sets a place, in a column, to a value.
     Set(u32, u32, Value),
     Remove(u32),
     Watch(Watched),
     Unwatch(u32),
     Scan(u32, u32),
     Ask(u32),
-    /// The column, and the places from the first number up to the second.
+    /// Lends places of a column, from the first number to the second, not including it.
     Lend(u32, u32, u32),
     Pin(u32, u32),
     Unpin(u32, u32),
@@ -72,21 +72,21 @@ pub enum Call {
     Merge(u64),
     Compact(Kind, u32),
     Prefetch(u32),
-    /// Looks at the row of a place.
+    /// Checks the row of a place.
     Row(u32),
-    /// Looks whether a place is alive: `RemovedRow` says no.
+    /// Checks that a place is alive; refused with `RemovedRow` if not.
     IsAlive(u32),
-    /// Looks whether an object can go away.
+    /// Checks that an object can be evicted.
     MayEvac(u32, u32),
-    /// Looks whether a row group can be scanned into an aggregate: `StaleJob` says no.
+    /// Checks that a row group can be scanned into an aggregate; refused with `StaleJob` if not.
     MayScan(u32, u32),
-    /// Checks whether it can be scanned in the store.
+    /// Checks that a row group can be scanned in the store.
     MayOffload(u32, u32),
-    /// Looks which object goes away first.
+    /// Checks which object is the coldest.
     Coldest,
-    /// Computes an aggregate from scratch, by so many workers.
+    /// Computes an aggregate from scratch, with this many workers.
     Recount(u32, u32),
-    /// Looks whether so many faults were met so far: `FarFault` says no.
+    /// Checks that this many faults were met so far; refused with `FarFault` if not.
     Faults(u64),
 }
 
@@ -141,7 +141,7 @@ pub fn spec(alloc: Global, watched: Watched) -> Spec {
     }
 }
 
-/// Returns the step of a call that is one.
+/// Returns the step of a call, if the call is a step.
 pub fn step(alloc: Global, call: Call) -> Result<Step, Refusal> {
     match call {
         Call::Insert(values) => insert(alloc, values),
@@ -151,7 +151,7 @@ pub fn step(alloc: Global, call: Call) -> Result<Step, Refusal> {
     }
 }
 
-// Returns a step that owns nothing.
+// Returns a step that owns no memory.
 fn plain_step(call: Call) -> Step {
     match call {
         Call::Remove(place) => Step::Edit(Edit::Remove(place)),

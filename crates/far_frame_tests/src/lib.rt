@@ -1,7 +1,7 @@
 #![tactic(auto)]
-//! Tests of the table: scripts, of which one player makes the calls one by one. What a script of the shell shows stands in examples/, and
-//! tools/random-tables draws random ones. What owns much is dropped by a call of `drop`: the proof of a function that drops a table itself
-//! is long.
+//! Tests of the table, as scripts that one function plays call by call. Whatever a script of the shell can show is in
+//! examples/, and tools/random-tables draws random scripts. A value that owns much is dropped by a call of `drop`: the
+//! proof of a function that drops a table itself is long.
 
 #[cfg(test)]
 mod answers;

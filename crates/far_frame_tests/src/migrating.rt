@@ -1,4 +1,5 @@
-//! A world that goes on with another store: all rows and answers are the same, and aggregates go on. One that is refused is as it was.
+//! Worlds that move to another store: rows and answers do not change, and aggregates stay up to date. A refused move
+//! changes nothing.
 use crate::answers::Due;
 use crate::call::Value::{Int, Missing, Text};
 use crate::call::{Call, EXTREMA, TOTALS_BY_TEXT};
@@ -18,7 +19,7 @@ const BY_TEXT: Due<'static> = Due::Lines(&[
     (Text("plum"), 1, 7),
 ]);
 
-/// The first row group is away, and still pending in the second aggregate. A job waits for its end.
+/// The first row group is away, and still pending in the second aggregate. A job is waiting.
 const BEFORE: Calls = &[
     (Call::Watch(TOTALS_BY_TEXT), Due::Aggregate(0)),
     (Call::Insert(&[Int(4), Text("pear")]), Due::Place(0)),
@@ -40,7 +41,7 @@ const BEFORE: Calls = &[
     (Call::Ask(0), BY_TEXT),
 ];
 
-/// Objects are where they were, with their pins, and are read from the new store; jobs of before are spent.
+/// Objects stay where they were, with their pins, and are read from the new store. Old jobs are stale.
 const MIGRATED: Calls = &[
     (Call::Faults(0), Due::Done),
     (Call::Row(0), AWAY),
@@ -78,7 +79,7 @@ const MIGRATED: Calls = &[
     (Call::Unpin(1, 1), Due::Refused(Refusal::NotPinned)),
 ];
 
-/// All is as before: the job that waits ends, and objects come back from the old store.
+/// Nothing changed: the waiting job ends, and objects are fetched from the old store.
 const FAULTED: Calls = &[
     (Call::Faults(1), Due::Done),
     (Call::Row(0), AWAY),
@@ -98,7 +99,7 @@ const FAULTED: Calls = &[
     (Call::Unpin(1, 1), Due::Refused(Refusal::NotPinned)),
 ];
 
-/// The same, and no store failed.
+/// The same, without a fault of a store.
 const FULL: Calls = &[
     (Call::Faults(0), Due::Done),
     (Call::Row(0), AWAY),
@@ -113,7 +114,7 @@ const FULL: Calls = &[
     (Call::Row(0), Due::Row(&[Int(4), Text("pear")])),
 ];
 
-/// An object that was pinned before does not go away until it is unpinned.
+/// A pinned object cannot be evicted after the move, until it is unpinned.
 const PINNED: Calls = &[
     (Call::Evac(1, 1), Due::Job(3)),
     (Call::Carry(3), Due::Done),
@@ -141,7 +142,7 @@ const FIRST_GET_FAILS: Plan = Plan {
     ..SOUND
 };
 
-/// A store that takes one content.
+/// A store with space for one content.
 const SMALL: Plan = Plan {
     capacity: 1,
     ..SOUND

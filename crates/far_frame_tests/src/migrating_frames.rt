@@ -1,5 +1,5 @@
-//! A table that goes on with another store by a call of its own, or is handed back by one that takes nothing: its rows and its answers are
-//! the same.
+//! Tables that move to another store by a call on the table itself, or are returned because that store is full: rows and
+//! answers do not change.
 ghost use Rattle.std.specs.Prelude.{ℕ, List};
 ghost use Rattle.far_rows.specs.Jobs.{AreAt};
 
@@ -15,16 +15,16 @@ use std::alloc::Global;
 use std::sync::Wait;
 use std::thread::Threads;
 
-/// A store that takes nothing.
+/// A store without space.
 const FULL: Plan = Plan {
     capacity: 0,
     ..SOUND
 };
 
-/// What the aggregate answers, and what a recount finds, which reads the row group that is away.
+/// The aggregate's answer, and the result of a recount, which reads the row group that is away.
 const TOTAL: Due<'static> = Due::Lines(&[(Missing, 3, 18)]);
 
-/// Sends the object of the first row group away.
+/// Evicts the object of the first row group.
 fn send_away<S: FarStore>(alloc: Global, frame: &mut Frame<S>, store: &S) -> Result<(), Refusal>
     requires here { AreAt S.is_of (S.store_id store.now) frame.old.rows }
     ensures { AreAt S.is_of (S.store_id store.now) frame.new.rows }
@@ -39,7 +39,7 @@ fn send_away<S: FarStore>(alloc: Global, frame: &mut Frame<S>, store: &S) -> Res
     }
 }
 
-// Gives a table three rows.
+// Inserts three rows.
 fn insert_rows<S: FarTickets>(alloc: Global, frame: &mut Frame<S>) -> Result<(), Refusal>
     ensures { (id : List ℕ) → AreAt S.is_of id frame.old.rows → AreAt S.is_of id frame.new.rows }
 {
@@ -48,7 +48,7 @@ fn insert_rows<S: FarTickets>(alloc: Global, frame: &mut Frame<S>) -> Result<(),
     first.and(second).and(insert(alloc, frame, 7))
 }
 
-/// Gives a table three rows and an aggregate of them. The first row group goes away. The second has no copy in the store.
+/// Inserts three rows, registers an aggregate, and evicts the first row group. The second has no copy in the store.
 fn fill<S: FarStore>(alloc: Global, frame: &mut Frame<S>, store: &S) -> Result<(), Refusal>
     requires here { AreAt S.is_of (S.store_id store.now) frame.old.rows }
     ensures { AreAt S.is_of (S.store_id store.now) frame.new.rows }
@@ -58,8 +58,8 @@ fn fill<S: FarStore>(alloc: Global, frame: &mut Frame<S>, store: &S) -> Result<(
     watched.and(inserted).and(send_away(alloc, frame, store))
 }
 
-/// Returns whether a table over its store has its rows and answers, one row group is away, and it was refused another store for the reason
-/// that is due, if there is one.
+/// Returns whether a table has its rows and answers, and one of its row groups is away. Its move must have been refused for
+/// the expected reason, or not at all.
 fn is_same<S: FarStore, R: Threads + Sync>(
     rt: &R,
     frame: &Frame<S>,
@@ -78,7 +78,7 @@ fn is_same<S: FarStore, R: Threads + Sync>(
     }
 }
 
-/// The same of a table that goes on with another store or is refused it.
+/// Moves a table to another store, and returns the same for the result.
 fn is_same_then<S: FarStore, R: Threads + Sync>(
     rt: &R,
     frame: Frame<S>,
@@ -102,7 +102,7 @@ fn is_same_then<S: FarStore, R: Threads + Sync>(
     }
 }
 
-/// The same of a new table over a store.
+/// Returns the same for a new table.
 fn play_over<S: FarStore, R: Threads + Sync>(
     rt: &R,
     alloc: Global,
@@ -119,7 +119,7 @@ fn play_over<S: FarStore, R: Threads + Sync>(
     }
 }
 
-/// The same of stores that were made.
+/// Returns the same for these stores, if they were made.
 fn play_between<S: FarStore, R: Threads + Sync>(
     rt: &R,
     alloc: Global,
@@ -139,7 +139,7 @@ fn play_between<S: FarStore, R: Threads + Sync>(
     }
 }
 
-/// The same of new stores.
+/// Returns the same for new stores.
 fn play_once<R: Threads + Wait + Sync>(
     rt: &R,
     alloc: Global,
@@ -149,7 +149,7 @@ fn play_once<R: Threads + Wait + Sync>(
     play_between(rt, alloc, stores(rt, alloc, &[SOUND, to]), due)
 }
 
-/// The same, a second time if memory runs out.
+/// Returns the same, with a second run if memory runs out.
 fn play<R: Threads + Wait + Sync>(
     rt: &R,
     alloc: Global,
@@ -162,7 +162,7 @@ fn play<R: Threads + Wait + Sync>(
     }
 }
 
-/// Returns whether all tables are the same that go on with a store that is sound, or are refused one that is full.
+/// Returns whether the move passes this check with a sound store and with a full one.
 fn are_same<R: Threads + Wait + Sync>(rt: &R, alloc: Global) -> Checked {
     let sound = play(rt, alloc, SOUND, None);
     both(sound, play(rt, alloc, FULL, Some(Refusal::FarFull)))

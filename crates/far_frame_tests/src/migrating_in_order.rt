@@ -1,5 +1,5 @@
-//! In which order a world that goes on with another store puts its contents there: those of numbers before those of texts, each by
-//! ascending object number, whichever went away first.
+//! The order in which a world that moves puts its contents into the new store: numbers before texts, each by ascending
+//! object number, whichever was evicted first.
 use crate::answers::Due;
 use crate::call::Call;
 use crate::call::Value::{Int, Missing, Text};
@@ -14,7 +14,7 @@ use std::sync::Wait;
 use std::sync::atomic::{AtomicU64, Ordering};
 use std::thread::Threads;
 
-/// An engine over another one. It notes how many bytes each write has, in order: two decimal digits a write.
+/// An engine that wraps another one and notes the length of each write, in order: two decimal digits a write.
 #[derive(Drop)]
 struct Measured<'a, E> {
     engine: E,
@@ -22,7 +22,7 @@ struct Measured<'a, E> {
 }
 
 impl<'a, E> Measured<'a, E> {
-    // One thread writes, so nothing comes between.
+    // Only one thread writes, so no write comes between the load and the store.
     fn note(&self, length: usize) {
         let before = self.lengths.load(Ordering::SeqCst);
         let after = before.wrapping_mul(100).wrapping_add(length as u64);
@@ -56,7 +56,8 @@ impl<'a, E: Engine> Engine for Measured<'a, E> {
     }
 }
 
-/// Two columns of texts and two of numbers, in two row groups. All objects go away, the last first, and texts before numbers.
+/// Two columns of texts and two of numbers, in two row groups. All objects are evicted, the last first, and texts before
+/// numbers.
 const ALL_AWAY: Calls = &[
     (
         Call::Insert(&[Text("a"), Int(1), Text("abcd"), Int(2)]),
@@ -96,12 +97,13 @@ const ALL_AWAY: Calls = &[
     (Call::Commit(7), Due::Done),
 ];
 
-/// The lengths of their far forms: numbers of the first row group, and of the second, of which one of two is missing; texts of the first,
-/// three bytes and six, and of the second, five bytes and eight. A row group of numbers is as long as it can be.
+/// The lengths of their far forms: the numbers of the first row group, and of the second, of which one in two is missing;
+/// the texts of the first, with three and six bytes, and of the second, with five and eight. An object of numbers always
+/// has the length of a full row group.
 const IN_ORDER: u64 = 22_22_23_23_17_20_15_18;
 
-/// Returns why something was refused. The types of what came out and of what came back are parameters: a function that knows a world has
-/// each of its fields in its proof.
+/// Returns why something was refused. Generic, since the proof of a function that knows the type of a world goes through
+/// each of its fields.
 fn outcome<T: Drop, U: Drop>(moved: Result<T, (Refusal, U)>) -> Result<(), Refusal> {
     match moved {
         Ok(_) => Ok(()),
@@ -118,7 +120,7 @@ fn moved<S: FarStore, N: FarStore>(world: World<S>, store: N) -> Result<(), Refu
     outcome(world.migrate(store))
 }
 
-/// Returns whether all objects of a world go away, as they should, and then to another store.
+/// Evicts all objects of a world, and then moves it to another store. Returns whether each call replies as expected.
 fn are_moved<S: FarStore, N: FarStore, R: Threads + Sync>(
     rt: &R,
     alloc: Global,
@@ -138,7 +140,7 @@ fn are_moved<S: FarStore, N: FarStore, R: Threads + Sync>(
     }
 }
 
-/// The same of a new world over one store, if both stores were made.
+/// Returns the same for a new world, if both stores were made.
 fn are_moved_between<S: FarStore, N: FarStore, R: Threads + Sync>(
     rt: &R,
     alloc: Global,
@@ -155,7 +157,7 @@ fn are_moved_between<S: FarStore, N: FarStore, R: Threads + Sync>(
     }
 }
 
-/// The same into a log.
+/// Returns the same for a move into a log.
 fn are_moved_into<R: Threads + Wait + Sync>(
     rt: &R,
     alloc: Global,
@@ -170,7 +172,7 @@ fn are_moved_into<R: Threads + Wait + Sync>(
     are_moved_between(rt, alloc, store(rt, alloc, SOUND), to)
 }
 
-/// Returns the lengths of the contents that a world puts into a new log, in order; 0 if a call does not return what it should.
+/// Returns the lengths of the contents that a world puts into a new log, in order; 0 if a call does not reply as expected.
 fn lengths_once<R: Threads + Wait + Sync>(rt: &R, alloc: Global) -> Result<u64, Refusal> {
     let lengths = AtomicU64::new(0);
     let moved = match ByteLog::new(alloc, 200) {
@@ -184,7 +186,7 @@ fn lengths_once<R: Threads + Wait + Sync>(rt: &R, alloc: Global) -> Result<u64, 
     }
 }
 
-/// The same, a second time if memory runs out.
+/// Returns the same, with a second run if memory runs out.
 fn lengths<R: Threads + Wait + Sync>(rt: &R, alloc: Global) -> Result<u64, Refusal> {
     match lengths_once(rt, alloc) {
         Err(Refusal::NoMemory) => lengths_once(rt, alloc),

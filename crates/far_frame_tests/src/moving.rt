@@ -1,4 +1,4 @@
-//! Objects of a table that go away and come back: worked examples.
+//! Objects of a table that are evicted and fetched: worked examples.
 use crate::answers::Due;
 use crate::call::Value::{Int, Missing, Text};
 use crate::call::{Call, EXTREMA, TOTALS, TOTALS_BY_TEXT};
@@ -20,10 +20,10 @@ const NO_TEXTS: Due<'static> = Due::Refused(Refusal::Absent {
     group: 0,
 });
 
-/// A row group was scanned, or its columns are not where they are needed.
+/// A row group was scanned already, or its columns are not where a scan needs them.
 const NOT_NOW: Due<'static> = Due::Refused(Refusal::StaleJob);
 
-/// Edits name the lowest column that is away, whichever they are of.
+/// An edit names the lowest column that is away, whichever column it edits.
 const REFUSED: Calls = &[
     FIRST,
     (Call::Evac(1, 0), Due::Job(0)),
@@ -43,7 +43,7 @@ const REFUSED: Calls = &[
     (Call::Row(0), NO_NUMBERS),
 ];
 
-/// A new row group has objects of its own.
+/// A new row group has its own objects.
 const NEXT_GROUP: Calls = &[
     FIRST,
     (Call::Insert(&[Missing, Missing]), Due::Place(1)),
@@ -138,7 +138,7 @@ const WRITTEN: Calls = &[
     (Call::MayEvac(0, 0), NO_NUMBERS),
 ];
 
-/// Each kind has one object: the other goes first if one is pinned, and none if both are.
+/// Each kind has one object. If one is pinned, the other is the victim, and if both are, there is none.
 const COLDEST: Calls = &[
     (Call::Coldest, Due::Coldest(None)),
     FIRST,
@@ -154,7 +154,7 @@ const COLDEST: Calls = &[
     (Call::Coldest, Due::Coldest(None)),
 ];
 
-/// Numbers in row groups of two, with space for two of them in each of three segments.
+/// Numbers in row groups of two, with space for two row groups in each of three segments.
 const THREE_SEGMENTS: Opening = Opening {
     kinds: &[Kind::Int],
     limits: Limits {
@@ -169,8 +169,9 @@ const THREE_SEGMENTS: Opening = Opening {
     ],
 };
 
-/// The second row group alone is left in the first segment. It goes to the beginning of the second one, and the first is empty: so there
-/// is space for five row groups more. Before the last of them each segment has one, and there is none to which another could be compacted.
+/// Only the second row group remains in the first segment. Compacting moves it to the beginning of the second segment and
+/// empties the first, which leaves space for five more row groups. Before the last of these each segment has a row group,
+/// so none can be compacted.
 const COMPACTED: Calls = &[
     (Call::Evac(0, 0), Due::Job(0)),
     (Call::Carry(0), Due::Done),
@@ -214,7 +215,7 @@ const COMPACTED: Calls = &[
     ),
 ];
 
-// Scripts are in three lists, since the proof of a test goes through the data of its list.
+// Three lists of scripts, since the proof of a test goes through the data of its list.
 static ROWS_AWAY: [Script; 4] = [
     Script {
         name: "a row that is away refuses edits of every column",

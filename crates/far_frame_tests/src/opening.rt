@@ -1,4 +1,4 @@
-//! Tables by name, and the stores under them.
+//! The tables of scripts, and their stores.
 ghost use Rattle.std.specs.Prelude.{ℕ, List, IfOk};
 ghost use Rattle.far_rows.specs.Jobs.{AreAt};
 
@@ -10,7 +10,7 @@ use far_types::{Kind, Limits, Refusal, Schema};
 use std::alloc::Global;
 use std::sync::Wait;
 
-/// A table: its columns, its limits, and the calls that give it its first rows.
+/// A table: its columns, its limits, and the calls that insert its first rows.
 #[derive(Clone, Copy)]
 pub struct Opening {
     pub kinds: &'static [Kind],
@@ -18,7 +18,7 @@ pub struct Opening {
     pub rows: &'static [(Call, Due<'static>)],
 }
 
-/// Row groups of two, which lie in four segments of two each.
+/// Row groups of two, in four segments with space for two each.
 pub const FOUR_SEGMENTS: Limits = Limits {
     group: 2,
     places: 100,
@@ -62,7 +62,7 @@ pub const PAIRS: Opening = Opening {
     rows: &[],
 };
 
-/// The same in row groups of two, which lie in few large segments.
+/// The same columns in row groups of two, in few large segments.
 pub const SMALL_GROUPS: Opening = Opening {
     kinds: &[Kind::Int, Kind::Text],
     limits: Limits {
@@ -77,7 +77,7 @@ pub const SMALL_GROUPS: Opening = Opening {
     rows: &[],
 };
 
-/// A store: how many contents it takes, and which put and which get of it fail, counted from 1, or 0 for none.
+/// A store: how many contents it can hold, and the number of the put and of the get that fail, counted from 1; 0 for none.
 #[derive(Clone, Copy)]
 pub struct Plan {
     pub capacity: u64,
@@ -85,7 +85,7 @@ pub struct Plan {
     pub failing_get: u64,
 }
 
-/// A store that takes 16 contents and never fails.
+/// A store for 16 contents that never fails.
 pub const SOUND: Plan = Plan {
     capacity: 16,
     failing_put: 0,
@@ -129,7 +129,7 @@ pub fn stores<R: Wait + Sync + Drop + Copy>(
     }
 }
 
-/// Returns stores with one more, if all were made.
+/// Appends a store to a list, if all were made.
 pub fn with_next<S: Drop>(
     stores: Result<Vec<S>, Refusal>,
     next: Result<S, Refusal>,
@@ -149,7 +149,7 @@ pub fn with_next<S: Drop>(
     }
 }
 
-/// Appends what was made, or returns why it was refused.
+/// Appends a value if it was made, or returns why it was not.
 pub fn push<T: Drop>(items: &mut Vec<T>, made: Result<T, Refusal>) -> Option<Refusal> {
     match made {
         Ok(item) => match items.push(item) {
@@ -167,7 +167,7 @@ fn schema(alloc: Global, kinds: &[Kind]) -> Result<Schema, Refusal> {
     }
 }
 
-/// Returns a table without a row.
+/// Returns a table without rows.
 pub fn frame<S: FarTickets>(
     alloc: Global,
     kinds: &[Kind],
@@ -182,7 +182,7 @@ pub fn frame<S: FarTickets>(
     }
 }
 
-/// Returns a world of such a table over a store, if that was made.
+/// Returns a world with such a table, over a store if that was made.
 pub fn world<S: FarStore>(
     alloc: Global,
     kinds: &[Kind],
@@ -201,7 +201,7 @@ pub fn world<S: FarStore>(
     }
 }
 
-// The world as it is after a migration, and why that was refused, if it was.
+// Returns the world after a move, and why that was refused, if it was.
 fn split<M>(moved: Result<M, (Refusal, M)>) -> (M, Option<Refusal>) {
     match moved {
         Ok(world) => (world, None),
@@ -209,8 +209,8 @@ fn split<M>(moved: Result<M, (Refusal, M)>) -> (M, Option<Refusal>) {
     }
 }
 
-// Returns a world over another store, or why it is not and the world as it was. It has met few faults, else it is refused in a way that is
-// never due.
+// Moves a world to another store, or returns it with the refusal. A world that has met more than a few faults is refused in
+// a way that no script expects.
 fn migrate_few<S: FarStore>(world: World<S>, store: S) -> Result<World<S>, (Refusal, World<S>)> {
     if world.faults() < 9 {
         world.migrate(store)
@@ -219,7 +219,7 @@ fn migrate_few<S: FarStore>(world: World<S>, store: S) -> Result<World<S>, (Refu
     }
 }
 
-/// Returns a world over another store; or as it was, and why.
+/// Moves a world to another store. If that is refused, returns the unchanged world and the refusal.
 pub fn migrate<S: FarStore>(world: World<S>, store: S) -> (World<S>, Option<Refusal>) {
     split(migrate_few(world, store))
 }

@@ -1,4 +1,4 @@
-//! A table whose objects go away to one log of bytes, and come back from it.
+//! Objects of a table that are evicted to one log of bytes, and fetched from it.
 use crate::answers::Due;
 use crate::call::Call;
 use crate::call::Value::{Int, Missing};
@@ -11,7 +11,7 @@ use std::alloc::Global;
 use std::sync::Wait;
 use std::thread::Threads;
 
-/// Two row groups go away and come back. One is written then, and the log has no space for its new form, so it stays.
+/// Two row groups are evicted and fetched. Then one is written, and stays, since the log has no space for its new form.
 const COME_AND_GO: Calls = &[
     (Call::Evac(0, 0), Due::Job(0)),
     (Call::Carry(0), Due::Done),
@@ -39,7 +39,7 @@ const COME_AND_GO: Calls = &[
             ],
         ),
     ),
-    // An object that was not written has its bytes in the log still.
+    // A clean object has its bytes in the log already.
     (Call::Evac(0, 1), Due::Job(4)),
     (Call::Carry(4), Due::Done),
     (Call::Commit(4), Due::Done),
@@ -61,7 +61,7 @@ static SCRIPT: Script = Script {
     then: &[],
 };
 
-/// Returns the store, once it has put something of no bytes. So its next puts find memory for their keys.
+/// Returns a store that has put no bytes once, so that its next puts find memory for their keys.
 fn with_keys<S: FarStore>(alloc: Global, made: Result<S, Refusal>) -> Result<S, Refusal> {
     match made {
         Ok(store) => match store.put(alloc, &mut Meter::new(), &[]).err() {
@@ -75,7 +75,7 @@ fn with_keys<S: FarStore>(alloc: Global, made: Result<S, Refusal>) -> Result<S, 
     }
 }
 
-/// Returns the store over a log.
+/// Returns a store over a log.
 fn log_store<'a, R: Wait + Sync>(
     rt: &'a R,
     alloc: Global,
@@ -86,7 +86,7 @@ fn log_store<'a, R: Wait + Sync>(
     }
 }
 
-/// Returns the index of the first call over a new log that does not return what it should.
+/// Returns the index of the first call over a new log that does not reply as expected.
 fn first_wrong_once<R: Threads + Wait + Sync>(
     rt: &R,
     alloc: Global,
@@ -95,7 +95,7 @@ fn first_wrong_once<R: Threads + Wait + Sync>(
     play_over(rt, alloc, stores, &SCRIPT)
 }
 
-/// The same, a second time if memory runs out.
+/// Returns the same, with a second run if memory runs out.
 fn first_wrong<R: Threads + Wait + Sync>(rt: &R, alloc: Global) -> Result<Option<usize>, Refusal> {
     match first_wrong_once(rt, alloc) {
         Err(Refusal::NoMemory) => first_wrong_once(rt, alloc),

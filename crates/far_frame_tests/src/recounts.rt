@@ -1,4 +1,4 @@
-//! Aggregates that are computed from scratch, by several threads, while the store fails once.
+//! Aggregates that several threads compute from scratch, while the store fails once.
 use crate::answers::Due;
 use crate::call::Value::{Int, Missing};
 use crate::call::{Call, TOTALS};
@@ -7,7 +7,7 @@ use crate::script::{Calls, Script, answered, play_all};
 use far_types::{Kind, Refusal};
 use std::test::Fail;
 
-/// Two row groups, both away, with an aggregate into which neither is scanned.
+/// Two row groups, both away, and pending in an aggregate.
 const ALL_AWAY: Opening = Opening {
     kinds: &[Kind::Int],
     limits: A_SEGMENT_EACH,
@@ -62,7 +62,7 @@ const FIRST_GET_FAILS: Plan = Plan {
     failing_get: 1,
 };
 
-/// The count and the sum of the rows that are all away.
+/// The count and the sum of the rows, which are all away.
 const TOTAL: Due<'static> = Due::Lines(&[(Missing, 8, 36)]);
 
 const FAULT: Due<'static> = Due::Refused(Refusal::FarFault);
@@ -82,13 +82,13 @@ const WORKERS: Calls = &[
     (Call::Ask(0), Due::Refused(Refusal::Building(2))),
 ];
 
-/// More row groups than workers, in two kinds of place.
+/// More row groups than workers, some local and some away.
 const UNEVEN: Calls = &[
     (Call::Recount(0, 2), Due::Lines(&[(Missing, 7, 56)])),
     (Call::Recount(0, 3), Due::Lines(&[(Missing, 7, 56)])),
 ];
 
-/// A recount of no aggregate is refused before one with a wrong number of workers.
+/// A recount of no aggregate is refused for that, even with a wrong number of workers.
 const UNKNOWN: Calls = &[
     (Call::Recount(1, 3), Due::Refused(Refusal::NoAggregate)),
     (Call::Recount(1, 0), Due::Refused(Refusal::NoAggregate)),

@@ -1,5 +1,5 @@
-//! Every step of the table, in each way in which it allocates. A step that runs out of memory changes nothing, and the
-//! player makes it again: so the replies are the same, whichever allocation fails.
+//! Every step of the table, in each way in which it allocates. A step that runs out of memory changes nothing, and is made
+//! again: so the replies are the same, whichever allocation fails.
 use crate::answers::Due;
 use crate::call::Value::{Int, Missing, Text};
 use crate::call::{Call, EXTREMA, EXTREMA_BY_TEXT, TOTALS, TOTALS_BY_TEXT};
@@ -8,8 +8,8 @@ use crate::script::{Calls, Script, answered, play_all};
 use far_types::{Kind, Refusal};
 use std::test::Fail;
 
-/// Keys that come, new row groups, texts, answers and row groups scanned; parts that are lent, objects that go away, are read where
-/// they are, and come back; a recount, compactions and a proposal.
+/// New keys, new row groups, texts, answers and scanned row groups; parts that are lent; objects that are evicted, read in
+/// the store and fetched; a recount, compactions and a proposal.
 const EVERY_STEP: Calls = &[
     (Call::Insert(&[Int(4), Text("b")]), Due::Place(0)),
     (Call::Watch(TOTALS_BY_TEXT), Due::Aggregate(0)),

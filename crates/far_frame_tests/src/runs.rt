@@ -1,5 +1,5 @@
-//! A list of steps that is served by one call. The call is refused before any step or not at all, so one that runs out of memory is made
-//! again.
+//! Steps that one call of `run` serves. The call is refused before any step or not at all, so it is made again if it runs
+//! out of memory.
 use crate::answers::{Due, is_reply};
 use crate::call::Value::{Int, Missing};
 use crate::call::{Call, TOTALS, step};
@@ -11,7 +11,7 @@ use far_types::{Kind, Refusal};
 use std::alloc::Global;
 use std::sync::Wait;
 
-/// Two row groups go away, and are scanned in the store into an aggregate that was registered after that.
+/// Two row groups are evicted, and then scanned in the store into an aggregate that was registered later.
 const BUILT: Calls = &[
     (Call::Insert(&[Int(1)]), Due::Place(0)),
     (Call::Insert(&[Int(2)]), Due::Place(1)),
@@ -47,7 +47,7 @@ const BUILT: Calls = &[
     (Call::Ask(0), Due::Lines(&[(Missing, 8, 36)])),
 ];
 
-/// Returns the steps of calls.
+/// Returns calls as steps.
 fn steps(alloc: Global, calls: Calls) -> Result<Vec<Step>, Refusal> {
     let mut steps = Vec::new(alloc);
     for (call, _) in calls {
@@ -56,7 +56,7 @@ fn steps(alloc: Global, calls: Calls) -> Result<Vec<Step>, Refusal> {
     Ok(steps)
 }
 
-// Returns the replies of a run of steps. There are few of them, and few faults were met before.
+// Runs steps, if they are few and few faults were met before.
 fn run_few<S: FarStore>(world: &mut World<S>, steps: Vec<Step>) -> Result<Vec<Reply>, Refusal> {
     if world.faults() < 9 && steps.len() < 99 {
         run(world, steps)
@@ -77,7 +77,7 @@ fn replies_once<S: FarStore>(
     }
 }
 
-/// The same, of a second run if the first is refused.
+/// Returns the same, from a second run if the first is refused.
 fn replies<S: FarStore>(
     alloc: Global,
     world: &mut World<S>,
@@ -89,8 +89,8 @@ fn replies<S: FarStore>(
     }
 }
 
-/// Returns the index of the first reply that is not what it should be, of row groups of this size. Nothing can be said if a step ran out of
-/// memory.
+/// Returns the index of the first unexpected reply, for row groups of this size. Refused with `NoMemory` (1) if a step ran
+/// out of memory.
 fn first_wrong_in(replies: &[Reply], calls: Calls, size: u32) -> Result<Option<usize>, Refusal> {
     for (at, (_, due)) in calls.iter().enumerate() {
         match replies.get(at) {
@@ -106,7 +106,7 @@ fn first_wrong_in(replies: &[Reply], calls: Calls, size: u32) -> Result<Option<u
     }
 }
 
-/// The same of replies, if they were made.
+/// Returns the same for these replies, if there are any.
 fn first_wrong(replies: Result<Vec<Reply>, Refusal>) -> Result<Option<usize>, Refusal> {
     match replies {
         Ok(replies) => first_wrong_in(&replies, BUILT, A_SEGMENT_EACH.group),
@@ -114,7 +114,7 @@ fn first_wrong(replies: Result<Vec<Reply>, Refusal>) -> Result<Option<usize>, Re
     }
 }
 
-/// The same of a run on a new table over a store, if that was made.
+/// Returns the same for a run on a new table over a store, if that was made.
 fn first_wrong_over<S: FarStore>(
     alloc: Global,
     store: Result<S, Refusal>,
@@ -129,12 +129,12 @@ fn first_wrong_over<S: FarStore>(
     }
 }
 
-/// The same over a new store.
+/// Returns the same over a new store.
 fn play_once<R: Wait + Sync + Drop + Copy>(rt: R, alloc: Global) -> Result<Option<usize>, Refusal> {
     first_wrong_over(alloc, store(rt, alloc, SOUND))
 }
 
-/// The same, a second time if memory runs out.
+/// Returns the same, with a second run if memory runs out.
 fn play<R: Wait + Sync + Drop + Copy>(rt: R, alloc: Global) -> Result<Option<usize>, Refusal> {
     match play_once(rt, alloc) {
         Err(Refusal::NoMemory) => play_once(rt, alloc),

@@ -1,4 +1,5 @@
-//! The player of scripts: calls on a world, each with its reply. A call that runs out of memory is made again, or its script is played again.
+//! Plays scripts: calls on a world with their replies. If memory runs out, a call is made again, or its script is played
+//! again.
 ghost use Rattle.far_rows.specs.Jobs.{AreAt};
 
 use crate::answers::{Due, is_reply, is_row};
@@ -13,16 +14,16 @@ use std::test::Fail;
 use std::thread::Threads;
 use std::vec::IntoIter;
 
-/// Calls, each with its reply.
+/// Calls, each with its expected reply.
 pub type Calls = &'static [(Call, Due<'static>)];
 
-/// A table goes on with its next store, or why it is refused that, and the calls after that.
+/// A move of the table to its next store, with the refusal if one is expected, and the calls after it.
 pub struct Turn {
     pub refused: Option<Refusal>,
     pub calls: Calls,
 }
 
-/// Calls on a new table over the first of its stores, and then on the same over each of the others.
+/// Calls on a new table over the first of its stores, and then over each of the others.
 pub struct Script {
     pub name: &'static str,
     pub opening: Opening,
@@ -31,10 +32,10 @@ pub struct Script {
     pub then: &'static [Turn],
 }
 
-/// The script and the index of the first of its calls that did not return what it should.
+/// A script, and the index of its first call that did not reply as expected.
 pub type Wrong = (&'static str, usize);
 
-/// Fails if a call of a script did not return what it should, and names both.
+/// Fails if a call of a script did not reply as expected, and names both.
 pub fn answered(first_wrong: Result<Option<Wrong>, Refusal>) -> Result<(), Fail> {
     match first_wrong? {
         Some((name, at)) => Err(Fail::new(format_args!("{name}: call {at}"))),
@@ -42,7 +43,7 @@ pub fn answered(first_wrong: Result<Option<Wrong>, Refusal>) -> Result<(), Fail>
     }
 }
 
-/// Plays scripts, up to the first that goes wrong.
+/// Plays scripts, up to the first with an unexpected reply.
 pub fn play_all<R: Threads + Wait + Sync>(
     rt: &R,
     alloc: Global,
@@ -78,7 +79,7 @@ fn play_once<R: Threads + Wait + Sync>(
     play_over(rt, alloc, stores(rt, alloc, script.plans), script)
 }
 
-/// Returns the index of the first call of a script over these stores, if they were made, that does not return what it should.
+/// Returns the index of the first call of a script that does not reply as expected, over these stores if they were made.
 pub fn play_over<S: FarStore, R: Threads + Sync>(
     rt: &R,
     alloc: Global,
@@ -91,7 +92,7 @@ pub fn play_over<S: FarStore, R: Threads + Sync>(
     }
 }
 
-// The same over one store after the other.
+// Returns the same for one store after the other.
 fn play_in_turn<S: FarStore, R: Threads + Sync>(
     rt: &R,
     alloc: Global,
@@ -106,7 +107,7 @@ fn play_in_turn<S: FarStore, R: Threads + Sync>(
     }
 }
 
-// The same in a new world, which goes on with the others.
+// Returns the same for a new world, which then moves to the other stores.
 fn play_on<S: FarStore, R: Threads + Sync>(
     rt: &R,
     alloc: Global,
@@ -127,7 +128,7 @@ fn play_on<S: FarStore, R: Threads + Sync>(
     wrong
 }
 
-// The same over the first store.
+// Returns the same for the first store.
 fn play_first<S: FarStore, R: Threads + Sync>(
     rt: &R,
     alloc: Global,
@@ -140,7 +141,7 @@ fn play_first<S: FarStore, R: Threads + Sync>(
     }
 }
 
-// Returns what is wrong so far: a call, or the index after all calls if a world did not go on with another store as is due.
+// Returns the first unexpected call so far, or `behind`, the number of calls, if a move did not end as expected.
 fn so_far(
     wrong: Result<Option<usize>, Refusal>,
     refused: Option<Refusal>,
@@ -154,7 +155,7 @@ fn so_far(
     }
 }
 
-/// Returns the index of the first call that does not return what it should.
+/// Returns the index of the first call that does not reply as expected.
 pub fn first_wrong<S: FarStore, R: Threads + Sync>(
     rt: &R,
     alloc: Global,
@@ -171,8 +172,8 @@ pub fn first_wrong<S: FarStore, R: Threads + Sync>(
     Ok(None)
 }
 
-// Returns whether a call returns this. It is made a second time if memory runs out. A recount is not: it would read its contents again, so
-// a fault that the test plans would come at another call.
+// Returns whether a call replies as expected, made again if memory runs out. A recount is not made again: it would read its
+// contents once more, so a planned fault would come at another call.
 fn is_answered<S: FarStore, R: Threads + Sync>(
     rt: &R,
     alloc: Global,
@@ -192,7 +193,7 @@ fn is_recount(call: Call) -> bool {
     matches!(call, Call::Recount(_, _))
 }
 
-// Returns whether a call returns this. Nothing can be said if memory runs out.
+// Returns whether a call replies as expected. Refused with `NoMemory` (1) if memory runs out.
 fn is_answered_once<S: FarStore, R: Threads + Sync>(
     rt: &R,
     alloc: Global,
@@ -210,7 +211,7 @@ fn is_answered_once<S: FarStore, R: Threads + Sync>(
     }
 }
 
-// Returns whether a row, or the object that goes away first, is this.
+// Returns whether a row, or the coldest object, is as expected.
 fn is_shown<S: FarStore>(world: &World<S>, call: Call, due: Due<'_>) -> Result<bool, Refusal> {
     match call {
         Call::Row(place) => Ok(is_row_due(world.frame().scope().row(place), due)),
@@ -218,7 +219,7 @@ fn is_shown<S: FarStore>(world: &World<S>, call: Call, due: Due<'_>) -> Result<b
     }
 }
 
-// Returns whether a step, or a look that owns nothing, returns this.
+// Returns whether a step, or a check that owns no memory, replies as expected.
 fn is_served<S: FarStore>(
     alloc: Global,
     world: &mut World<S>,
@@ -236,7 +237,7 @@ fn is_served<S: FarStore>(
     }
 }
 
-/// Returns whether a reply is the one that is due. Nothing can be said if memory ran out.
+/// Returns whether a reply is as expected. Refused with `NoMemory` (1) if the reply is.
 pub fn is_due(reply: Reply, due: Due<'_>, size: u32) -> Result<bool, Refusal> {
     let found_none = is_reply(&reply, Due::Refused(Refusal::NoMemory), size);
     let is_right = is_reply(&reply, due, size);
@@ -248,7 +249,7 @@ pub fn is_due(reply: Reply, due: Due<'_>, size: u32) -> Result<bool, Refusal> {
     }
 }
 
-// Serves a step. No script meets more faults than a few, so a world that did is refused in a way that is never due.
+// Serves a step, if few faults were met before. Otherwise returns a refusal that no script expects.
 fn served<S: FarStore>(world: &mut World<S>, step: Step) -> Reply {
     if world.faults() < 9 {
         world.serve(step)
@@ -258,7 +259,7 @@ fn served<S: FarStore>(world: &mut World<S>, step: Step) -> Reply {
     }
 }
 
-// The same if the step was made.
+// Serves a step, if it was made.
 fn stepped<S: FarStore>(world: &mut World<S>, step: Result<Step, Refusal>) -> Reply {
     match step {
         Ok(step) => served(world, step),
@@ -266,7 +267,7 @@ fn stepped<S: FarStore>(world: &mut World<S>, step: Result<Step, Refusal>) -> Re
     }
 }
 
-// Returns why a look does not find what it asks for.
+// Returns `Ok` if a check succeeds, and otherwise the refusal that says no.
 fn looked<S: FarStore>(world: &World<S>, call: Call) -> Result<(), Refusal> {
     match call {
         Call::IsAlive(place) => alive(world.frame().scope().is_alive(place)),
@@ -311,7 +312,7 @@ fn is_row_due(row: Result<LentRow<'_>, Refusal>, due: Due<'_>) -> bool {
     }
 }
 
-// Returns the object of a job, if there is one.
+// Returns the object of a job, if there is a job.
 fn object_of<S: FarTickets>(
     job: &Result<Option<Job<S>>, Refusal>,
 ) -> Result<Option<Name>, Refusal> {
@@ -322,7 +323,7 @@ fn object_of<S: FarTickets>(
     }
 }
 
-// Returns whether the object of a job, if there is one, is the one that is due.
+// Returns whether the object of a job, if there is a job, is as expected.
 fn is_job_due<S: FarTickets>(
     job: Result<Option<Job<S>>, Refusal>,
     due: Due<'_>,
@@ -340,7 +341,8 @@ fn is_object_due(object: Result<Option<Name>, Refusal>, due: Due<'_>) -> Result<
     }
 }
 
-/// Returns the reply to a recount. One that is refused for a fault has met one; else the reply is `Done`, which is never due.
+/// Returns the reply to a recount. If it is refused with `FarFault` and the meter did not rise by one, returns `Done`,
+/// which no script expects.
 pub fn recounted<S: FarStore, R: Threads + Sync>(
     rt: &R,
     frame: &Frame<S>,
@@ -361,7 +363,7 @@ pub fn recounted<S: FarStore, R: Threads + Sync>(
     }
 }
 
-/// Returns the reply that has an aggregate's answer.
+/// Returns an answer as a reply.
 pub fn replied(found: Result<Answer, Refusal>) -> Reply {
     match found {
         Ok(answer) => Reply::Answer(answer),

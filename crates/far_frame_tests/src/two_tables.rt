@@ -1,4 +1,5 @@
-//! Jobs of one table at another over the same store: stale there, and accepted at their own, once, carried and at the end of their kind.
+//! Jobs of one table at another table over the same store. A job is stale there, and accepted once at its own table, after
+//! it was carried and by the call for its kind.
 ghost use Rattle.std.specs.Prelude.{◌+◌, ◌<◌, ◌≤◌, ◌^◌, ℕ, List, IfOk};
 ghost use Rattle.far_rows.specs.Jobs.{AreAt};
 ghost use Rattle.far_frame.specs.Jobs.{IsJobAt};
@@ -11,10 +12,10 @@ use far_types::{Cell, Kind, Refusal, Row, Spec};
 use std::alloc::Global;
 use std::sync::Wait;
 
-/// Whether something is as it should be, or why a call was refused.
+/// Whether a check succeeds, or why a call was refused.
 pub type Checked = Result<bool, Refusal>;
 
-/// How a job ends.
+/// The call that ends a job.
 #[derive(Clone, Copy)]
 pub enum End {
     Commit,
@@ -61,7 +62,7 @@ pub fn watch_totals<S: FarTickets>(alloc: Global, frame: &mut Frame<S>) -> Resul
     watch(frame, spec(alloc, TOTALS)).and(Ok(()))
 }
 
-/// Gives a table a row, and an aggregate into which its row group is not yet scanned.
+/// Inserts a row and registers an aggregate, in which the row group is pending.
 fn fill<S: FarTickets>(alloc: Global, frame: &mut Frame<S>) -> Result<(), Refusal>
     ensures { (id : List ℕ) → AreAt S.is_of id frame.old.rows → AreAt S.is_of id frame.new.rows }
 {
@@ -69,7 +70,7 @@ fn fill<S: FarTickets>(alloc: Global, frame: &mut Frame<S>) -> Result<(), Refusa
     inserted.and(watch_totals(alloc, frame))
 }
 
-/// Returns whether both results are as they should be, or why one was refused.
+/// Returns whether both checks succeed, or why a call was refused.
 pub fn both(first: Checked, second: Checked) -> Checked {
     match (first, second) {
         (Ok(first), Ok(second)) => Ok(first && second),
@@ -78,7 +79,7 @@ pub fn both(first: Checked, second: Checked) -> Checked {
     }
 }
 
-/// Begins the job that ends so.
+/// Begins a job that this call ends.
 fn begun<S: FarTickets>(frame: &Frame<S>, store: &S, end: End) -> Result<Job<S>, Refusal>
     requires here { AreAt S.is_of (S.store_id store.now) frame.now.rows }
     ensures { IfOk result (IsJobAt S.is_of (S.store_id store.now)) }
@@ -90,7 +91,7 @@ fn begun<S: FarTickets>(frame: &Frame<S>, store: &S, end: End) -> Result<Job<S>,
     }
 }
 
-/// Begins and carries the job that ends so.
+/// Begins and carries a job that this call ends.
 pub fn carried<S: FarStore>(
     alloc: Global,
     frame: &Frame<S>,
@@ -111,7 +112,7 @@ fn why<J: Drop>(refused: (Refusal, J)) -> Refusal {
     refused.0
 }
 
-/// Returns whether the end of a job gets this reply. Nothing can be said if memory ran out.
+/// Returns whether the end of a job gets this reply. Refused with `NoMemory` (1) if memory runs out.
 fn ends_so<S: FarStore>(
     frame: &mut Frame<S>,
     store: &S,
@@ -138,7 +139,7 @@ fn is_due(reply: Result<(), Refusal>, due: Result<(), Refusal>) -> Checked {
     }
 }
 
-/// Returns whether a job is stale at a table, at whichever end.
+/// Returns whether a job is stale at a table, for each of the three calls.
 fn is_stale<S: FarStore>(frame: &mut Frame<S>, store: &S, job: &Job<S>) -> Checked
     requires here { AreAt S.is_of (S.store_id store.now) frame.old.rows }
     requires job_here { IsJobAt S.is_of (S.store_id store.now) job.now }
@@ -151,7 +152,7 @@ fn is_stale<S: FarStore>(frame: &mut Frame<S>, store: &S, job: &Job<S>) -> Check
     both(at_commit, both(at_install, at_merge))
 }
 
-// Another end. The two others of an end are its next and the next of that.
+// Returns the next of the three calls, in a circle.
 fn next(end: End) -> End {
     match end {
         End::Commit => End::Install,
@@ -160,7 +161,7 @@ fn next(end: End) -> End {
     }
 }
 
-/// Returns whether a job is stale at its table at the two ends that are not its own.
+/// Returns whether a job is stale at its own table for the two calls that do not end its kind.
 fn is_of_one_kind<S: FarStore>(frame: &mut Frame<S>, store: &S, job: &Job<S>, end: End) -> Checked
     requires here { AreAt S.is_of (S.store_id store.now) frame.old.rows }
     requires job_here { IsJobAt S.is_of (S.store_id store.now) job.now }
@@ -172,7 +173,7 @@ fn is_of_one_kind<S: FarStore>(frame: &mut Frame<S>, store: &S, job: &Job<S>, en
     both(at_next, at_last)
 }
 
-/// Returns whether a job that is begun is stale at its own table before it is carried.
+/// Begins a job, and returns whether it is stale at its own table before it is carried.
 fn is_stale_uncarried<S: FarStore>(frame: &mut Frame<S>, store: &S, end: End) -> Checked
     requires here { AreAt S.is_of (S.store_id store.now) frame.old.rows }
     ensures { AreAt S.is_of (S.store_id store.now) frame.new.rows }
@@ -187,8 +188,8 @@ fn is_stale_uncarried<S: FarStore>(frame: &mut Frame<S>, store: &S, end: End) ->
     }
 }
 
-/// Returns whether a carried job is stale at another table, and at its own as a job of another kind; accepted there, and stale from then
-/// on.
+/// Returns whether a carried job is stale at another table, and at its own for the calls of other kinds; then is accepted,
+/// and is stale afterwards.
 fn is_of_one_table<S: FarStore>(
     own: &mut Frame<S>,
     other: &mut Frame<S>,
@@ -210,7 +211,7 @@ fn is_of_one_table<S: FarStore>(
     both(before, both(is_accepted, is_stale(own, store, job)))
 }
 
-/// The same of a new job of the first table.
+/// Returns the same for a new job of the first table.
 fn is_told_at_its_end<S: FarStore>(
     alloc: Global,
     own: &mut Frame<S>,
@@ -233,7 +234,7 @@ fn is_told_at_its_end<S: FarStore>(
     }
 }
 
-/// The same, and whether another such job is stale before it is carried.
+/// Returns the same, and whether another such job is stale before it is carried.
 fn is_told_apart<S: FarStore>(
     alloc: Global,
     own: &mut Frame<S>,
@@ -250,7 +251,7 @@ fn is_told_apart<S: FarStore>(
     both(is_stale, is_told_at_its_end(alloc, own, other, store, end))
 }
 
-/// The same of jobs of each kind: both objects go away, and one is scanned in the store and comes back.
+/// Returns the same for jobs of each kind: both tables' objects are evicted, and one is scanned in the store and fetched.
 fn all_are_told_apart<S: FarStore>(
     alloc: Global,
     own: &mut Frame<S>,
@@ -268,7 +269,7 @@ fn all_are_told_apart<S: FarStore>(
     filled.and(both(both(goes, other_goes), both(is_merged, comes_back)))
 }
 
-/// The same of an empty table and another.
+/// Returns the same for an empty table and a new one.
 fn are_told_from_another<S: FarStore>(alloc: Global, own: &mut Frame<S>, store: &S) -> Checked
     requires own { AreAt S.is_of (S.store_id store.now) own.old.rows }
 {
@@ -282,7 +283,7 @@ fn are_told_from_another<S: FarStore>(alloc: Global, own: &mut Frame<S>, store: 
     }
 }
 
-/// The same of two empty tables over a store.
+/// Returns the same for two empty tables over a store.
 fn are_told_over<S: FarStore>(alloc: Global, store: &S) -> Checked {
     match frame(alloc, &[Kind::Int], FOUR_SEGMENTS, 0) {
         Ok(mut own) => {
@@ -294,7 +295,7 @@ fn are_told_over<S: FarStore>(alloc: Global, store: &S) -> Checked {
     }
 }
 
-/// The same over a store, if that was made.
+/// Returns the same over this store, if it was made.
 fn are_told_if_made<S: FarStore>(alloc: Global, store: Result<S, Refusal>) -> Checked {
     match store {
         Ok(store) => are_told_over(alloc, &store),
@@ -302,12 +303,12 @@ fn are_told_if_made<S: FarStore>(alloc: Global, store: Result<S, Refusal>) -> Ch
     }
 }
 
-/// The same over a new store.
+/// Returns the same over a new store.
 fn play_once<R: Wait + Sync + Drop + Copy>(rt: R, alloc: Global) -> Checked {
     are_told_if_made(alloc, store(rt, alloc, SOUND))
 }
 
-/// The same, a second time if memory runs out.
+/// Returns the same, with a second run if memory runs out.
 fn play<R: Wait + Sync + Drop + Copy>(rt: R, alloc: Global) -> Checked {
     match play_once(rt, alloc) {
         Err(Refusal::NoMemory) => play_once(rt, alloc),

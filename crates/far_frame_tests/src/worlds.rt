@@ -1,5 +1,5 @@
-//! Lendings, jobs and offloaded builds as steps of a world, over stores that fail or are full. Scripts of the shell show how a world goes
-//! on with another store.
+//! Lendings, jobs and offloaded builds as steps of a world, over stores that fail or are full. Scripts of the shell show
+//! how a world moves to another store.
 use crate::answers::Due;
 use crate::call::Value::{Int, Missing, Text};
 use crate::call::{Call, TOTALS};
@@ -25,7 +25,7 @@ const EIGHT: Opening = Opening {
     ],
 };
 
-/// Three of them.
+/// Three full row groups, with an aggregate of them.
 const TWELVE: Opening = Opening {
     kinds: &[Kind::Int],
     limits: A_SEGMENT_EACH,
@@ -64,7 +64,7 @@ const TEXTS: Opening = Opening {
 
 const FAULT: Due<'static> = Due::Refused(Refusal::FarFault);
 
-/// The second evacuation meets a fault; its job stays.
+/// The second carry of an eviction meets a fault; its job stays.
 const SECOND_PUT: Calls = &[
     (Call::Evac(0, 0), Due::Job(0)),
     (Call::Carry(0), Due::Done),
@@ -78,7 +78,7 @@ const SECOND_PUT: Calls = &[
     (Call::Ask(0), Due::Lines(&[(Missing, 8, 36)])),
 ];
 
-/// What the aggregate of twelve answers always.
+/// The aggregate over the twelve rows has this answer at any time.
 const ASK: (Call, Due<'static>) = (Call::Ask(0), Due::Lines(&[(Missing, 12, 78)]));
 
 /// All twelve rows, which are local.
@@ -103,7 +103,7 @@ const LEND: (Call, Due<'static>) = (
     ),
 );
 
-/// Each of three row groups goes away and comes back. The first put and the first get fail, and the carry is repeated.
+/// Each of three row groups is evicted and fetched. The first put and the first get fail, and the carry is repeated.
 const FIRST_OF_EACH: Calls = &[
     (Call::Evac(0, 0), Due::Job(0)),
     (Call::Carry(0), FAULT),
@@ -137,7 +137,7 @@ const FIRST_OF_EACH: Calls = &[
     (Call::Faults(2), Due::Done),
 ];
 
-/// Each of three row groups goes away and comes back. The second put and the second get fail, and the carry is repeated.
+/// Each of three row groups is evicted and fetched. The second put and the second get fail, and the carry is repeated.
 const SECOND_OF_EACH: Calls = &[
     (Call::Evac(0, 0), Due::Job(0)),
     (Call::Carry(0), Due::Done),
@@ -171,7 +171,7 @@ const SECOND_OF_EACH: Calls = &[
     (Call::Faults(2), Due::Done),
 ];
 
-/// Each of three row groups goes away and comes back. The third put and the third get fail, and the carry is repeated.
+/// Each of three row groups is evicted and fetched. The third put and the third get fail, and the carry is repeated.
 const THIRD_OF_EACH: Calls = &[
     (Call::Evac(0, 0), Due::Job(0)),
     (Call::Carry(0), Due::Done),
@@ -226,7 +226,7 @@ const FIRST_OFFLOAD: Calls = &[
     (Call::Faults(1), Due::Done),
 ];
 
-/// A store of one content: the second evacuation is refused, and its object stays.
+/// A store for one content: the second eviction is refused, and its object stays.
 const FULL: Calls = &[
     (Call::Evac(0, 0), Due::Job(0)),
     (Call::Carry(0), Due::Done),
@@ -237,7 +237,7 @@ const FULL: Calls = &[
     (Call::Insert(&[Int(8)]), Due::Place(3)),
 ];
 
-/// A store of one content, which a text took: the second evacuation of a text is refused, and its object stays.
+/// A store for one content, which holds a text: the second eviction of a text is refused, and its object stays.
 const FULL_OF_TEXTS: Calls = &[
     (Call::Evac(0, 0), Due::Job(0)),
     (Call::Carry(0), Due::Done),
@@ -248,7 +248,7 @@ const FULL_OF_TEXTS: Calls = &[
     (Call::Lend(0, 4, 5), Due::Lent(4, &[(Text("rye"), true)])),
 ];
 
-/// The rows are lent in turn, so the row group after them is proposed once it is there: of those after the last that was lent one is.
+/// The row groups are lent in order, so the next one is proposed once it exists. Of the next two, only one exists.
 const STRIDE: Calls = &[
     (Call::Insert(&[Int(8)]), Due::Place(3)),
     (Call::Insert(&[Int(9)]), Due::Place(4)),
@@ -271,7 +271,7 @@ const STRIDE: Calls = &[
     (Call::Lend(0, 8, 10), Due::Refused(Refusal::OutOfRange)),
 ];
 
-/// A row group that is away is scanned in the store, and the other in place.
+/// A row group that is away is scanned in the store, and the other one in place.
 const BUILT: Calls = &[
     (Call::Watch(TOTALS), Due::Aggregate(1)),
     (Call::Offload(1, 0), Due::Refused(Refusal::StaleJob)),
@@ -289,7 +289,7 @@ const BUILT: Calls = &[
     (Call::Ask(1), Due::Lines(&[(Missing, 3, 18)])),
 ];
 
-/// The object is local again and clean when the build begins; a row is inserted before its end.
+/// The object is local again and clean when the build begins. A row is inserted before it ends.
 const OUTDATED: Calls = &[
     (Call::Watch(TOTALS), Due::Aggregate(1)),
     (Call::Evac(0, 1), Due::Job(0)),
@@ -308,7 +308,7 @@ const OUTDATED: Calls = &[
     (Call::Ask(1), Due::Lines(&[(Missing, 4, 26)])),
 ];
 
-/// A build keeps its number while its aggregate is forgotten, carried or not, and is not that of another.
+/// A build keeps its number while its aggregate is forgotten, carried or not, and does not merge into a new aggregate.
 const FORGOTTEN: Calls = &[
     (Call::Watch(TOTALS), Due::Aggregate(1)),
     (Call::Evac(0, 0), Due::Job(0)),
@@ -332,7 +332,7 @@ const FORGOTTEN: Calls = &[
     (Call::Merge(2), Due::Refused(Refusal::StaleJob)),
 ];
 
-/// A build that was not carried is stale at its end, and so is one at the end of another job.
+/// A build that was not carried is stale at its end, and so is one at the end of another kind of job.
 const UNCARRIED: Calls = &[
     (Call::Watch(TOTALS), Due::Aggregate(1)),
     (Call::Evac(0, 0), Due::Job(0)),
@@ -384,7 +384,7 @@ const SMALL: Plan = Plan {
     ..SOUND
 };
 
-// The scripts stand in two lists, each with a test of its own: the proof of a test writes its whole list out.
+// Two lists of scripts, since the proof of a test goes through the data of its list.
 static FAULTY: [Script; 5] = [
     Script {
         name: "all moved while the first put and the first get fail",

@@ -54,7 +54,7 @@ abbrev pub AllBelow : ℕ → List Entry → Type 0
 AllBelow n [] = Unit {0}
 AllBelow n (entry ∷ log) = (entry.by < n) × AllBelow n log
 
--- an arbitrary plan, for where none is named
+-- an arbitrary plan, where none is named
 abbrev pub no_plan : Planned
 no_plan = record {
   schema = [];

@@ -1,8 +1,9 @@
 #![tactic(auto)]
 //! A pass of a ruled cell, wrapped so that many threads may read the lock that contains it.
 //!
-//! A pass is a value without bytes: what a thread knows of a cell. A pass may be sent from thread to thread, but is not known to be safe
-//! through a shared reference. A [`Kept`] is: its shared reference gives no access to the pass.
+//! A pass is a value without bytes: it represents what a thread knows of a cell. It may be sent to another thread, but
+//! nothing says that sharing a reference to it is safe. Sharing a reference to a [`Kept`] is: it gives no access to the
+//! pass.
 
 ghost use Rattle.std.specs.Prelude.{◌≡◌};
 

@@ -7,7 +7,7 @@ use Rattle.circular_buffer.specs.Buffer.{keep_last}
 abbrev pub history_of : List (List ℕ) → ℕ → List ℕ
 history_of histories column = slice_index_or histories column []
 
--- the history after an access to one more group: the last eight groups, oldest first
+-- the history after one more access: the last eight groups, oldest first
 abbrev pub with_access : List ℕ → ℕ → List ℕ
 with_access history group = keep_last 8 (history ++ group ∷ [])
 
@@ -24,13 +24,13 @@ abbrev pub existing : ℕ → ℤ → Option ℕ
 existing groups (pos group) = if nat_lt group groups then Some group else None
 existing groups (negsuc below) = None
 
--- the next two groups of the stride, without those that do not exist: each is as far from the one before as the last two groups are apart
+-- the next two groups of a stride, without those that do not exist. The step is the distance between the last two groups
 abbrev pub next_two : ℕ → ℕ → ℕ → List ℕ
 next_two groups before last =
     let stride = difference before last
     in filter_map (existing groups) ((pos last +ℤ stride) ∷ (pos last +ℤ stride +ℤ stride) ∷ [])
 
--- the proposals after four groups, oldest first: the next two of their stride, if they have one; after fewer groups, none
+-- the proposals after four groups, oldest first: the next two of their stride if they have one, else none
 abbrev pub proposed_after : ℕ → List ℕ → List ℕ
 proposed_after groups (a ∷ b ∷ c ∷ d ∷ []) =
     if is_stride (difference a b) (difference b c) (difference c d) then next_two groups c d else []

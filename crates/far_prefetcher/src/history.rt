@@ -9,11 +9,11 @@ use far_types::Refusal;
 use std::alloc::Global;
 use std::marker::Model;
 
-// How many groups a column remembers.
+// The number of groups in a full history.
 const REMEMBERED: usize = 8;
 
-/// The access history of one column: the last 8 row groups that were accessed of it. Contracts see the list of their
-/// numbers, oldest first.
+/// The access history of one column: the last 8 row groups that were accessed. Contracts see the list of their numbers,
+/// oldest first.
 #[derive(Drop)]
 pub struct History {
     groups: HeapCircularBuffer<u32>,
@@ -30,7 +30,7 @@ impl Model for History {
 }
 
 impl History {
-    /// Makes an empty history, with space for all that it will remember. Refused only with `NoMemory` (1).
+    /// Makes an empty history with its full capacity. Refused only with `NoMemory` (1).
     pub fn new(alloc: Global) -> Result<History, Refusal>
         ensures empty { IfOk result (λ history. history ≡ []) }
         ensures memory { IfErr result (λ e. e ≡ Refusal.NoMemory) }
@@ -39,15 +39,15 @@ impl History {
         Ok(History { groups })
     }
 
-    /// Remembers one more group. If 8 are remembered, forgets the oldest. Allocates nothing.
+    /// Records an access to a group, and forgets the oldest if there are 8. Allocates nothing.
     pub fn saw(&mut self, group: u32)
         ensures { self.new ≡ with_access self.old group }
     {
         self.groups.push_back(group);
     }
 
-    /// Returns the row groups below `groups` that continue the stride of the last four; none if these have no stride. Refused only
-    /// with `NoMemory` (1).
+    /// Returns the row groups below `groups` that continue the stride of the last four accesses; none if these have no
+    /// stride. Refused only with `NoMemory` (1).
     #[tactic(auto, using(crate::proofs::StridesLaws::proposed_by_four))]
     pub fn proposals(&self, alloc: Global, groups: u32) -> Result<Vec<u32>, Refusal>
         ensures found { IfOk result (λ proposals. proposals.items ≡ proposed groups self.now) }
@@ -64,7 +64,7 @@ impl History {
         }
     }
 
-    // Returns the last four groups, if at least four were accessed.
+    // Returns the last four groups, or `None` if fewer were accessed.
     fn last_four(&self) -> Option<[u32; 4]>
         ensures fewer { IfNone result (length self.now < 4) }
         ensures four { IfSome result (λ last. (4 ≤ length self.now) × (keep_last 4 self.now ≡ last)) }
@@ -92,8 +92,8 @@ fn is_stride(first: i64, second: i64, third: i64) -> bool
     first == second && second == third && third != 0
 }
 
-// Returns the next two groups of the stride, without those that do not exist. Each is as far from the one before as `last` is from
-// `before`.
+// Returns the next two groups of the stride, without those that do not exist. The step is the distance from `before` to
+// `last`.
 #[tactic(auto, using(crate::proofs::StridesLaws::two_options))]
 fn next_two(alloc: Global, groups: u32, before: u32, last: u32) -> Result<Vec<u32>, Refusal>
     ensures found { IfOk result (λ found. found.items ≡ next_two groups before last) }
@@ -107,7 +107,7 @@ fn next_two(alloc: Global, groups: u32, before: u32, last: u32) -> Result<Vec<u3
     Ok(found)
 }
 
-// Appends the group with this number, if it exists.
+// Appends the group of this number, if it exists.
 fn push_existing(found: &mut Vec<u32>, groups: u32, number: i64) -> Result<(), Refusal>
     ensures ok { OnOk result (found.new.items ≡ found.old.items ++ option_to_list (existing groups number)) }
     ensures memory { IfErr result (λ e. e ≡ Refusal.NoMemory) }

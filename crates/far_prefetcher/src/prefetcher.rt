@@ -7,10 +7,10 @@ use far_types::Refusal;
 use std::alloc::Global;
 use std::marker::Model;
 
-/// The recent accesses to each column, and what to fetch next. Contracts see one list for each column: the numbers of the last 8 row groups
-/// that were accessed, oldest first.
+/// The recent accesses to each column, from which it proposes what to fetch next. Contracts see one list for each column:
+/// the numbers of the last 8 row groups that were accessed, oldest first.
 ///
-/// Row groups of column 0 of three are accessed:
+/// Records accesses to row groups of the first of three columns:
 ///
 /// ```
 /// fn after(alloc: Global, accessed: &[u32]) -> Result<Prefetcher, Refusal>
@@ -39,8 +39,7 @@ impl Model for Prefetcher {
 }
 
 impl Prefetcher {
-    /// Makes a prefetcher of `columns` columns, none of them accessed yet. It has space for all that it will remember. Refused only with
-    /// `NoMemory` (1).
+    /// Makes a prefetcher for `columns` columns without accesses, with its full capacity. Refused only with `NoMemory` (1).
     pub fn new(alloc: Global, columns: u32) -> Result<Prefetcher, Refusal>
         ensures empty { IfOk result (λ prefetcher. prefetcher ≡ replicate columns []) }
         ensures memory { IfErr result (λ e. e ≡ Refusal.NoMemory) }
@@ -52,8 +51,8 @@ impl Prefetcher {
         Ok(Prefetcher { histories })
     }
 
-    /// Remembers that a row group of a column was read. If 8 are remembered of that column, forgets the oldest. If there is no such column,
-    /// does nothing. Allocates nothing.
+    /// Records that a row group of a column was read, and forgets the oldest if there are 8. Does nothing if there is no
+    /// such column. Allocates nothing.
     pub fn saw(&mut self, column: u32, group: u32)
         ensures { self.new ≡ slice_set self.old column (with_access (history_of self.old column) group) }
     {
@@ -62,10 +61,10 @@ impl Prefetcher {
         }
     }
 
-    /// Returns the row groups of a column to fetch next, all of them below `groups`. Refused only with `NoMemory` (1).
+    /// Returns the row groups of a column to fetch next, all below `groups`. Refused only with `NoMemory` (1).
     ///
-    /// If the last three differences of its history are equal and not 0, these are a stride. Then it returns the next two groups of the
-    /// stride, without those that do not exist. Else it returns none.
+    /// If the last four accesses have three equal differences other than 0, that is their stride. Returns the next two
+    /// groups of the stride, without those that do not exist, and none if there is no stride.
     pub fn proposals(&self, alloc: Global, column: u32, groups: u32) -> Result<Vec<u32>, Refusal>
         ensures found { IfOk result (λ proposals. proposals.items ≡ proposed groups (history_of self.now column)) }
         ensures memory { IfErr result (λ e. e ≡ Refusal.NoMemory) }

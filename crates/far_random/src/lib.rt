@@ -1,8 +1,9 @@
 #![tactic(auto)]
-//! Pseudorandom numbers, for tests that make random calls. They follow from a seed, so a test that fails once fails each time.
+//! Pseudorandom numbers for tests that make random calls. They depend only on a seed, so a test that fails once fails each
+//! time.
 ghost use Rattle.std.specs.Prelude.{◌≡◌, ◌<◌, ◌≤◌};
 
-/// Pseudorandom numbers that follow from a seed: Knuth's linear congruential generator (MMIX), of which the upper 31 bits are used.
+/// A pseudorandom generator: Knuth's linear congruential generator (MMIX), of which the upper 31 bits are used.
 #[derive(Drop)]
 pub struct Draws {
     state: u64,
@@ -31,7 +32,7 @@ impl Draws {
         }
     }
 
-    /// Draws an index of a list of `len` elements, or the one after its last.
+    /// Draws an index of a list of `len` elements, or `len`.
     pub fn index_or_end(&mut self, len: usize) -> usize
         ensures { result ≤ len }
     {

@@ -1,4 +1,4 @@
-// Cells of scripts.
+// Cells in scripts of tests.
 ghost use Rattle.std.specs.Prelude.{◌≡◌, ⊤};
 
 use far_types::{Refusal, Text};
@@ -27,14 +27,14 @@ impl Word {
     }
 }
 
-/// The value of a cell: missing, a number, or a text. A text is given by its letters and how often they are repeated.
+/// A cell: missing, a number, or a text, given by its letters and how often they are repeated.
 pub enum Cell {
     Missing,
     Number(i64),
     Text(Word, usize),
 }
 
-// A derived `clone` goes through the variants, and its proof with it.
+// Written by hand: a derived `clone` goes through the variants, and so does its proof.
 impl Clone for Word {
     ghost is_clone = { λ x y. y ≡ x };
 
@@ -60,7 +60,7 @@ impl Clone for Cell {
 impl Copy for Cell {}
 
 impl Cell {
-    /// Returns the number, if the cell has one.
+    /// Returns the number, or `None` if the cell is not a number.
     pub fn number(self) -> Option<i64> {
         match self {
             Cell::Number(number) => Some(number),
@@ -68,7 +68,7 @@ impl Cell {
         }
     }
 
-    /// Returns the text, if the cell has one. Refused with `NoMemory` if memory runs out.
+    /// Returns the text, or `None` if the cell is not a text. Refused only with `NoMemory` (1).
     pub fn text(self, alloc: Global) -> Result<Option<Text>, Refusal> {
         let Cell::Text(word, times) = self else {
             return Ok(None);
@@ -80,7 +80,7 @@ impl Cell {
         Ok(Some(Text::new(string)))
     }
 
-    /// Returns whether the cell has this text: it is missing if there is none.
+    /// Returns whether the cell is this text, or missing if there is none.
     pub fn is_text(self, text: Option<&str>) -> bool {
         match (text, self) {
             (Some(text), Cell::Text(word, times)) => {
@@ -92,7 +92,7 @@ impl Cell {
     }
 }
 
-// Returns whether bytes are these letters, repeated so many times.
+// Returns whether bytes are these letters, repeated this many times.
 fn are_repeated(bytes: &[u8], letters: &[u8], times: usize) -> bool {
     for (index, byte) in bytes.iter().enumerate() {
         if letters.get(index % letters.len().max(1)) != Some(byte) {

@@ -1,5 +1,5 @@
-// What no clause of far_columns and far_texts says: that calls succeed while memory is left. What is pushed and set reads back, in row
-// groups of two places.
+// Tests of far_columns and far_texts, of what no clause says: that calls succeed while there is memory. What is pushed and
+// set reads back, in row groups of two places.
 mod flags;
 mod numbers;
 mod texts;

@@ -1,7 +1,7 @@
-// What the tests of objects, and of what stands on them, share:
-// - stores and objects to begin with;
-// - objects that go away and come back;
-// - a digest of all that is known of objects.
+// Shared by the tests of objects and of the crates above them:
+// - stores and objects to start from;
+// - eviction and fetching of objects;
+// - a digest of the state of objects.
 mod beginning;
 mod digest;
 mod element;

@@ -1,6 +1,6 @@
 #![tactic(auto)]
-//! Tests of objects (far_scopes), of lists over them (far_vector), of jobs that move them (far_evacuator), of columns (far_columns,
-//! far_texts) and of rows (far_rows). No clause says that calls succeed. These tests do, and that worked examples come out as they should.
+//! Tests of objects (far_scopes), of lists over them (far_vector), of jobs that move them (far_evacuator), of columns
+//! (far_columns, far_texts) and of rows (far_rows): that calls succeed, which no clause says, and worked examples.
 
 #[cfg(test)]
 mod cell;

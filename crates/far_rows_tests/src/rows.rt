@@ -1,5 +1,5 @@
-// What no clause of far_rows says: that calls succeed while memory is left. What is pushed and set reads back while objects go away and
-// come back, and once the table is in another store.
+// Tests of far_rows, of what no clause says: that calls succeed while there is memory. What is pushed and set reads back
+// while objects are evicted and fetched, and after the table moves to another store.
 mod callers;
 mod cases;
 mod fixture;

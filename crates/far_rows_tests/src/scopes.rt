@@ -1,4 +1,4 @@
-// Tests of far_scopes. No clause says that calls succeed. These tests do, and that worked examples come out as they should.
+// Tests of far_scopes: that calls succeed, which no clause says, and worked examples.
 mod calls;
 mod play;
 mod script;

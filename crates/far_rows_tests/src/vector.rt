@@ -1,4 +1,4 @@
-// Tests of far_vector. No clause says that calls succeed. These tests do, and that worked examples come out as they should.
+// Tests of far_vector: that calls succeed, which no clause says, and a worked example.
 mod calls;
 mod play;
 mod script;

@@ -7,7 +7,8 @@ use far_scopes::Objects;
 use far_store::FarStore;
 use far_types::Refusal;
 
-/// Writes a list over an object's, if it is as long. If it is not, the object only counts as written. Refused as `may_write` is.
+/// Overwrites an object's list by one of the same length. If the lengths differ, only marks the object as written. Refused
+/// as `may_write` is.
 pub fn write_over<T: Element, S: FarStore>(
     objects: &mut Objects<T, S>,
     o: u32,

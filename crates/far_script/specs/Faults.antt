@@ -1,4 +1,4 @@
--- The faults of a script, the exit status of the program for each, and what stops a reader.
+-- The faults that end a script, the exit status for each, and what stops a reader.
 use Rattle.std.specs.Prelude.{◌≡◌, ℕ, ◌+◌, ⊤, ◌⊎◌, ◌≤◌, ◌<◌, List, length, Option, IfSome}
 use Rattle.far_script.specs.declared.fault.ShellFault.{ShellFault}
 use Rattle.far_script.specs.declared.fault.ShellFault.TheVariants.{BadStart, Input, Output, Memory, Turns}
@@ -11,7 +11,7 @@ status_of Output = 3
 status_of Memory = 4
 status_of Turns = 5
 
--- what holds if the fault is the input's
+-- a condition that holds if the fault is `Input`
 abbrev pub IfInput : ShellFault → Type 0 → Type 0
 IfInput BadStart holds = ⊤
 IfInput Input holds = holds
@@ -19,7 +19,7 @@ IfInput Output holds = ⊤
 IfInput Memory holds = ⊤
 IfInput Turns holds = ⊤
 
--- what holds if memory ran out or a write failed
+-- a condition that holds if the fault is `Memory` or `Output`
 abbrev pub IfHalted : ShellFault → Type 0 → Type 0
 IfHalted BadStart holds = ⊤
 IfHalted Input holds = ⊤
@@ -27,9 +27,9 @@ IfHalted Output holds = holds
 IfHalted Memory holds = holds
 IfHalted Turns holds = ⊤
 
--- why a reader gives no more, though its end was not found: readers of its type may fail. Or no reads are left, and at least as
--- many bytes came as there were reads. Or no bytes are left, and those that come, if they are known, are more than there were.
--- The numbers are the reads and the bytes that there were, and those that are left
+-- why no more bytes came although the end was not found: readers of this type may fail, or the reads are used up, or the
+-- bytes are used up and the reader has more. The numbers are the reads and bytes that were allowed before, and those still
+-- allowed
 abbrev pub IsCut : Type 0 → ℕ → ℕ → ℕ → ℕ → Option (List ℕ) → Type 0
 IsCut may_fail reads bytes reads_left bytes_left known =
     may_fail ⊎ (((reads_left ≡ 0) × (reads + bytes_left ≤ bytes)) ⊎ ((bytes_left ≡ 0) × IfSome known (λ coming. bytes < length coming)))

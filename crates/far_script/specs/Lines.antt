@@ -11,11 +11,11 @@ is_line_feed c = c == 10
 abbrev pub without_return : List ℕ → List ℕ
 without_return line = strip_last 13 line
 
--- no line feed is within
+-- a text without a line feed
 abbrev pub IsOneLine : List ℕ → Type 0
 IsOneLine line = list_any is_line_feed line ≡ false
 
--- lines without a byte
+-- the bytes are exactly these lines, each of which is empty, but for a carriage return, and has its line feed
 abbrev pub Blank : List ℕ → List (List ℕ) → Type 0
 Blank bytes [] = bytes ≡ []
 Blank bytes (line ∷ lines) = (rest : List ℕ) × (without_return line ≡ []) × (bytes ≡ line ++ 10 ∷ rest) × Blank rest lines

@@ -1,4 +1,4 @@
--- What is printed.
+-- The text of replies.
 use Rattle.std.specs.Prelude.{ℕ, ℤ, List, [], ◌∷◌, ◌++◌, Option, None, Some, codes, decimal, if◌then◌else◌}
 use Rattle.std.specs.Fmt.{signed_decimal}
 use Rattle.csv.specs.Writing.{default_writer, is_blank, row_body}
@@ -14,15 +14,15 @@ use Rattle.far_types.specs.Refusals.{number_of, name_of}
 abbrev pub space : List ℕ
 space = codes " "
 
--- the end of a line
+-- a line feed
 abbrev pub line_end : List ℕ
 line_end = codes "\n"
 
--- a record as the csv writer writes it, without the end of its line
+-- a record as the csv writer writes it, without its line feed
 abbrev pub record_text : List (List ℕ) → List ℕ
 record_text fields = row_body default_writer fields ++ (if is_blank default_writer fields then codes "\"\"" else [])
 
--- what a refusal carries
+-- the details that a refusal carries, each after a space
 abbrev pub carried_text : Refusal → List ℕ
 carried_text (refusal.Building left) = space ++ decimal left
 carried_text (refusal.Absent column group) = space ++ decimal column ++ space ++ decimal group
@@ -48,7 +48,7 @@ carried_text refusal.FarFault = []
 carried_text refusal.FarFull = []
 carried_text refusal.EditsUsedUp = []
 
--- `refused NUMBER NAME`, and what the refusal carries
+-- `refused NUMBER NAME` and the details of the refusal
 abbrev pub refusal_text : Refusal → List ℕ
 refusal_text r = codes "refused " ++ decimal (number_of r) ++ space ++ name_of r ++ carried_text r ++ line_end
 
@@ -56,7 +56,7 @@ refusal_text r = codes "refused " ++ decimal (number_of r) ++ space ++ name_of r
 abbrev pub numbered_text : List ℕ → ℕ → List ℕ
 numbered_text word n = word ++ space ++ decimal n ++ line_end
 
--- a key comes before its line as a record of one field, and a space after it
+-- the key at the start of a line of an answer: a record of one field and a space, or nothing without key column
 abbrev pub key_text : Option Key → List ℕ
 key_text None = []
 key_text (Some (key.Int n)) = record_text (signed_decimal n ∷ []) ++ space
@@ -66,11 +66,11 @@ key_text (Some (key.Text text)) = record_text (text ∷ []) ++ space
 abbrev pub total_text : Option Key × ℕ × ℤ → List ℕ
 total_text line = key_text line.0 ++ codes "count " ++ decimal line.1 ++ codes " sum " ++ signed_decimal line.2 ++ line_end
 
--- what a gauge reads: the edits, the count and the sum
+-- the text of a gauge's reading: the number of edits, the count and the sum
 abbrev pub reading_text : ℕ → ℕ → ℤ → List ℕ
 reading_text edits count sum = decimal edits ++ space ++ decimal count ++ space ++ signed_decimal sum ++ line_end
 
--- what the gauge of a session's stripe reads
+-- the line of the gauge of a session's stripe
 abbrev pub gauge_text : ℕ → ℕ → ℕ → ℤ → List ℕ
 gauge_text session edits count sum = codes "session " ++ decimal session ++ codes " gauge " ++ reading_text edits count sum
 
@@ -83,7 +83,7 @@ abbrev pub texts_of : {A : Type 0} → (A → List ℕ) → List A → List ℕ
 texts_of text [] = []
 texts_of text (line ∷ lines) = text line ++ texts_of text lines
 
--- an answer is its lines, and `none` if it has none
+-- the lines of an answer, or `none` if it has none
 abbrev pub or_none : {A : Type 0} → (A → List ℕ) → List A → List ℕ
 or_none text [] = codes "none\n"
 or_none text (line ∷ lines) = texts_of text (line ∷ lines)

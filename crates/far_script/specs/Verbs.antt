@@ -6,7 +6,7 @@ use Rattle.far_script.specs.declared.verb.Verb.{Verb}
 use Rattle.far_script.specs.declared.verb.Verb.TheVariants as verb
 use Rattle.far_script.specs.Words.{reads}
 
--- a word about objects or jobs
+-- the first word of a command about objects or jobs
 abbrev pub movement_named : List ℕ → Option Movement
 movement_named word =
     if reads word (codes "lend") then Some movement.Lend

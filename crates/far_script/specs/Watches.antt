@@ -1,4 +1,4 @@
--- The aggregates that lines spell.
+-- The aggregates that lines spell, by the words of each part.
 use Rattle.std.specs.Prelude.{ℕ, ℤ, pos, List, [], ◌∷◌, Option, None, Some, option_map, option_and_then, slice_get, codes, if◌then◌else◌}
 use Rattle.far_types.specs.declared.cell.Kind.{Kind}
 use Rattle.far_types.specs.declared.cell.Kind.TheVariants as kind
@@ -33,7 +33,7 @@ operator_of word =
     else if reads word (codes "^=") then Some operator.Begins
     else None
 
--- a test of texts, if there is one with this operator
+-- the test of texts with this operator: only `=` has one here
 abbrev pub text_test : ℕ → Op → List ℕ → Option Test
 text_test column op.Eq constant = Some (test.TextIs column constant)
 text_test column op.Ne constant = None
@@ -42,19 +42,20 @@ text_test column op.Le constant = None
 text_test column op.Gt constant = None
 text_test column op.Ge constant = None
 
--- a test of numbers, if there is a number
+-- the test of numbers with this operator, if the constant is a number
 abbrev pub number_test : ℕ → Op → Option ℤ → Option Test
 number_test column op None = None
 number_test column op (Some value) = Some (test.Int column op value)
 
--- the first of two
+-- the first test, or the other if there is none
 abbrev pub or_else : Option Test → Option Test → Option Test
 or_else None other = other
 or_else (Some first) other = Some first
 
--- the test of a constant with an operator that numbers have. In a column of numbers it is of the kind that the constant has. In
--- a column of texts it is of texts, if they have the operator; else of numbers, if the constant is one. If there is no such
--- column, it is of texts if the constant is no number and texts have the operator; else of numbers
+-- the test of a constant with an operator of numbers, by the column's kind. Column of numbers: with a number, if the
+-- constant reads as one; else with a text. Column of texts: with the text, if the operator is `=`; else with a number, if
+-- the constant reads as one. No such column: with a number if the constant reads as one; else with the text if the operator
+-- is `=`; else with 0. The table then refuses it
 abbrev pub compared : Option Kind → ℕ → Op → List ℕ → Option Test
 compared (Some kind.Int) column op constant = or_else (number_test column op (signed_number_of constant)) (Some (test.TextIs column constant))
 compared (Some kind.Text) column op constant = or_else (text_test column op constant) (number_test column op (signed_number_of constant))
@@ -66,7 +67,7 @@ abbrev pub test_by : Option Kind → ℕ → Operator → List ℕ → Option Te
 test_by column_kind column (operator.Compares op) constant = compared column_kind column op constant
 test_by column_kind column operator.Begins constant = Some (test.TextBegins column constant)
 
--- no constant is empty
+-- the same test, if the constant is not empty
 abbrev pub test_with : Option Kind → ℕ → Operator → List ℕ → Option Test
 test_with column_kind column operator [] = None
 test_with column_kind column operator (c ∷ cs) = test_by column_kind column operator (c ∷ cs)
@@ -86,7 +87,7 @@ tests_of kinds (clause ∷ column ∷ operator ∷ constant ∷ words) =
     if reads clause (codes "if") then option_and_then (λ test. option_map (λ tests. test ∷ tests) (tests_of kinds words)) (test_of kinds column operator constant)
     else None
 
--- the aggregate with the tests that are left
+-- the aggregate with the tests that the rest of the line spells
 abbrev pub with_tests : List Kind → Fold → ℕ → Option ℕ → Option (List ℕ) → Option Spec
 with_tests kinds f v k left = option_map (λ tests. record { fold = f; value = v; key = k; filter = tests }) (tests_of kinds (words_in left))
 

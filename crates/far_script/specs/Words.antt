@@ -1,4 +1,4 @@
--- The words of a line, with one space before each but the first.
+-- The words of a line, separated by one space each. A rest is `None` once the last word was taken.
 use Rattle.std.specs.Prelude.{ℕ, ◌==◌, Bool, false, nat_lt, List, [], length, Option, None, Some, option_map, option_and_then, is_none, if◌then◌else◌}
 use Rattle.std.specs.Option.{option_map_or}
 use Rattle.std.specs.Cmp.Lexicographic.{pointwise}
@@ -13,40 +13,40 @@ is_space c = c == 32
 abbrev pub word_of : List ℕ → List ℕ
 word_of text = before_first is_space text
 
--- what follows the first word and its space, if there is a space
+-- the text after the first word and its space, if there is a space
 abbrev pub rest_of : List ℕ → Option (List ℕ)
 rest_of text = if nat_lt (position_or_len is_space text) (length text) then Some (after_first is_space text) else None
 
--- the next word of what is left of a line, if something is left
+-- the next word, if there is one
 abbrev pub word_in : Option (List ℕ) → Option (List ℕ)
 word_in left = option_map word_of left
 
--- what is left after it
+-- the rest after the next word
 abbrev pub after : Option (List ℕ) → Option (List ℕ)
 after left = option_and_then rest_of left
 
--- the next word as a number
+-- the next word as a number below 2^32
 abbrev pub number_in : Option (List ℕ) → Option ℕ
 number_in left = option_and_then number_of (word_in left)
 
--- the next word as a number of 64 bits
+-- the next word as a number below 2^64
 abbrev pub long_number_in : Option (List ℕ) → Option ℕ
 long_number_in left = option_and_then long_number_of (word_in left)
 
--- the last word as a number
+-- the next word as a number below 2^32, if it is the last word
 abbrev pub last_number_in : Option (List ℕ) → Option ℕ
 last_number_in left = if is_none (after left) then number_in left else None
 
--- the last word as a number of 64 bits
+-- the next word as a number below 2^64, if it is the last word
 abbrev pub last_long_number_in : Option (List ℕ) → Option ℕ
 last_long_number_in left = if is_none (after left) then long_number_in left else None
 
--- all words that are left
+-- all remaining words
 abbrev pub words_in : Option (List ℕ) → List (List ℕ)
 words_in None = []
 words_in (Some text) = slice_split is_space text
 
--- whether a word is this one
+-- whether two words are equal
 abbrev pub reads : List ℕ → List ℕ → Bool
 reads word name = pointwise ◌==◌ word name
 

@@ -1,4 +1,4 @@
-// A reader with a bound on its reads and on its bytes.
+// A reader that allows a bounded number of reads and of bytes.
 ghost use Rattle.std.specs.Prelude.{◌≡◌, ◌≤◌, [], unwrap_or, IsTrue};
 
 mod reading;
@@ -8,19 +8,19 @@ use std::io::Read;
 /// The most bytes that a script may have.
 pub const MAX_BYTES: u32 = 16_777_216;
 
-/// The most reads that are made for a script. The one that finds its end counts.
+/// The most reads that are made for a script, including the one that finds its end.
 pub const MAX_READS: u32 = 1_048_576;
 
-/// A reader with the reads and the bytes that are left for it.
+/// A reader, with the number of reads and bytes that it still allows.
 #[derive(Drop)]
 pub struct Bounded<R: Read + Drop> {
-    /// The reader, which is asked through `read` alone.
+    /// The reader, which is called only by `read`.
     pub reader: R,
-    /// How many reads are left.
+    /// How many reads are still allowed.
     pub reads: u32,
-    /// How many bytes are left.
+    /// How many bytes are still allowed.
     pub bytes: u32,
-    /// Whether a read found the end. The reader is not asked again after it.
+    /// Whether a read found the end. The reader is not called again after it.
     pub ended: bool,
     ghost few: { reads ≤ 1048576 },
     ghost most: { bytes ≤ 16777216 },

@@ -1,9 +1,9 @@
-// A text cut at a byte.
+// Cuts a text at a byte.
 ghost use Rattle.std.specs.Prelude.{◌≡◌, ◌==◌, ◌<◌, length, MatchOption};
 ghost use Rattle.std.specs.List.{position_or_len, before_first, after_first};
 
-/// Returns what stands before the first byte that is `wanted`, and what follows it, if there is one. The byte is ASCII.
-/// It looks at one byte after the other. For words and fields that is faster than `split_once`, which is made for long texts.
+/// Returns the texts before and after the first `wanted` byte, an ASCII byte, or `None` if there is none. It looks at one
+/// byte after the other: `split_once` is made for long texts and is slower on words and fields.
 pub fn cut(text: &str, wanted: u8) -> Option<(&str, &str)>
     requires { wanted < 128 }
     ensures { MatchOption result (position_or_len (λ b. b == wanted) text.now ≡ length text.now) (λ x. (position_or_len (λ b. b == wanted) text.now < length text.now) × (x.0.now ≡ before_first (λ b. b == wanted) text.now) × (x.1.now ≡ after_first (λ b. b == wanted) text.now)) }
@@ -14,7 +14,7 @@ pub fn cut(text: &str, wanted: u8) -> Option<(&str, &str)>
     }
 }
 
-/// Returns what stands before the first such byte of ASCII, whose place is known, or all if there is none.
+/// Returns the text before the ASCII byte at `at`, or all of it if there is no such byte.
 #[inline(always)]
 pub(crate) fn before(text: &str, at: usize, wanted: u8) -> &str
     requires ascii { wanted < 128 }

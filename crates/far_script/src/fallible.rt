@@ -1,4 +1,4 @@
-// Any reader or writer, as one that may fail.
+// A wrapper that makes any reader or writer one that may fail.
 ghost use Rattle.std.specs.Prelude.{⊤, true};
 
 use super::sink::Sink;
@@ -6,7 +6,7 @@ use super::source::Source;
 use std::io;
 use std::io::{Read, Write};
 
-/// A reader or a writer whose type says that it may fail. It reads and writes as the one in it does.
+/// A reader or a writer of a type that may fail. Reads and writes go to the one inside.
 #[derive(Drop)]
 pub struct Fallible<T>(pub T);
 

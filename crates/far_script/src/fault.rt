@@ -1,18 +1,18 @@
-// What ends a script early.
+// The faults that end a script early.
 ghost use Rattle.std.specs.Prelude.{◌≡◌};
 
 use far_types::Refusal;
 use std::alloc::{AllocError, AllocFailed};
 use thiserror::Error;
 
-/// What ends a script before its end. Earlier replies stay.
+/// A fault that ends a script early. Replies that were already written stay.
 #[derive(Drop, Debug, Clone, Copy, PartialEq, Eq, Error)]
 pub enum ShellFault {
     /// The first command opens no table and asks for no sessions.
     #[error("the first command opens no table and asks for no sessions")]
     BadStart,
-    /// A read failed, or the script is too long or needs too many reads. Or a line or a load is not valid UTF-8, or the script ends
-    /// before the bytes of a load.
+    /// A read failed; or the script is too long or needs too many reads; or a line or a load is not valid UTF-8; or the
+    /// script ends inside a load.
     #[error("the script could not be read")]
     Input,
     /// A write failed.
@@ -21,7 +21,7 @@ pub enum ShellFault {
     /// The shell itself ran out of memory.
     #[error("the shell is out of memory")]
     Memory,
-    /// An edit of sessions on threads was tried as often as it may be, or was refused for what no other try mends.
+    /// A session on a thread gave up on an edit: it tried as often as it may, or a retry cannot help.
     #[error("sessions did not get their edits through")]
     Turns,
 }
@@ -49,8 +49,8 @@ impl<T: Drop> From<AllocFailed<T>> for ShellFault {
 impl ShellFault {
     ghost use Rattle.far_script.specs.Faults.{status_of};
 
-    /// Returns the fault of a script whose shell itself is out of memory. Takes `NoMemory` alone. Any other refusal is printed
-    /// as a reply; only a refused first line then ends the script, by `BadStart`.
+    /// Returns the fault `Memory`. The refusal must be `NoMemory`: the shell itself is out of memory. Any other refusal is
+    /// printed as a reply, and ends the script, by `BadStart`, only if it is of the first line.
     pub fn of_memory(refusal: Refusal) -> ShellFault
         requires { refusal ≡ Refusal.NoMemory }
         ensures { result ≡ ShellFault.Memory }
@@ -61,7 +61,7 @@ impl ShellFault {
         }
     }
 
-    /// Returns the exit status of a program that ends by the fault.
+    /// Returns the exit status for the fault.
     pub fn status(self) -> u8
         ensures { result ≡ status_of self }
     {

@@ -1,4 +1,4 @@
-// Fields as cells and rows.
+// Reads fields as cells and rows.
 ghost use Rattle.std.specs.Prelude.{◌≡◌, ◌==◌, ◌+◌, ◌<◌, ◌≤◌, ◌++◌, ◌∷◌, [], vec_len, IfOk, IfErr, OnOk, option_map, slice_get, None, Some, length, take};
 ghost use Rattle.std.specs.String.{string_bytes};
 ghost use Rattle.std.specs.List.{slice_split, list_any, position_or_len, before_first};
@@ -14,15 +14,15 @@ use far_types::{Cell, Kind, Refusal, Row, Text};
 use std::alloc::Global;
 use std::mem;
 
-/// Returns whether a field stands for no value: it reads `\N`.
+/// Returns whether a field is `\N`, the mark of a missing cell.
 fn is_missing_mark(field: &str) -> bool
     ensures { result ≡ is_missing_mark field.now }
 {
     field == "\\N"
 }
 
-/// Returns a field as a cell. `\N` is `Missing` in every column. In a column of numbers, what reads as a number is that number.
-/// Anything else is a text. Refused with `NoMemory` (1) alone.
+/// Reads a field as a cell: `\N` as `Missing` in every column, a number in a column of numbers as that number, anything
+/// else as a text. Refused only with `NoMemory` (1).
 pub fn cell(alloc: Global, column: Option<Kind>, field: &str) -> Result<Cell, Refusal>
     ensures cell { IfOk result (λ cell. cell ≡ cell_of column field.now) }
     ensures memory { IfErr result (λ e. e ≡ Refusal.NoMemory) }
@@ -30,14 +30,14 @@ pub fn cell(alloc: Global, column: Option<Kind>, field: &str) -> Result<Cell, Re
     cell_in(alloc, Cell::Missing, column, field)
 }
 
-/// Returns the kind of a column, if there is such a column.
+/// Returns the kind of a column, or `None` if there is no such column.
 pub fn kind_of(kinds: &[Kind], column: usize) -> Option<Kind>
     ensures { result ≡ slice_get kinds.now column }
 {
     kinds.get(column).copied()
 }
 
-/// Returns the first field of a text: what stands before its first comma.
+/// Returns the text before the first comma.
 fn first_field(text: &str) -> &str
     ensures { result.now ≡ before_first is_comma text.now }
 {
@@ -47,8 +47,7 @@ fn first_field(text: &str) -> &str
     }
 }
 
-/// Returns an equal string, in the memory of a cell that is no longer needed, if it is a text. Refused with `NoMemory` (1)
-/// alone.
+/// Copies a field into a string, which reuses the memory of `spare` if that is a text. Refused only with `NoMemory` (1).
 #[inline(always)]
 fn string_in(alloc: Global, spare: Cell, field: &str) -> Result<String, Refusal>
     ensures string { IfOk result (λ string. string_bytes string ≡ field.now) }
@@ -63,8 +62,8 @@ fn string_in(alloc: Global, spare: Cell, field: &str) -> Result<String, Refusal>
     Ok(string)
 }
 
-/// Returns a field as a cell, as `cell` reads it, in the memory of a cell that is no longer needed. It is inlined, since a cell that
-/// is passed on to a call goes through memory.
+/// Reads a field as `cell` does, reusing the memory of `spare`. Inlined, since a cell that is passed to another call goes
+/// through memory.
 #[inline(always)]
 fn cell_in(alloc: Global, spare: Cell, column: Option<Kind>, field: &str) -> Result<Cell, Refusal>
     ensures cell { IfOk result (λ cell. cell ≡ cell_of column field.now) }
@@ -81,8 +80,8 @@ fn cell_in(alloc: Global, spare: Cell, column: Option<Kind>, field: &str) -> Res
     Ok(Cell::Text(Text::new(string_in(alloc, spare, field)?)))
 }
 
-/// Writes the cell of the first field of a text after the first `at` cells of a list. It overwrites a cell that is no longer
-/// needed, if there is one. Returns how long that field is. Most numbers are read in one go with their comma.
+/// Reads the first field of a text as the cell at `at`, overwriting a cell that is no longer needed. Returns the field's
+/// length. A number of few digits is read in one pass together with its comma.
 #[inline(always)]
 fn write_cell(
     alloc: Global,
@@ -112,8 +111,8 @@ fn write_cell(
     Ok(field.len())
 }
 
-/// Returns the cells of what stands between the commas of a text, in the memory of cells that are no longer needed. Refused
-/// with `NoMemory` (1) alone.
+/// Returns the cells of the fields between the commas of a text, reusing the memory of cells that are no longer needed.
+/// Refused only with `NoMemory` (1).
 #[inline(always)]
 pub fn cells_in(
     alloc: Global,
@@ -157,8 +156,8 @@ pub fn record_cells(
     Ok(cells)
 }
 
-/// Returns the row of a text that is exactly one record, in the memory of cells that are no longer needed, or `None` if it is not one. Refused
-/// with `NoMemory` (1) alone.
+/// Reads a text as a row, reusing the memory of cells that are no longer needed; `None` if the text is not exactly one
+/// record. Refused only with `NoMemory` (1).
 pub fn row(
     alloc: Global,
     spare: Vec<Cell>,
@@ -186,7 +185,7 @@ fn has_comma(bytes: &[u8]) -> bool
     bytes.iter().any(|byte| *byte == b',')
 }
 
-/// Returns the cell of a record of one field.
+/// Returns the cell of a record, or `None` if the record has not exactly one field.
 fn lone_record_cell(
     alloc: Global,
     column: Option<Kind>,
@@ -204,8 +203,8 @@ fn lone_record_cell(
     }
 }
 
-/// Returns the cell of a text that is exactly one record of one field, or `None` if it is not. A number is such a record.
-/// Refused with `NoMemory` (1) alone.
+/// Reads a text as a cell; `None` if the text is not exactly one record of one field. A number is such a record. Refused
+/// only with `NoMemory` (1).
 pub fn lone_cell(alloc: Global, column: Option<Kind>, text: &str) -> Result<Option<Cell>, Refusal>
     ensures cell { IfOk result (λ cell. cell ≡ lone_cell_of column text.now) }
     ensures memory { IfErr result (λ e. e ≡ Refusal.NoMemory) }

@@ -1,4 +1,4 @@
-// What is read of a script and not answered yet.
+// A script that is read piece by piece.
 ghost use Rattle.std.specs.Prelude.{◌≡◌, ◌==◌, ◌≤◌, ◌+◌, true, false, length, take, drop};
 ghost use Rattle.std.specs.List.{list_any};
 ghost use Rattle.std.specs.Str.{IsAscii};
@@ -10,39 +10,39 @@ use super::bounded::Bounded;
 use super::page::Page;
 use std::io::Read;
 
-/// The range of a line or a load in what was read.
+/// The byte range of a line or a load in the bytes that are held.
 #[derive(Clone, Copy, Debug, Drop)]
 pub struct ByteRange {
-    /// Where it begins.
+    /// Index of its first byte.
     pub from: usize,
-    /// The place after its last byte.
+    /// Index after its last byte.
     pub to: usize,
 }
 
 /// A line of a script, without its end.
 #[derive(Clone, Copy, Debug, Drop)]
 pub enum Line {
-    /// A line with its end.
+    /// A line that a line feed ends.
     Whole(ByteRange),
-    /// What follows the last end of a line. It may be empty.
+    /// The last line, which no line feed ends. It may be empty.
     Last(ByteRange),
 }
 
-/// A script that is read while it is answered. It holds at most one line or one load of it, and what came with that. It makes
-/// at most 1,048,576 reads, and takes at most 16,777,216 bytes.
+/// A script that is read while it is answered. It holds at most one line or one load, and the bytes that came with it. It
+/// makes at most 1,048,576 reads and takes at most 16,777,216 bytes.
 #[derive(Drop)]
 pub struct Input<R: Read + Drop> {
-    /// The reader, and how much of it is left.
+    /// The reader, with the reads and bytes that it still allows.
     pub source: Bounded<R>,
-    /// Where a read puts its bytes.
+    /// The buffer for reads.
     chunk: Vec<u8>,
-    /// What was read and may not have been taken yet.
+    /// The bytes that were read. Those before `start` were taken.
     pub held: Page,
-    /// Where the next line begins.
+    /// Index of the first byte of the next line.
     pub start: usize,
-    /// How many bytes from there on are known to have no end of a line.
+    /// How many bytes from `start` on are known to have no line feed.
     plain: usize,
-    /// Whether all that is held is known to be ASCII. Then no line of it has to be checked for UTF-8.
+    /// Whether all bytes held are known to be ASCII. Then no line has to be checked for UTF-8.
     is_ascii: bool,
     ghost known: { start + plain ≤ length held },
     ghost most: { length held + source.bytes ≤ 16777216 + start },

@@ -1,6 +1,6 @@
 #![tactic(auto)]
-//! The script language as text, without a table. A script is read line by line. Words, numbers and fields are read as what they
-//! name, and answers are printed.
+//! The script language as text, without a table: reads a script line by line, parses words, numbers and fields, and prints
+//! answers.
 
 pub mod bounded;
 pub mod cut;

@@ -1,4 +1,4 @@
-// The lines of a text whose records are its lines.
+// Texts whose records are simply their lines.
 ghost use Rattle.std.specs.Prelude.{◌≡◌, ◌<◌, length, MatchOption};
 ghost use Rattle.std.specs.List.{list_any, position_or_len};
 ghost use Rattle.far_script.specs.Lines.{is_line_feed};
@@ -8,15 +8,15 @@ use super::cut::{before, behind};
 use super::record::may_begin_with_order_mark;
 use memchr::memchr;
 
-/// Returns whether there is a quote or a carriage return. Each is searched by itself, which tests many bytes at a time.
+/// Returns whether there is a quote or a carriage return. Two searches, each of which tests many bytes at a time.
 fn has_break(bytes: &[u8]) -> bool
     ensures { result ≡ list_any is_break bytes.now }
 {
     bytes.contains(&b'"') || bytes.contains(&b'\r')
 }
 
-/// Returns whether a text has no quote and no carriage return, and cannot begin with a byte order mark. Then its records are
-/// its lines that are not empty, cut at their commas.
+/// Returns whether a text has no quote and no carriage return, and cannot begin with a byte order mark. Then its records
+/// are its lines that are not empty, cut at their commas.
 pub fn are_plain_lines(text: &str) -> bool
     ensures { result ≡ are_plain_lines text.now }
 {
@@ -24,14 +24,14 @@ pub fn are_plain_lines(text: &str) -> bool
     !may_begin_with_order_mark(bytes) && !has_break(bytes)
 }
 
-/// Returns the place of the first end of a line. The search tests many bytes at a time.
+/// Returns the index of the first line feed, or `None` if there is none. The search tests many bytes at a time.
 pub(crate) fn first_feed(bytes: &[u8]) -> Option<usize>
     ensures { MatchOption result (position_or_len is_line_feed bytes.now ≡ length bytes.now) (λ at. (at < length bytes.now) × (at ≡ position_or_len is_line_feed bytes.now)) }
 {
     memchr(b'\n', bytes)
 }
 
-/// Returns the first line of a text, without its end, and what follows it.
+/// Splits a text after its first line: returns the line without its line feed, and the rest.
 pub fn next_line(text: &str) -> (&str, &str)
     ensures line { result.0.now ≡ line_of text.now }
     ensures behind { result.1.now ≡ lines_behind text.now }

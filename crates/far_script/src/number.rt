@@ -1,14 +1,14 @@
-// Numbers of scripts.
+// Reads numbers.
 ghost use Rattle.std.specs.Prelude.{◌≡◌, ◌==◌, ◌<◌, ◌≤◌, ◌^◌, ℕ, true, false, length, slice_index, take, Some, IfSome};
 ghost use Rattle.std.specs.Char.{is_ascii_digit};
 ghost use Rattle.std.specs.List.{before_first, position_or_len};
 ghost use Rattle.far_script.specs.OneRecord.{is_comma};
 ghost use Rattle.far_script.specs.Numbers.{below, digits_from, digits_of, number_of, long_number_of, signed_number_of};
 
-/// From here on, one digit more could make a number too large.
+/// From this number on, one more digit could make it too large.
 const MANY: u64 = 100_000_000_000_000_000;
 
-/// Returns the number of a text of decimal digits, if it is of 64 bits.
+/// Returns the number of a text of decimal digits, if it is below 2^64.
 fn digits(text: &[u8]) -> Option<u64>
     ensures { result ≡ below (2 ^ 64) (digits_of text.now) }
 {
@@ -27,14 +27,14 @@ fn digits(text: &[u8]) -> Option<u64>
     Some(number)
 }
 
-/// Returns a number of a script: decimal digits without a sign, below 2^64.
+/// Reads a word as a number: decimal digits without a sign, below 2^64.
 pub fn long_number(word: &str) -> Option<u64>
     ensures { result ≡ long_number_of word.now }
 {
     digits(word.as_bytes())
 }
 
-/// Returns a number of a script: decimal digits without a sign, below 2^32.
+/// Reads a word as a number: decimal digits without a sign, below 2^32.
 pub fn number(word: &str) -> Option<u32>
     ensures { result ≡ number_of word.now }
 {
@@ -42,7 +42,7 @@ pub fn number(word: &str) -> Option<u32>
     u32::try_from(number).ok()
 }
 
-/// Returns the number of a cell: an optional `+` or `-` and one or more decimal digits, in the range of 64 bits, signed.
+/// Reads a cell's number: an optional `+` or `-` and one or more decimal digits, in the range of `i64`.
 pub fn signed_number(field: &str) -> Option<i64>
     ensures { result ≡ signed_number_of field.now }
 {
@@ -57,8 +57,8 @@ pub fn signed_number(field: &str) -> Option<i64>
     }
 }
 
-/// Returns the number of the digits that a text begins with, and how many they are: about 18 at most, so that it is never too
-/// large.
+/// Reads the digits at the start of a text: returns their number and how many they are. It stops after about 18 digits, so
+/// that the number cannot overflow.
 #[inline(always)]
 fn first_digits(text: &[u8]) -> (u64, usize)
     ensures within { result.1 ≤ length text.now }
@@ -77,8 +77,8 @@ fn first_digits(text: &[u8]) -> (u64, usize)
     (number, text.len())
 }
 
-/// Returns the number that the first part of a text is, up to this byte or the end, and how long that part is. Both are read in
-/// one go. It is `None` too if the number has many digits.
+/// Reads the text before the first `end` byte, or all of it, as a number, and returns also that text's length. Searching
+/// and reading are one pass. Returns `None` too for a number of many digits, which is then read the slower way.
 #[inline(always)]
 pub(crate) fn first_number(text: &[u8], end: u8) -> Option<(u64, usize)>
     requires { is_ascii_digit end ≡ false }
@@ -94,7 +94,8 @@ pub(crate) fn first_number(text: &[u8], end: u8) -> Option<(u64, usize)>
     Some((number, len))
 }
 
-/// Does the same for a number that may have a minus, as the first field of a text. It is `None` too if it has a plus.
+/// Reads the first field of a text as a number, with its length, as `first_number` does. A minus is allowed; a plus returns
+/// `None`.
 #[inline(always)]
 pub(crate) fn first_signed(text: &[u8]) -> Option<(i64, usize)>
     ensures { IfSome result (λ x. (x.1 ≡ position_or_len is_comma text.now) × (signed_number_of (before_first is_comma text.now) ≡ Some x.0)) }

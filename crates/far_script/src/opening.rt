@@ -1,4 +1,4 @@
-// The first line of a script.
+// Reads the first line of a script.
 ghost use Rattle.std.specs.Prelude.{◌≡◌, ◌≤◌, ◌++◌, IfOk, IfErr, IfSome, option_map, option_and_then, Some, None};
 ghost use Rattle.std.specs.List.{slice_split};
 ghost use Rattle.far_script.specs.OneRecord.{is_comma};
@@ -8,32 +8,32 @@ use super::words::Words;
 use far_types::{Kind, Limits, Refusal};
 use std::alloc::Global;
 
-/// What the line `schema GROUP KINDS` or `schema GROUP KINDS PLACES EDITS INT_SEGMENTS INT_SIZE TEXT_SEGMENTS TEXT_SIZE` asks
-/// for.
+/// The table of a line `schema GROUP KINDS`, with or without `PLACES EDITS INT_SEGMENTS INT_SIZE TEXT_SEGMENTS TEXT_SIZE`
+/// at its end.
 #[derive(Drop, Debug)]
 pub struct Opening {
-    /// The kinds of the columns, as many as were named.
+    /// The kinds of the columns.
     pub kinds: Vec<Kind>,
     /// The limits, not yet validated.
     pub limits: Limits,
 }
 
-/// The most sessions of a script of threads.
+/// The most sessions that a script may ask for.
 pub const MAX_SESSIONS: u32 = 4;
 
-/// The most edits that each session of a script of threads makes.
+/// The most edits that a script may ask for in each session.
 pub const MAX_EDITS: u32 = 1_000;
 
-/// What the first line of a script says.
+/// The first line of a script.
 #[derive(Drop, Debug)]
 pub enum FirstLine {
-    /// `schema ..`: a table is opened
+    /// `schema ..`: opens a table
     Schema(Opening),
-    /// `threads SESSIONS EDITS`: sessions share a table, 1 to 4 of them, and each makes 1 to 1,000 edits
+    /// `threads SESSIONS EDITS`: 1 to 4 sessions share a table, and each makes 1 to 1,000 edits
     Threads {
-        /// How many sessions there are.
+        /// The number of sessions.
         sessions: u32,
-        /// How many edits each makes.
+        /// The number of edits of each session.
         edits: u32,
     },
 }
@@ -51,7 +51,7 @@ pub fn read_kind(word: &str) -> Option<Kind>
     }
 }
 
-/// Reads `int` and `text`, joined by commas.
+/// Reads words `int` and `text` separated by commas.
 fn read_kinds(alloc: Global, word: &str) -> Result<Option<Vec<Kind>>, Refusal>
     ensures kinds { IfOk result (λ found. option_map (λ kinds. kinds.items) found ≡ kinds_of word.now) }
     ensures memory { IfErr result (λ e. e ≡ Refusal.NoMemory) }
@@ -104,7 +104,7 @@ fn read_limits(group: u32, words: Words) -> Option<Limits>
     }
 }
 
-/// Reads `GROUP KINDS`, and the limits or nothing.
+/// Reads `GROUP KINDS`, and the limits if they are given.
 fn read_opening(alloc: Global, mut words: Words) -> Result<Option<Opening>, Refusal>
     ensures opening { IfOk result (λ found. option_map (λ o. (o.kinds.items, o.limits)) found ≡ opening_in words.entry) }
     ensures memory { IfErr result (λ e. e ≡ Refusal.NoMemory) }
@@ -124,7 +124,7 @@ fn read_opening(alloc: Global, mut words: Words) -> Result<Option<Opening>, Refu
     }
 }
 
-/// Returns the number, if it is from one to another.
+/// Returns the number if it is from `least` to `most`.
 fn between(least: u32, most: u32, number: Option<u32>) -> Option<u32>
     ensures number { result ≡ between least most number }
     ensures within { IfSome result (λ n. (least ≤ n) × (n ≤ most)) }
@@ -147,7 +147,8 @@ fn read_threads(mut words: Words) -> Option<FirstLine>
     Some(FirstLine::Threads { sessions, edits })
 }
 
-/// Returns what the first line of a script says, or `None` if it is no such line. Refused with `NoMemory` (1) alone.
+/// Reads the first line of a script; `None` if the line is neither `schema` nor `threads`. Refused only with `NoMemory`
+/// (1).
 pub fn first_line(alloc: Global, line: &str) -> Result<Option<FirstLine>, Refusal>
     ensures start { IfOk result (λ found. option_map start_of found ≡ start_in line.now) }
     ensures within { IfOk result (λ found. IfSome found (λ first. IsAllowedStart (start_of first))) }

@@ -1,4 +1,4 @@
-// Replies as text, gathered before they are written.
+// Bytes of replies that are not written yet.
 ghost use Rattle.std.specs.Prelude.{◌≡◌, ◌==◌, ◌++◌, ◌∷◌, true, IfOk, OnOk, OnErr, IfErr, length, take, drop, ◌≤◌, ◌+◌, []};
 ghost use Rattle.csv.specs.Writing.{default_writer, field_text, needs_quotes, row_text};
 ghost use Rattle.far_script.specs.Printing.{record_text};
@@ -10,7 +10,7 @@ use far_types::Refusal;
 use std::alloc::Global;
 use std::marker::Model;
 
-/// Replies that were not written yet. Contracts see their bytes.
+/// A growing text of replies. Contracts see its bytes.
 #[derive(Drop, Debug)]
 pub struct Page {
     bytes: Vec<u8>,
@@ -34,7 +34,7 @@ impl Page {
         }
     }
 
-    /// Returns the bytes, borrowed.
+    /// Borrows the bytes.
     pub fn as_slice(&self) -> &[u8]
         ensures { result.now ≡ self.now }
     {
@@ -48,21 +48,21 @@ impl Page {
         self.bytes.len()
     }
 
-    /// Returns whether there is no byte.
+    /// Returns whether the page is empty.
     pub fn is_empty(&self) -> bool
         ensures { result ≡ (length self.now == 0) }
     {
         self.bytes.is_empty()
     }
 
-    /// Removes what follows the first `len` bytes.
+    /// Keeps only the first `len` bytes.
     pub fn truncate(&mut self, len: usize)
         ensures { self.new ≡ take len self.old }
     {
         self.bytes.truncate(len);
     }
 
-    /// Removes the first bytes.
+    /// Removes the first `count` bytes.
     pub fn forget(&mut self, count: usize)
         requires { count ≤ length self.old }
         ensures { self.new ≡ drop count self.old }
@@ -75,7 +75,7 @@ impl Page {
         self.bytes.truncate(len - count);
     }
 
-    /// Puts bytes in place of those behind the first `len`. There are no more of them than stand there, so it allocates nothing.
+    /// Replaces the bytes after the first `len`, with at most as many. Allocates nothing.
     pub fn replace_behind(&mut self, len: usize, bytes: &[u8])
         requires { len + length bytes.now ≤ length self.old }
         ensures { self.new ≡ take len self.old ++ bytes.now }
@@ -86,7 +86,7 @@ impl Page {
         };
     }
 
-    /// Adds bytes. Refused with `NoMemory` (1) alone.
+    /// Adds bytes. Refused only with `NoMemory` (1).
     pub fn bytes(&mut self, bytes: &[u8]) -> Result<(), Refusal>
         ensures ok { OnOk result (self.new ≡ self.old ++ bytes.now) }
         ensures err { OnErr result (self.new ≡ self.old) }
@@ -96,7 +96,7 @@ impl Page {
         Ok(())
     }
 
-    /// Adds a text. Refused with `NoMemory` (1) alone.
+    /// Adds a text. Refused only with `NoMemory` (1).
     pub fn text(&mut self, text: &str) -> Result<(), Refusal>
         ensures ok { OnOk result (self.new ≡ self.old ++ text.now) }
         ensures err { OnErr result (self.new ≡ self.old) }
@@ -105,7 +105,7 @@ impl Page {
         self.bytes(text.as_bytes())
     }
 
-    /// Adds a byte. Refused with `NoMemory` (1) alone.
+    /// Adds a byte. Refused only with `NoMemory` (1).
     #[inline(always)]
     pub fn byte(&mut self, byte: u8) -> Result<(), Refusal>
         ensures ok { OnOk result (self.new ≡ self.old ++ byte ∷ []) }
@@ -122,7 +122,7 @@ fn needs_quotes(field: &[u8]) -> bool
     field.iter().any(|byte| *byte == b',' || *byte == b'"' || *byte == b'\r' || *byte == b'\n')
 }
 
-/// Returns a record of one field as the csv writer writes it, with its line's end.
+/// Returns a record of one field as the csv writer writes it, with its line feed.
 fn write_record(alloc: Global, field: &[u8]) -> Result<Vec<u8>, Refusal>
     ensures row { IfOk result (λ text. text.items ≡ row_text default_writer (field.now ∷ [])) }
     ensures memory { IfErr result (λ e. e ≡ Refusal.NoMemory) }
@@ -138,8 +138,8 @@ fn write_record(alloc: Global, field: &[u8]) -> Result<Vec<u8>, Refusal>
 }
 
 impl Page {
-    /// Adds a field that the csv writer quotes. It is a function of its own: the writer has a large stack frame, and each call
-    /// would have to make it.
+    /// Adds a field that the csv writer quotes. Not inlined: the writer has a large stack frame, for which each call would
+    /// pay.
     #[inline(never)]
     fn quoted_field(&mut self, field: &[u8]) -> Result<(), Refusal>
         requires { needs_quotes default_writer field.now ≡ true }
@@ -151,7 +151,7 @@ impl Page {
         self.bytes(text.as_slice())
     }
 
-    /// Adds a field of a record of several, as the csv writer writes it. Refused with `NoMemory` (1) alone.
+    /// Adds a field as the csv writer writes it in a record of several. Refused only with `NoMemory` (1).
     pub fn field(&mut self, field: &[u8]) -> Result<(), Refusal>
         ensures ok { OnOk result (self.new ≡ self.old ++ field_text default_writer field.now) }
         ensures memory { IfErr result (λ e. e ≡ Refusal.NoMemory) }
@@ -163,7 +163,7 @@ impl Page {
         }
     }
 
-    /// Adds a record of one field, as the csv writer writes it, without its line's end. Refused with `NoMemory` (1) alone.
+    /// Adds a field as the csv writer writes it alone in its record, without a line feed. Refused only with `NoMemory` (1).
     pub fn lone_field(&mut self, field: &[u8]) -> Result<(), Refusal>
         ensures ok { OnOk result (self.new ≡ self.old ++ record_text (field.now ∷ [])) }
         ensures memory { IfErr result (λ e. e ≡ Refusal.NoMemory) }

@@ -1,4 +1,4 @@
-// Replies as lines.
+// Prints replies as lines.
 ghost use Rattle.std.specs.Prelude.{◌≡◌, ◌++◌, ◌∷◌, [], OnOk, IfErr, codes, length, take};
 ghost use Rattle.std.specs.Fmt.{signed_decimal};
 ghost use Rattle.far_script.specs.Printing.{answer_text, carried_text, extrema_text, gauge_text, key_text, numbered_text, reading_text, record_text, refusal_text, space, texts_of, total_text};
@@ -6,7 +6,7 @@ ghost use Rattle.far_script.specs.Printing.{answer_text, carried_text, extrema_t
 use super::page::Page;
 use far_types::{Answer, ExtremaLines, Key, Refusal, TotalLines};
 
-/// Prints a word and a number, on a line.
+/// Prints a line of a word and a number.
 #[inline(always)]
 pub fn numbered(page: &mut Page, word: &str, number: u64) -> Result<(), Refusal>
     ensures ok { OnOk result (page.new ≡ page.old ++ numbered_text word.now number) }
@@ -18,7 +18,7 @@ pub fn numbered(page: &mut Page, word: &str, number: u64) -> Result<(), Refusal>
     page.byte(b'\n')
 }
 
-/// Prints what a refusal carries.
+/// Prints the details that a refusal carries.
 fn carried(page: &mut Page, refusal: &Refusal) -> Result<(), Refusal>
     ensures ok { OnOk result (page.new ≡ page.old ++ carried_text refusal.now) }
     ensures memory { IfErr result (λ e. e ≡ Refusal.NoMemory) }
@@ -38,7 +38,7 @@ fn carried(page: &mut Page, refusal: &Refusal) -> Result<(), Refusal>
     }
 }
 
-/// Prints `refused NUMBER NAME`, and what the refusal carries.
+/// Prints `refused NUMBER NAME` and the details of the refusal.
 pub fn refused(page: &mut Page, refusal: &Refusal) -> Result<(), Refusal>
     ensures ok { OnOk result (page.new ≡ page.old ++ refusal_text refusal.now) }
     ensures memory { IfErr result (λ e. e ≡ Refusal.NoMemory) }
@@ -51,7 +51,7 @@ pub fn refused(page: &mut Page, refusal: &Refusal) -> Result<(), Refusal>
     page.text("\n")
 }
 
-/// Prints a key that is a number, and a space. It needs no quotes.
+/// Prints the key of a line, a number, and a space. A number needs no quotes.
 #[inline(always)]
 fn number_key(page: &mut Page, number: i64) -> Result<(), Refusal>
     ensures ok { OnOk result (page.new ≡ page.old ++ (record_text (signed_decimal number ∷ []) ++ space)) }
@@ -61,7 +61,7 @@ fn number_key(page: &mut Page, number: i64) -> Result<(), Refusal>
     page.byte(b' ')
 }
 
-/// Prints the key of a line, and a space.
+/// Prints the key of a line and a space, or nothing if the aggregate has no key column.
 #[inline(always)]
 fn key(page: &mut Page, key: &Option<Key>) -> Result<(), Refusal>
     ensures ok { OnOk result (page.new ≡ page.old ++ key_text key.now) }
@@ -90,7 +90,8 @@ pub fn total(page: &mut Page, line: &(Option<Key>, u64, i128)) -> Result<(), Ref
     page.text("\n")
 }
 
-fn extrema(page: &mut Page, line: &(Option<Key>, i64, i64)) -> Result<(), Refusal>
+/// Prints a line of extrema.
+pub fn extrema(page: &mut Page, line: &(Option<Key>, i64, i64)) -> Result<(), Refusal>
     ensures ok { OnOk result (page.new ≡ page.old ++ extrema_text line.now) }
     ensures memory { IfErr result (λ e. e ≡ Refusal.NoMemory) }
 {
@@ -122,7 +123,7 @@ fn all_extrema(page: &mut Page, lines: &ExtremaLines) -> Result<(), Refusal>
     Ok(())
 }
 
-/// Prints `EDITS COUNT SUM`
+/// Prints `EDITS COUNT SUM`.
 fn reading(page: &mut Page, edits: u64, count: u64, sum: i128) -> Result<(), Refusal>
     ensures ok { OnOk result (page.new ≡ page.old ++ reading_text edits count sum) }
     ensures memory { IfErr result (λ e. e ≡ Refusal.NoMemory) }
@@ -135,7 +136,7 @@ fn reading(page: &mut Page, edits: u64, count: u64, sum: i128) -> Result<(), Ref
     page.text("\n")
 }
 
-/// Prints `session SESSION gauge EDITS COUNT SUM`
+/// Prints `session SESSION gauge EDITS COUNT SUM`.
 pub fn gauge(
     page: &mut Page,
     session: u64,

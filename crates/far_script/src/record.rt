@@ -1,4 +1,4 @@
-// The fields of one record of comma-separated values.
+// Reads a text as one record of comma-separated values.
 ghost use Rattle.std.specs.Prelude.{◌≡◌, ◌==◌, Bool, true, false, IfOk, IfErr, option_map, slice_index, not, ◌&&◌};
 ghost use Rattle.std.specs.List.{list_any};
 ghost use Rattle.csv.specs.Records.{fields_of};
@@ -8,8 +8,8 @@ use csv::{ReaderBuilder, StringRecord};
 use far_types::Refusal;
 use std::alloc::Global;
 
-/// Returns the fields of a text that is exactly one record, by the csv reader: no header row, no trimming. Refused with
-/// `NoMemory` (1) alone: a text in memory has no other way to fail.
+/// Reads a text with the csv reader and returns its fields if it is exactly one record. The first line is no header, and
+/// spaces are kept. Refused only with `NoMemory` (1): reading from memory fails in no other way.
 #[inline(never)]
 pub fn read_record(alloc: Global, text: &str) -> Result<Option<StringRecord>, Refusal>
     ensures record { IfOk result (λ found. option_map fields_of found ≡ one_record text.now) }
@@ -51,8 +51,8 @@ fn has_mark(bytes: &[u8]) -> bool
         .any(|byte| *byte == b'"' || *byte == b'\r' || *byte == b'\n')
 }
 
-/// Returns whether a text has no quote and no end of a line, and cannot begin with a byte order mark. Then its record is what
-/// stands between its commas.
+/// Returns whether a text has no quote and no end of a line, and cannot begin with a byte order mark. Then its fields are
+/// the parts between its commas.
 pub fn is_plain(text: &str) -> bool
     ensures { result ≡ is_plain text.now }
 {

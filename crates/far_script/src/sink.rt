@@ -1,4 +1,4 @@
-// Writers whose type says whether a write may fail.
+// Writers of types that say whether a write may fail.
 ghost use Rattle.std.specs.Prelude.{◌≡◌, ◌<◌, Bool, false, length, IfOk, IsTrue, OnErr};
 ghost use Rattle.std.specs.Io.{WritesAtMost};
 ghost use Rattle.std.specs.Io.KnownBytes.{Keeps, WriteAppends};
@@ -6,16 +6,16 @@ ghost use Rattle.std.specs.Io.KnownBytes.{Keeps, WriteAppends};
 use std::io;
 use std::io::Write;
 
-/// A writer whose type says whether a write may fail. So if a script ends by a failed write, writers of its type may fail.
+/// A writer of a type that says whether a write may fail. So a script can end with `Output` only if that type may fail.
 ///
-/// [`io::Sink`], which drops what it is given, never fails. Any other writer is wrapped in [`Fallible`](crate::Fallible). A `Vec` is too,
-/// since it may run out of memory.
+/// [`io::Sink`], which drops all bytes, never fails. Any other writer is wrapped in [`Fallible`](crate::Fallible), also a
+/// `Vec`, which may run out of memory.
 pub trait Sink: Write {
-    /// Whether writes to writers of this type may fail.
+    /// Whether writers of this type may fail.
     ghost may_fail: { Bool };
 
-    /// Writes once, as `write` does, and returns how many bytes the writer took. Fails only if `may_fail`. A write that takes none of at
-    /// least one byte counts as failed.
+    /// Writes once, as `write` does, and returns how many bytes the writer took. Fails only if `may_fail`. A write of at
+    /// least one byte that takes none counts as failed.
     fn write_some(&mut self, bytes: &[u8]) -> io::Result<usize>
         ensures bound { WritesAtMost result bytes.now }
         ensures bytes { WriteAppends (Self.contents self.old) (Self.contents self.new) result bytes.now }

@@ -1,4 +1,4 @@
-// Readers whose type says whether a read may fail.
+// Readers of types that say whether a read may fail.
 ghost use Rattle.std.specs.Prelude.{OnErr};
 ghost use Rattle.std.specs.Io.{ReadsAtMost};
 ghost use Rattle.std.specs.Io.KnownBytes.{ReadConsumes};
@@ -6,11 +6,11 @@ ghost use Rattle.std.specs.Io.KnownBytes.{ReadConsumes};
 use std::io;
 use std::io::Read;
 
-/// A reader whose type says whether a read may fail. So if a script ends by a failed read, readers of its type may fail.
+/// A reader of a type that says whether a read may fail.
 ///
-/// Bytes in memory (`&[u8]`) never fail. Any other reader is wrapped in [`Fallible`](crate::Fallible).
+/// A slice of bytes (`&[u8]`) never fails. Any other reader is wrapped in [`Fallible`](crate::Fallible).
 pub trait Source: Read {
-    /// Whether reads of readers of this type may fail.
+    /// Whether readers of this type may fail.
     ghost may_fail: { Type 0 };
 
     /// Reads once, as `read` does, and returns how many bytes came. Fails only if `may_fail`.

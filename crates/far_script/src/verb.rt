@@ -2,7 +2,7 @@
 ghost use Rattle.std.specs.Prelude.{◌≡◌};
 ghost use Rattle.far_script.specs.Verbs.{movement_named, verb_of};
 
-/// A first word about objects or jobs: the word of the variant's name.
+/// The first word of a command about objects or jobs. Each variant is named for its word.
 #[derive(Clone, Copy, Debug, PartialEq, Eq)]
 pub enum Movement {
     Lend,
@@ -19,7 +19,7 @@ pub enum Movement {
     Merge,
 }
 
-/// The first word of a command: the word of the variant's name, or one about objects or jobs.
+/// The first word of a command. Each variant but `Move` is named for its word.
 #[derive(Clone, Copy, Debug, PartialEq, Eq)]
 pub enum Verb {
     Insert,
@@ -56,7 +56,7 @@ fn read_movement(word: &str) -> Option<Movement>
     }
 }
 
-/// Returns the verb that a word names, if it names one.
+/// Reads the first word of a command; `None` if it is no verb.
 pub fn read_verb(word: &str) -> Option<Verb>
     ensures { result ≡ verb_of word.now }
 {

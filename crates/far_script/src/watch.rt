@@ -1,4 +1,4 @@
-// Lines as aggregates.
+// Reads aggregates.
 ghost use Rattle.std.specs.Prelude.{◌≡◌, ◌<◌, IfOk, IfErr, IfSome, IfNone, OnSome, option_map, option_and_then, slice_get, Some, None, false, is_none, length, ◌∷◌};
 ghost use Rattle.far_script.specs.Words.{words_in};
 ghost use Rattle.far_script.specs.Watches.{fold_of, operator_of, test_with, test_of, tests_of, with_tests, with_key, spec_of, compared, text_test, number_test};
@@ -59,7 +59,8 @@ fn text(alloc: Global, constant: &str) -> Result<Text, Refusal>
     Ok(Text::new(String::from_str(alloc, constant)?))
 }
 
-/// Returns the test of a constant with an operator that numbers have.
+/// Returns the test of a column with a comparison and a constant. The column's kind decides whether it tests numbers or
+/// texts.
 fn compare(
     alloc: Global,
     kind: Option<Kind>,
@@ -91,7 +92,7 @@ fn compare(
     }
 }
 
-/// Returns a test, whose kind its column, its operator and its constant say.
+/// Returns the test of a column with any operator and a constant; `None` if the constant is empty or does not fit.
 fn test(
     alloc: Global,
     kind: Option<Kind>,
@@ -140,7 +141,7 @@ fn read_test(
     )
 }
 
-/// Takes `if COLUMN OPERATOR CONSTANT` off the words.
+/// Reads one `if COLUMN OPERATOR CONSTANT` from the words.
 fn take_test(alloc: Global, kinds: &[Kind], words: &mut Words) -> Result<Option<Test>, Refusal>
     requires { is_none words.old ≡ false }
     ensures test { IfOk result (λ found. IfSome found (λ test.
@@ -182,7 +183,7 @@ fn read_tests(alloc: Global, kinds: &[Kind], mut words: Words) -> Result<Option<
     Ok(Some(tests))
 }
 
-/// Returns the aggregate with the tests that are left.
+/// Returns the aggregate with the tests that the remaining words spell.
 fn spec_with_tests(
     alloc: Global,
     kinds: &[Kind],
@@ -205,8 +206,8 @@ fn spec_with_tests(
     }
 }
 
-/// Reads `FOLD COLUMN [by COLUMN] [if COLUMN OPERATOR CONSTANT]..`. Returns `None` if the words are no aggregate. Refused with
-/// `NoMemory` (1) alone.
+/// Reads `FOLD COLUMN [by COLUMN] [if COLUMN OPERATOR CONSTANT]..`; `None` if the words spell no aggregate. Refused only
+/// with `NoMemory` (1).
 pub fn spec(alloc: Global, kinds: &[Kind], mut words: Words) -> Result<Option<Spec>, Refusal>
     ensures spec { IfOk result (λ spec. spec ≡ spec_of kinds.now words.entry) }
     ensures memory { IfErr result (λ e. e ≡ Refusal.NoMemory) }

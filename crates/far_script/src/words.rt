@@ -1,4 +1,4 @@
-// The words of a line.
+// Takes the words of a line one by one.
 ghost use Rattle.std.specs.Prelude.{◌≡◌, option_map, is_none, IfSome, IfNone, ◌∷◌, [], Some};
 ghost use Rattle.std.specs.List.{position_or_len};
 ghost use Rattle.far_script.specs.Words.{is_space, rest_of, after, word_in, number_in, long_number_in, last_number_in, last_long_number_in, is_next, words_in};
@@ -7,8 +7,8 @@ use super::cut::{behind, cut};
 use super::number::{first_number, long_number};
 use std::marker::Model;
 
-/// What is left of a line: words with exactly one space between them, from the first on. Contracts see the text that is left,
-/// and nothing once the last word was taken.
+/// The remaining words of a line, separated by exactly one space each. Contracts see the remaining text, or `None` once the
+/// last word was taken.
 #[derive(Drop)]
 pub struct Words<'a> {
     left: Option<&'a str>,
@@ -22,7 +22,7 @@ impl<'a> Model for Words<'a> {
     ghost view = { λ words. option_map (λ text. text.now) words.left };
 }
 
-/// Returns what follows the first word of a text, which has `len` bytes, and its space.
+/// Returns the text after the first word, which has `len` bytes, and its space; `None` if there is no space.
 #[inline(always)]
 fn rest_behind(text: &str, len: usize) -> Option<&str>
     requires { len ≡ position_or_len is_space text.now }
@@ -43,7 +43,7 @@ impl<'a> Words<'a> {
         Words { left: Some(text) }
     }
 
-    /// Returns what is left, with all its spaces.
+    /// Returns the remaining text, with all its spaces.
     pub fn rest(self) -> Option<&'a str>
         ensures { option_map (λ text. text.now) result ≡ self.entry }
     {
@@ -57,7 +57,8 @@ impl<'a> Words<'a> {
         self.left.is_none()
     }
 
-    /// Takes the next word, if there is one. It is empty if two spaces are adjacent, or one is at an end.
+    /// Takes the next word; `None` if there is none. A word is empty between two spaces, or if the text begins or ends with
+    /// a space.
     pub fn word(&mut self) -> Option<&'a str>
         ensures word { option_map (λ word. word.now) result ≡ word_in self.old }
         ensures left { self.new ≡ after self.old }
@@ -77,7 +78,7 @@ impl<'a> Words<'a> {
         }
     }
 
-    /// Returns whether the next word is this one.
+    /// Returns whether the next word is `name`.
     pub fn next_is(&self, name: &str) -> bool
         ensures { result ≡ is_next self.now name.now }
     {
@@ -90,7 +91,7 @@ impl<'a> Words<'a> {
         }
     }
 
-    /// Takes the next word, and reads it as a number below 2^32.
+    /// Takes the next word and reads it as a number below 2^32.
     pub fn number(&mut self) -> Option<u32>
         ensures number { result ≡ number_in self.old }
         ensures left { self.new ≡ after self.old }
@@ -99,7 +100,7 @@ impl<'a> Words<'a> {
         u32::try_from(number).ok()
     }
 
-    /// Takes the next word, and reads it as a number below 2^64.
+    /// Takes the next word and reads it as a number below 2^64.
     pub fn long_number(&mut self) -> Option<u64>
         ensures number { result ≡ long_number_in self.old }
         ensures left { self.new ≡ after self.old }
@@ -114,7 +115,7 @@ impl<'a> Words<'a> {
         }
     }
 
-    /// Returns the last word as a number below 2^32: there is no other word after it.
+    /// Reads the last word as a number below 2^32; `None` if more than one word remains.
     pub fn last_number(mut self) -> Option<u32>
         ensures { result ≡ last_number_in self.entry }
     {
@@ -122,7 +123,7 @@ impl<'a> Words<'a> {
         if self.is_empty() { number } else { None }
     }
 
-    /// Returns the last word as a number below 2^64: there is no other word after it.
+    /// Reads the last word as a number below 2^64; `None` if more than one word remains.
     pub fn last_long_number(mut self) -> Option<u64>
         ensures { result ≡ last_long_number_in self.entry }
     {

@@ -1,4 +1,4 @@
--- What was printed up to a fault: of the first line of a script, and of the lines after it.
+-- What a script has printed when a fault ends it: for its first line, and for the lines after it.
 use Rattle.std.specs.Prelude.{◌≡◌, ◌⊎◌, ℕ, List, [], ◌∷◌, ◌++◌, None, Some, IsUtf8, codes}
 use Rattle.far_types.specs.declared.refusal.Refusal.TheVariants as refusal
 use Rattle.far_types.specs.Bounds.{IsSchema, AreLimits}
@@ -13,25 +13,25 @@ use Rattle.far_commands.specs.Progress.{At}
 use Rattle.far_script.specs.Lines.{Blank, IsOneLine, without_return}
 use Rattle.far_scripts.specs.Scripts.{AnswersLines, Begins, IsNew, Opens}
 
--- the input stops before a line that can be answered: it ends inside a line (`unseen` says why no more came), its last line is invalid
--- (`spent` says that nothing follows), or its first line is
+-- the input stops before a line that can be answered: it ends inside a line, for the reason `unseen`; or it is only a last
+-- line, which is invalid, and `spent` says that nothing follows; or its first line is invalid
 abbrev pub HasNoTurn : Type 0 → Type 0 → (List ℕ → List ℕ → Type 0) → List ℕ → Type 0
 HasNoTurn unseen spent fails bytes = (IsOneLine bytes × (unseen ⊎ (spent × fails bytes [])))
     ⊎ ((line : List ℕ) × (behind : List ℕ) × IsOneLine line × (bytes ≡ line ++ 10 ∷ behind) × fails (without_return line) behind)
 
--- a line is no first line, and this is printed for it
+-- a line is not a valid first line, and this text is printed for it
 abbrev pub IsUnknown : List ℕ → List ℕ → Type 0
 IsUnknown line text = (start_in line ≡ None) × (text ≡ codes "syntax command 1\n")
 
--- a table may not have these columns and limits, and this is printed for it
+-- these columns or limits are not valid, and this text is printed for them
 abbrev pub IsRefused : Opened → List ℕ → Type 0
 IsRefused opened text = ¬ (IsSchema opened.0 × AreLimits opened.1) × (text ≡ refusal_text refusal.BadSchema)
 
--- a line opens no table and asks for no sessions, and this is printed for it
+-- a first line is invalid in one of these two ways, and this text is printed for it
 abbrev pub IsRejected : List ℕ → List ℕ → Type 0
 IsRejected line text = IsUnknown line text ⊎ ((opened : Opened) × (start_in line ≡ Some (Schema opened)) × IsRefused opened text)
 
--- what is printed for a first line before a fault: as `why` says, if the line is at fault, and nothing if memory runs out
+-- the text printed at a fault of the first line: by `why` if the line is invalid, none if memory runs out
 abbrev pub Rejection : ShellFault → (List ℕ → Type 0) → List ℕ → Type 0
 Rejection fault.BadStart why text = why text
 Rejection fault.Input why text = ⊥
@@ -39,15 +39,15 @@ Rejection fault.Output why text = ⊥
 Rejection fault.Memory why text = text ≡ []
 Rejection fault.Turns why text = ⊥
 
--- a script has no command
+-- a script has only empty lines
 abbrev pub HasNoCommand : List ℕ → Type 0 → Type 0
 HasNoCommand bytes spent = (blanks : List (List ℕ)) × Blank bytes blanks × spent
 
--- the first command of a script is at fault, or there is none
+-- the first command of a script is invalid, and this text is printed for it; or the script has only empty lines
 abbrev pub Rejects : List ℕ → Type 0 → List ℕ → Type 0
 Rejects bytes spent text = ((line : List ℕ) × Begins bytes spent line × IsRejected line text) ⊎ (HasNoCommand bytes spent × (text ≡ []))
 
--- no first command came: after empty lines none has its end, or the first is no text
+-- the input stops before a first command, after some empty lines: inside a line, or at a line that is not valid UTF-8
 pub record HasNoStart (unseen spent : Type 0) (bytes : List ℕ) : Type 0 where
   pub blanks : List (List ℕ)
   pub blank : List ℕ
@@ -56,12 +56,12 @@ pub record HasNoStart (unseen spent : Type 0) (bytes : List ℕ) : Type 0 where
   pub none : HasNoTurn unseen spent (λ line behind. ¬ (IsUtf8 line)) next
   pub whole : bytes ≡ blank ++ next
 
--- of a script only empty lines were taken, and at most a first command
+-- only empty lines were taken, and at most the first command
 abbrev pub IsAtStart : List ℕ → Type 0 → Type 0
 IsAtStart bytes spent = ((blanks : List (List ℕ)) × Blank bytes blanks) ⊎ ((line : List ℕ) × Begins bytes spent line)
 
--- a fault comes before any first command was understood, and this is printed. If memory ran out or a write failed, the bytes are all that
--- was taken
+-- a fault comes before a first command was read and found valid, and this text is printed. At `Memory` and `Output`,
+-- `bytes` is all that was taken
 abbrev pub HasNotBegun : Type 0 → Type 0 → ShellFault → List ℕ → List ℕ → List ℕ → Type 0
 HasNotBegun unseen spent fault.BadStart bytes rest text = Rejects bytes (rest ≡ []) text
 HasNotBegun unseen spent fault.Input bytes rest text = HasNoStart unseen spent bytes × (text ≡ [])
@@ -70,19 +70,20 @@ HasNotBegun unseen spent fault.Memory bytes rest text = (text ≡ []) × IsAtSta
 HasNotBegun unseen spent fault.Turns bytes rest text = ⊥
 
 module _ {K : Type 0} where
-  -- what was taken after a line when its reply broke off, and the part of the reply that was printed. Only a dump is printed in part
+  -- the bytes taken after a line without a complete reply, and the part of its reply that was printed. Only the reply to
+  -- `dump` can be printed in part
   abbrev pub IsStopped : At K → List ℕ → List ℕ → List ℕ → Type 0
   IsStopped at line rows front = IsTakenFor (command_of at.world.state.table.schema line) rows × IsFront (IsListing at line) front
 
-  -- what was taken of the turn whose reply broke off: nothing; or a line with its end, and what comes after it; or the last line
+  -- the bytes of a command without a complete reply: none, or a line with the bytes of its load, or the last line
   abbrev pub StopsIn : At K → List ℕ → List ℕ → List ℕ → Type 0
   StopsIn at next rest front = ((next ≡ []) × (front ≡ []))
       ⊎ (((line : List ℕ) × (rows : List ℕ) × IsOneLine line × (next ≡ line ++ 10 ∷ rows) × IsStopped at (without_return line) rows front)
       ⊎ (IsOneLine next × (rest ≡ []) × IsStopped at next [] front))
 
-  -- the command during which the fault occurred, and the part of its reply that was printed. At the fault `Input` it is all that came, and
-  -- no whole turn: `unseen` says why no more came though the end was not seen, `spent` that nothing follows. At `Output` and `Memory` it is
-  -- all that was taken
+  -- `next` is the command at which the fault occurred, and `front` the printed part of its reply. At `Input`, `next` is all
+  -- that came after the answered lines, and has no line that can be answered: `unseen` says why no more came, `spent` that
+  -- nothing follows. At `Output` and `Memory`, it is all that was taken
   abbrev pub BreaksIn : Type 0 → Type 0 → ShellFault → At K → List ℕ → List ℕ → List ℕ → Type 0
   BreaksIn unseen spent fault.BadStart at next rest front = ⊥
   BreaksIn unseen spent fault.Input at next rest front = (front ≡ []) × HasNoTurn unseen spent (Fails (spent ⊎ unseen) at.world.state.table.schema) next
@@ -90,9 +91,9 @@ module _ {K : Type 0} where
   BreaksIn unseen spent fault.Memory at next rest front = StopsIn at next rest front
   BreaksIn unseen spent fault.Turns at next rest front = ⊥
 
--- `unseen` and `spent` say why no more came
+-- in what follows, `unseen` says why no more of the script came, and `spent` that nothing follows
 module _ {S K : Type 0} (tickets : Tickets S K) (unseen spent : Type 0) where
-  -- a script breaks off after its first command: whole lines get their replies, and then no more
+  -- a script ends early after its first command: some lines are answered in full, and at most one more in part
   pub record BreaksOff (old : At K) (why : ShellFault) (bytes rest text : List ℕ) : Type 0 where
     pub before : List ℕ
     pub printed : List ℕ
@@ -104,12 +105,12 @@ module _ {S K : Type 0} (tickets : Tickets S K) (unseen spent : Type 0) where
     pub whole : bytes ≡ before ++ next
     pub said : text ≡ printed ++ front
 
-  -- a script breaks off after a first command that asks for a table of these columns and limits. Either the table is not opened, and
-  -- nothing after the command is read. Or the table is opened, and its lines break off
+  -- a script ends early after a first command for a table of these columns and limits: the table is not opened, and nothing
+  -- more is read; or it is opened, and the fault comes among its lines
   abbrev pub BreaksServing : Opened → ShellFault → List ℕ → List ℕ → List ℕ → Type 0
   BreaksServing opened why bytes rest text = ((bytes ≡ []) × Rejection why (IsRefused opened) text) ⊎ ((at : At K) × (tail : List ℕ) × IsNew tickets opened at × BreaksOff at why bytes rest tail × (text ≡ codes "ok\n" ++ tail))
 
-  -- a script breaks off after its first command
+  -- a script ends early after its first command opened a table
   pub record BreaksLater (why : ShellFault) (bytes rest text : List ℕ) : Type 0 where
     pub first : List ℕ
     pub at : At K

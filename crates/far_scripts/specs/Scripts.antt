@@ -9,22 +9,22 @@ use Rattle.far_commands.specs.Replies.{AnswersLine}
 use Rattle.far_commands.specs.Tables.{IsEmpty}
 use Rattle.far_frame.specs.Worlds.{World}
 
--- a turn: one line of a script without its line feed, the bytes after it that belong to it, and the text of its reply
+-- a turn: a line of a script without its line feed, the bytes of its load, and its reply
 pub record Turn : Type 0 where
   pub line : List ℕ
   pub rows : List ℕ
   pub text : List ℕ
 
--- the bytes of a turn
+-- the bytes of a turn in the script
 abbrev pub bytes_of : Turn → List ℕ
 bytes_of turn = turn.line ++ 10 ∷ turn.rows
 
--- the text that a turn prints
+-- the reply of a turn
 abbrev pub text_of : Turn → List ℕ
 text_of turn = turn.text
 
--- the first command of a script is this line: empty lines stand before it, it has a byte, and it is text. It may lack its end only if
--- nothing comes after it
+-- this line is the first command of a script: it comes after empty lines, is not empty and is valid UTF-8. It may lack its
+-- line feed only if nothing follows
 pub record Begins (bytes : List ℕ) (spent : Type 0) (line : List ℕ) : Type 0 where
   pub blanks : List (List ℕ)
   pub blank : List ℕ
@@ -35,24 +35,24 @@ pub record Begins (bytes : List ℕ) (spent : Type 0) (line : List ℕ) : Type 0
   pub text : IsUtf8 line
   pub is : ((bytes ≡ blank ++ (raw ++ 10 ∷ [])) × (line ≡ without_return raw)) ⊎ ((bytes ≡ blank ++ raw) × (line ≡ raw) × spent)
 
--- the capacity of the first store of a script: how many contents it takes
+-- how many contents the first store of a script can hold
 abbrev pub first_capacity : ℕ
 first_capacity = 1048576
 
 module _ {S K : Type 0} (tickets : Tickets S K) where
-  -- the objects of a table go to a store of this capacity
+  -- the store of a table has this capacity
   abbrev pub HasStore : ℕ → World K → Type 0
   HasStore capacity world = (store : S) × (tickets.capacity_of store ≡ capacity) × (world.store ≡ tickets.store_id store)
 
-  -- a script is past its first command, which opened an empty table over a store of the first capacity
+  -- the state of a script after its first command opened an empty table, whose store has the first capacity
   abbrev pub IsNew : Opened → At K → Type 0
   IsNew opened at = IsEmpty opened at.world × HasStore first_capacity at.world × (at.number ≡ 1)
 
-  -- the first command of a script opens an empty table of its columns and limits
+  -- these bytes are the first command of a script, and it opens an empty table of its columns and limits
   abbrev pub Opens : List ℕ → Type 0 → At K → Type 0
   Opens bytes spent at = (line : List ℕ) × (opened : Opened) × Begins bytes spent line × (start_in line ≡ Some (Schema opened)) × IsNew opened at
 
-  -- a turn takes the table from the old state to the new one, and its text is the reply
+  -- a turn takes the script from the old state to the new one, and prints the reply
   abbrev pub IsTurn : At K → Turn → At K → Type 0
   IsTurn old turn new = IsOneLine turn.line × AnswersLine tickets old (without_return turn.line) turn.rows turn.text new
 
@@ -61,11 +61,12 @@ module _ {S K : Type 0} (tickets : Tickets S K) where
   AreTurns old [] new = new ≡ old
   AreTurns old (turn ∷ turns) new = (mid : At K) × IsTurn old turn mid × AreTurns mid turns new
 
-  -- these bytes are whole lines with what belongs to them, and the text is their replies
+  -- these bytes are whole lines with their loads, and the text is their replies
   abbrev pub AnswersLines : At K → List ℕ → List ℕ → At K → Type 0
   AnswersLines old bytes text new = (turns : List Turn) × (bytes ≡ flat_map bytes_of turns) × (text ≡ flat_map text_of turns) × AreTurns old turns new
 
-  -- the text is the replies to the rest of a script: to its whole lines, and to a last one, which lacks its end and may be empty
+  -- the text is the replies to the rest of a script: to its whole lines, and to a last line without a line feed, which may
+  -- be empty
   pub record Ends (old : At K) (script text : List ℕ) : Type 0 where
     pub bytes : List ℕ
     pub printed : List ℕ
@@ -79,12 +80,12 @@ module _ {S K : Type 0} (tickets : Tickets S K) where
     pub whole : script ≡ bytes ++ last
     pub said : text ≡ printed ++ tail
 
-  -- the text is the replies to a script from its first command on. That asks for a table of these columns and limits: the table is opened,
-  -- and the lines after the command get their replies
+  -- the text is the replies to a script whose first command, already taken, opens a table of these columns and limits:
+  -- `ok`, and the replies to the lines after it
   abbrev pub IsServed : Opened → List ℕ → List ℕ → Type 0
   IsServed opened bytes text = (at : At K) × (tail : List ℕ) × IsNew opened at × Ends at bytes tail × (text ≡ codes "ok\n" ++ tail)
 
-  -- the text is the replies to a whole script
+  -- the text is the replies to a whole script over a table
   pub record IsScript (script text : List ℕ) : Type 0 where
     pub first : List ℕ
     pub rest : List ℕ

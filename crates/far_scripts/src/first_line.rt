@@ -1,4 +1,4 @@
-// The first line of a script, as it is read.
+// Reads the first line of a script.
 ghost use Rattle.std.specs.Prelude.{◌≡◌, ◌≢◌, ℕ, List, [], ◌++◌, ◌≤◌, true, IfOk, IfErr, OnOk, Some};
 ghost use Rattle.far_script.specs.Flow.{Gives, IsOver, IsAtEnd, IsUnseen, Prints, Reads, has_failed};
 ghost use Rattle.far_script.specs.Openings.{IsAllowedStart, start_in, start_of};
@@ -10,7 +10,7 @@ use far_script::opening::first_line;
 use far_script::{FirstLine, Input, Line, Output, ShellFault, Sink, Source};
 use std::alloc::Global;
 
-/// Returns what a first line says. If the line is none, that is printed, and the fault is `BadStart`.
+/// Parses a first line. If it is invalid, prints `syntax command 1` and ends with `BadStart`.
 fn read_first<W: Sink>(
     alloc: Global,
     line: &str,
@@ -32,7 +32,7 @@ fn read_first<W: Sink>(
     }
 }
 
-/// Returns the first command of a script. If there is none, or it is no first line, the fault is `BadStart`.
+/// Reads the first command of a script. Ends with `BadStart` if there is none or it is not a valid first line.
 pub fn first_command<R: Source + Drop, W: Sink>(
     alloc: Global,
     input: &mut Input<R>,

@@ -1,6 +1,6 @@
 #![tactic(auto)]
-//! A script over a table: its first line is read, and the table that it asks for is opened. Then the lines after it are answered, up to
-//! the end of the script. This crate knows no sessions: `far_shell` has whole scripts.
+//! Scripts over a table: reads the first line, opens the table, and answers the lines after it to the end of the script.
+//! This crate has no sessions: `far_shell` runs whole scripts.
 
 mod first_line;
 mod lines;

@@ -1,4 +1,4 @@
-// The lines after the first command of a script.
+// Answers the lines after the first command.
 ghost use Rattle.std.specs.Prelude.{◌≡◌, ◌≤◌, ℕ, List, true, IfErr, OnOk};
 ghost use Rattle.far_script.specs.Flow.{Gives, IsOver, IsAtEnd, IsUnseen, Prints, Reads, has_failed};
 ghost use Rattle.far_scripts.specs.Breaks.{BreaksOff};
@@ -9,10 +9,10 @@ use far_script::bounded::MAX_BYTES;
 use far_script::{Input, Line, Output, ShellFault, Sink, Source};
 use far_store::FarStore;
 
-/// More lines than a script can have: each takes a byte.
+/// More lines than a script can have, since each takes a byte.
 pub const MAX_LINES: u32 = MAX_BYTES + 1;
 
-/// Serves the lines that follow the first command, up to the end of the script.
+/// Answers the lines after the first command, to the end of the script.
 pub fn serve_lines<S: FarStore, A: Resources<S>, R: Source + Drop, W: Sink>(
     resources: &A,
     progress: &mut Progress<S>,

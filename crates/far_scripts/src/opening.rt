@@ -1,4 +1,4 @@
-// The table that a first line asks for, as it is opened.
+// Opens the table of a script.
 ghost use Rattle.std.specs.Prelude.{◌≡◌, ◌≢◌, ℕ, List, ◌++◌, codes, IfOk, IfErr, IsErrOf, IsOk, OnOk};
 ghost use Rattle.far_scripts.specs.Breaks.{IsRefused, Rejection};
 ghost use Rattle.far_scripts.specs.Scripts.{IsNew};
@@ -8,13 +8,12 @@ use far_script::{Opening, Output, ShellFault, Sink};
 use far_store::FarStore;
 use far_types::Refusal;
 
-/// How many contents the first store of a script takes.
+/// How many contents the first store of a script can hold.
 const STORE_CAPACITY: u64 = 1_048_576;
 
-/// Returns the value if its reply was added. If memory ran out instead, the fault is that of the reply, and the value is dropped.
+/// Returns the value if its reply was added, and otherwise drops it and returns the fault.
 ///
-/// It takes a value of any type. For the proof: a return that drops a table costs the proof of a function much, and here it costs
-/// none.
+/// Generic for the proof: in a function over the table's own type a return that drops it is long to prove.
 fn once_said<T: Drop>(value: T, said: Result<(), ShellFault>) -> Result<T, ShellFault>
     ensures ok { IfOk result (λ kept. (kept ≡ value) × IsOk said) }
     ensures err { IfErr result (IsErrOf said) }
@@ -25,8 +24,8 @@ fn once_said<T: Drop>(value: T, said: Result<(), ShellFault>) -> Result<T, Shell
     }
 }
 
-/// Opens the table that a first line asks for, over a new store. If the store cannot be allocated, the fault is `Memory`. If the table is
-/// refused with `BadSchema` (2), that is printed, and the fault is `BadStart`.
+/// Opens the table that a first line asks for, over a new store, and prints `ok`. Ends with `Memory` if the store cannot be
+/// allocated. If the table is refused with `BadSchema` (2), prints that and ends with `BadStart`.
 pub fn open<S: FarStore, A: Resources<S>, W: Sink>(
     resources: &A,
     opening: Opening,

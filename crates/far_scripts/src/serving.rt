@@ -1,4 +1,4 @@
-// A table of a script, from its opening to the last line that it answers.
+// Serves a script over a table, from its first command to its end.
 ghost use Rattle.std.specs.Prelude.{◌≡◌, ◌≤◌, ℕ, List, true, IfErr, OnOk};
 ghost use Rattle.far_script.specs.Flow.{Gives, IsOver, IsAtEnd, IsUnseen, Prints, Reads, has_failed};
 ghost use Rattle.far_scripts.specs.Breaks.{BreaksServing};
@@ -10,9 +10,8 @@ use far_commands::Resources;
 use far_script::{Input, Opening, Output, ShellFault, Sink, Source};
 use far_store::FarStore;
 
-/// Answers a script after a first command that asks for a table. Opens the table over a new store, and answers its lines up to the end
-/// of the script. If the store cannot be allocated, the fault is `Memory`. If the table is refused, the refusal is printed, and the fault
-/// is `BadStart`.
+/// Opens the table that a first command asks for, and answers the lines after it to the end of the script. Ends with
+/// `Memory` if the store cannot be allocated. If the table is refused, prints the refusal and ends with `BadStart`.
 pub fn serve_table<S: FarStore, A: Resources<S>, R: Source + Drop, W: Sink>(
     resources: &A,
     opening: Opening,

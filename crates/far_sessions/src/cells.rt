@@ -1,4 +1,4 @@
-// The four cells.
+// The four cells outside the locks.
 ghost use Rattle.std.specs.Prelude.{◌≡◌, ◌≢◌, ◌<◌, ◌≤◌, ℕ, OnOk, IfOk, IfErr};
 ghost use Rattle.crossbeam_utils.specs.Padded.{padded_value};
 ghost use Rattle.far_history.specs.Histories.{gauge_of};
@@ -11,20 +11,20 @@ use far_history::{PlanTag, Reading};
 use far_types::Refusal;
 use std::sync::Wait;
 
-// Empty blocks, which lie between the blocks of the cells.
+// Unused blocks between the blocks of the cells.
 pub(crate) type Spacers = Vec<Vec<u64>>;
 
-/// The four cells, without a stripe's lock.
+/// The four cells, which are read without a stripe's lock.
 ///
-/// Each holder is padded, so that no two are on one cache line. The words of each cell lie in a block of their own, with
-/// spacers between these blocks. So an edit of one stripe does not slow the readings of another stripe's gauge.
+/// Each field is padded, so that no two share a cache line. The words of each cell are in a block of their own, with
+/// spacers between these blocks. So an edit of one stripe does not slow down the readings of another stripe's gauge.
 #[derive(Drop)]
 pub struct Cells<N: PlanTag, B: CellsTag> {
     pub(crate) zero: CachePadded<StripeCell<N, B, 0>>,
     pub(crate) one: CachePadded<StripeCell<N, B, 1>>,
     pub(crate) two: CachePadded<StripeCell<N, B, 2>>,
     pub(crate) three: CachePadded<StripeCell<N, B, 3>>,
-    // They stay as long as the cells. Otherwise other data that a thread writes would soon lie in their place.
+    // Kept as long as the cells. If they were freed, other data that a thread writes would soon take their place.
     pub(crate) spacers: Spacers,
 }
 
@@ -57,9 +57,9 @@ impl<N: PlanTag, B: CellsTag> Cells<N, B> {
         &self.three
     }
 
-    /// Returns what the gauge of a stripe reads after its history so far. Takes no stripe's lock, and reads one cell once.
+    /// Reads the gauge of a stripe after its history so far. Takes no stripe's lock, and reads one cell once.
     ///
-    /// Refused with `OutOfRange` (14) if there is no such stripe. The session is then the same as before.
+    /// Refused with `OutOfRange` (14) if there is no such stripe. The session then does not change.
     pub fn gauge<R: Wait>(
         &self,
         rt: &R,

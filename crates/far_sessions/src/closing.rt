@@ -1,4 +1,4 @@
-// How four histories end.
+// Ends the sessions of four histories.
 ghost use Rattle.std.specs.Prelude.{◌≡◌, ◌↔◌, IsTrue};
 ghost use Rattle.far_sessions.specs.Closing.{Has, IsWhole, IsSettled};
 
@@ -9,7 +9,7 @@ use crate::stripe_cell::CellsTag;
 use far_history::PlanTag;
 use std::sync::Wait;
 
-// Returns whether a session of this number is there.
+// Returns whether one of the sessions has this number.
 fn has<B: CellsTag>(sessions: &[Session<B>], number: u64) -> bool
     ensures { IsTrue result ↔ Has number sessions.now }
 {
@@ -21,7 +21,7 @@ fn has<B: CellsTag>(sessions: &[Session<B>], number: u64) -> bool
     false
 }
 
-/// Returns whether the sessions below a number are all there.
+/// Returns whether every number below `count` is a session's.
 pub fn are_whole<B: CellsTag>(sessions: &[Session<B>], count: u64) -> bool
     ensures { IsTrue result ↔ IsWhole count sessions.now }
 {
@@ -33,8 +33,8 @@ pub fn are_whole<B: CellsTag>(sessions: &[Session<B>], count: u64) -> bool
     true
 }
 
-/// Ends these sessions. Each history is the same as before, and its entries of each of them are just the session's own. If
-/// `are_whole` held before, they are all the entries that a history has.
+/// Ends these sessions. No history changes, and each session's entries in it are just those that the session knows. If
+/// `are_whole` held before, a history has no other entries.
 pub fn settle<N: PlanTag, B: CellsTag, R: Wait>(
     rt: &R,
     cells: &Cells<N, B>,

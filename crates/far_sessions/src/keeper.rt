@@ -1,4 +1,4 @@
-// What lies beside a table, under its lock.
+// What is under a lock beside a table: the owner of the table's history.
 ghost use Rattle.std.specs.Prelude.{◌≡◌, ◌++◌, ◌∷◌, [], None};
 ghost use mathlib.Core.List.{IsPrefix};
 ghost use Rattle.far_types.specs.Edits.{edit_refusal};
@@ -18,7 +18,7 @@ use std::marker::{Model, PhantomData};
 use std::snapshot::Snapshot;
 use std::sync::Wait;
 
-/// Keeps the history of stripe I. It lies beside the table, under its lock. No list of edits is stored.
+/// Owns the history of stripe I. It is under the table's lock, beside the table, and stores no list of edits.
 ///
 /// Contracts see the history. It is legal, and each entry is of a session of the plan.
 #[derive(Drop)]
@@ -53,7 +53,7 @@ pub struct Keepers<N: PlanTag, B: CellsTag> {
 }
 
 impl<N: PlanTag, B: CellsTag, const I: usize> Keeper<N, B, I> {
-    /// Shows a session the history, and returns what the gauge reads after it.
+    /// Lets a session see the history so far, and returns the gauge's reading after it.
     pub fn look<R: Wait>(
         &mut self,
         rt: &R,
@@ -77,8 +77,8 @@ impl<N: PlanTag, B: CellsTag, const I: usize> Keeper<N, B, I> {
         reading_of(words)
     }
 
-    /// Adds an edit to the history, as this session, which has then seen all of it. `after` is what the gauge reads after the
-    /// longer history.
+    /// Adds an edit of this session to the history. The session has then seen all of it. `after` is the gauge's reading
+    /// after the edit.
     pub fn add<R: Wait>(
         &mut self,
         rt: &R,
@@ -108,7 +108,7 @@ impl<N: PlanTag, B: CellsTag, const I: usize> Keeper<N, B, I> {
         self.pass = Some(Kept::new(pass));
     }
 
-    /// Ends a session at this stripe. The history's entries of it are exactly its own.
+    /// Ends a session at this stripe. The session knows all its own entries in the history.
     pub fn end_session<R: Wait>(
         &mut self,
         rt: &R,
@@ -123,7 +123,7 @@ impl<N: PlanTag, B: CellsTag, const I: usize> Keeper<N, B, I> {
         self.look(rt, stripe_cell, &mut session);
     }
 
-    /// For the proof: the history is legal, and each entry is of a session of the plan.
+    /// For the proof: shows that the history is legal, and that each entry is of a session of the plan.
     #[inline(always)]
     pub fn known(&self)
         ensures legal { IsLegal N.plan self.now }

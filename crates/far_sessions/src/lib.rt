@@ -1,8 +1,8 @@
 #![tactic(auto)]
-//! Sessions of four histories that threads share: what each session knows of each history, and what keeps a history beside its
-//! table. Also the gauges that are read without a stripe's lock.
+//! The sessions of four histories that threads share: what each session knows of each history, what owns a history under
+//! the lock of its table, and gauges that are read without a lock.
 //!
-//! The crate knows no table. Whoever has a table under a lock puts the [`Keeper`] of its history beside it.
+//! The crate knows no table. Whoever puts a table under a lock puts the [`Keeper`] of its history beside it.
 
 pub mod cells;
 pub mod closing;

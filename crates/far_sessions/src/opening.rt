@@ -1,4 +1,4 @@
-// How four histories begin.
+// Makes four histories and their sessions.
 ghost use Rattle.std.specs.Prelude.{◌≡◌, ◌+◌, ◌*◌, [], length, IfOk, OnOk};
 ghost use Rattle.far_history.specs.Sessions.{newcomer};
 ghost use Rattle.far_sessions.specs.Known.{newcomers};
@@ -14,7 +14,7 @@ use far_kept::Kept;
 use std::alloc::{AllocError, Global};
 use std::marker::{Model, PhantomData};
 
-/// A new cell, with the pass that keeps its empty history. Contracts see which cell it is.
+/// A new cell, with the pass that owns its empty history. Contracts see the cell's identity.
 #[derive(Drop)]
 struct Fresh<N: PlanTag> {
     cell: HistoryCell<N>,
@@ -34,7 +34,7 @@ impl<N: PlanTag> Model for Fresh<N> {
     ghost invariant = { λ s. (s.pass.table_id ≡ s.cell.table.shared.table_id) × (cell_view s.pass ≡ keeper [] 0) };
 }
 
-/// Gives out the sessions of a stripe. Contracts see how many it gave.
+/// Creates the sessions of a stripe. Contracts see how many it has created.
 #[derive(Drop)]
 struct Giver<B: CellsTag, const I: usize> {
     pass: Pass,
@@ -53,14 +53,14 @@ impl<B: CellsTag, const I: usize> Model for Giver<B, I> {
     ghost invariant = { λ s. (s.pass.table_id ≡ B.cells I) × IsGiver (cell_view s.pass) };
 }
 
-// How many words a cell has: its four and a version.
+// The words of a cell: the four of its reading, and a version.
 const CELL_WORDS: usize = 5;
 
-// How many spacers lie before a cell. Four have 160 bytes, more than two cache lines.
+// The spacers before a cell. Four of them take 160 bytes, more than two cache lines.
 const SPACERS: u32 = 4;
 
-// Adds spacers. Each is a block of a cell's size. An allocator places blocks of one size next to each other. One large block
-// could lie elsewhere, and leave two cells adjacent.
+// Adds spacers, each a block of a cell's size: an allocator places blocks of one size next to each other. One large block
+// could be placed elsewhere, and leave two cells adjacent.
 fn add_spacers(alloc: Global, spacers: &mut Spacers) -> Result<(), AllocError>
     ensures { OnOk result (length spacers.new.items ≡ length spacers.old.items + SPACERS) }
 {
@@ -71,7 +71,7 @@ fn add_spacers(alloc: Global, spacers: &mut Spacers) -> Result<(), AllocError>
 }
 
 impl<N: PlanTag> Fresh<N> {
-    // Makes a cell, after spacers that separate it from the one before.
+    // Makes a cell, after spacers that separate it from the cell before.
     fn make(alloc: Global, spacers: &mut Spacers) -> Result<Fresh<N>, AllocError>
         ensures { OnOk result (length spacers.new.items ≡ length spacers.old.items + SPACERS) }
     {
@@ -80,7 +80,7 @@ impl<N: PlanTag> Fresh<N> {
         Ok(Fresh { cell, pass })
     }
 
-    // Returns the cell under its name, and what gives out its sessions.
+    // Returns the cell as stripe I's, and the giver of its sessions.
     fn named<B: CellsTag, const I: usize>(self) -> (StripeCell<N, B, I>, Giver<B, I>)
         requires { self ≡ B.cells I }
         ensures { result.1 ≡ 0 }
@@ -100,7 +100,7 @@ impl<N: PlanTag> Fresh<N> {
 }
 
 impl<B: CellsTag, const I: usize> Giver<B, I> {
-    // Returns the next session.
+    // Creates the next session.
     fn give<N: PlanTag>(&mut self, stripe_cell: &StripeCell<N, B, I>) -> SessionAt<B, I>
         ensures count { self.new ≡ self.old + 1 }
         ensures session { result ≡ newcomer self.old }
@@ -112,7 +112,7 @@ impl<B: CellsTag, const I: usize> Giver<B, I> {
         }
     }
 
-    // Keeps the history, once all sessions are given out.
+    // Becomes the owner of the history, once all sessions were created.
     fn into_keeper<N: PlanTag>(self) -> Keeper<N, B, I>
         requires { self ≡ N.plan.sessions }
         ensures { result ≡ [] }
@@ -125,7 +125,7 @@ impl<B: CellsTag, const I: usize> Giver<B, I> {
     }
 }
 
-/// Four new cells, of empty histories. Contracts see which cell each stripe has.
+/// Four new cells with empty histories. Contracts see each stripe's cell.
 #[derive(Drop)]
 pub struct NewCells<N: PlanTag> {
     zero: Fresh<N>,
@@ -135,19 +135,19 @@ pub struct NewCells<N: PlanTag> {
     spacers: Spacers,
 }
 
-/// What four histories begin with.
+/// The parts that four histories begin with.
 #[derive(Drop)]
 pub struct Opened<N: PlanTag, B: CellsTag> {
-    /// For each table a keeper, to lie beside it under its lock.
+    /// For each table a keeper, to be put beside it under its lock.
     pub keepers: Keepers<N, B>,
-    /// The cells, which lie outside the locks.
+    /// The cells, which are outside the locks.
     pub cells: Cells<N, B>,
-    /// The sessions, in the order of their numbers.
+    /// The sessions, by their numbers.
     pub sessions: Vec<Session<B>>,
 }
 
 impl<N: PlanTag> NewCells<N> {
-    /// Makes the four cells, each behind spacers that separate it from the one before. Refused if memory is out.
+    /// Makes the four cells, each after spacers that separate it from the cell before. Fails only if out of memory.
     pub fn make(alloc: Global) -> Result<NewCells<N>, AllocError>
         ensures spacers { IfOk result (λ cells. length cells.spacers.items ≡ 4 * SPACERS) }
     {
@@ -161,8 +161,7 @@ impl<N: PlanTag> NewCells<N> {
         })
     }
 
-    /// Returns the keepers of the four empty histories, the cells, and the sessions, of which there are `count`. Refused if
-    /// memory is out.
+    /// Returns the keepers of the four empty histories, the cells, and `count` sessions. Fails only if out of memory.
     pub fn open<B: CellsTag>(self, alloc: Global, count: u64) -> Result<Opened<N, B>, AllocError>
         requires names { (self.zero ≡ B.cells 0) × (self.one ≡ B.cells 1) × (self.two ≡ B.cells 2) × (self.three ≡ B.cells 3) }
         requires count { count ≡ N.plan.sessions }

@@ -1,4 +1,4 @@
-// What a session is.
+// The session of a thread.
 ghost use Rattle.std.specs.Prelude.{◌≡◌, ℕ};
 ghost use Rattle.far_history.specs.Histories.{gauge_of};
 ghost use Rattle.far_sessions.specs.Known.{at, SeesMore};
@@ -29,7 +29,7 @@ impl<B: CellsTag, const I: usize> Model for SessionAt<B, I> {
     ghost invariant = { λ s. (s.pass.table_id ≡ B.cells I) × IsSession (cell_view s.pass) };
 }
 
-/// A session, at each of the four stripes.
+/// A session, at all four stripes.
 #[derive(Drop)]
 pub struct Session<B: CellsTag> {
     pub(crate) number: u64,
@@ -64,7 +64,7 @@ impl<B: CellsTag> Session<B> {
 }
 
 impl<N: PlanTag, B: CellsTag, const I: usize> StripeCell<N, B, I> {
-    /// Returns what the gauge reads after the history so far. Takes no stripe's lock.
+    /// Reads the gauge after the history so far. Takes no stripe's lock.
     pub fn gauge<R: Wait>(&self, rt: &R, me: &mut SessionAt<B, I>) -> Reading
         ensures reading { result ≡ gauge_of N.plan me.new.seen }
         ensures seen { SeesMore N.plan me.old me.new }

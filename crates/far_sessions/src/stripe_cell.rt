@@ -4,7 +4,7 @@ ghost use Rattle.std.specs.Prelude.{◌≡◌};
 use far_history::{HistoryCell, PlanTag};
 use std::marker::{Brand, PhantomData};
 
-/// Names the four cells. It has no functions: a caller picks a type, as `Brand`.
+/// The tag of four cells, as a type. It has no functions: a caller picks a type, as `Brand`.
 pub trait CellsTag {
     ghost use Rattle.std.specs.Prelude.{ℕ};
     ghost use Rattle.atomic_table.specs.Seated.{TableId};

@@ -1,4 +1,4 @@
--- What was written of the replies to a script that a fault ends early.
+-- What was written when a fault ends a script early.
 use Rattle.std.specs.Prelude.{◌≡◌, ◌⊎◌, ◌≤◌, ℕ, Bool, IsTrue, List, [], ◌++◌, length, Option}
 use Rattle.std.specs.Io.KnownBytes.{Appends}
 use Rattle.far_store.specs.declared.store.FarTickets.{Ghosts as Tickets}
@@ -7,9 +7,9 @@ use Rattle.far_script.specs.declared.fault.ShellFault.TheVariants as fault
 use Rattle.far_scripts.specs.Breaks.{BreaksLater, HasNotBegun}
 use Rattle.far_shell.specs.Sessions.{AsksSessions, IsAnswered}
 
--- `unseen` says of the first bytes why no more came, and `spent` says of the rest that nothing comes after the first bytes
+-- in what follows, `unseen` says for the bytes that came why no more did, and `spent` says for the rest that it is empty
 module _ {S K : Type 0} (tickets : Tickets S K) (unseen spent : List ℕ → Type 0) where
-  -- the text is what is printed for these first bytes of a script, with the rest after them, up to a fault
+  -- the text is what is printed for these bytes of a script up to a fault. `rest` are the bytes after them
   abbrev pub IsBroken : ShellFault → List ℕ → List ℕ → List ℕ → Type 0
   IsBroken fault.BadStart bytes rest text = HasNotBegun (unseen bytes) (spent rest) fault.BadStart bytes rest text
   IsBroken fault.Input bytes rest text = HasNotBegun (unseen bytes) (spent rest) fault.Input bytes rest text ⊎ BreaksLater tickets (unseen bytes) (spent rest) fault.Input bytes rest text
@@ -17,12 +17,12 @@ module _ {S K : Type 0} (tickets : Tickets S K) (unseen spent : List ℕ → Typ
   IsBroken fault.Memory bytes rest text = HasNotBegun (unseen bytes) (spent rest) fault.Memory bytes rest text ⊎ BreaksLater tickets (unseen bytes) (spent rest) fault.Memory bytes rest text
   IsBroken fault.Turns bytes rest text = (text ≡ []) × ((sessions : ℕ) × (edits : ℕ) × AsksSessions bytes (rest ≡ []) sessions edits)
 
-  -- the same of a script that is split into these bytes and the rest. The first argument says how it is split at a fault
+  -- the same, for a script that is split into these bytes and the rest as `splits` says
   abbrev pub IsSplit : (ShellFault → List ℕ → List ℕ → Type 0) → ShellFault → List ℕ → List ℕ → List ℕ → Type 0
   IsSplit splits why bytes rest text = splits why bytes rest × IsBroken why bytes rest text
 
-  -- the same, with the bytes that the writer did not take. There are none, unless the fault is the writer's: then writers of its type may
-  -- fail, as the second argument says. The write failed behind all replies to a script, or behind those up to another fault
+  -- the same, with `lost`, the replies that the writer did not take. It is empty unless a write failed, which only writers
+  -- of a type that may fail do. The failed write comes after all replies to a script, or after those up to another fault
   abbrev pub EndsBy : (ShellFault → List ℕ → List ℕ → Type 0) → Bool → ShellFault → List ℕ → List ℕ → List ℕ → List ℕ → Type 0
   EndsBy splits may_fail fault.BadStart bytes rest text lost = IsSplit splits fault.BadStart bytes rest text × (lost ≡ [])
   EndsBy splits may_fail fault.Input bytes rest text lost = IsSplit splits fault.Input bytes rest text × (lost ≡ [])
@@ -31,7 +31,7 @@ module _ {S K : Type 0} (tickets : Tickets S K) (unseen spent : List ℕ → Typ
   EndsBy splits may_fail fault.Output bytes rest text lost =
       IsTrue may_fail × ((splits fault.Output bytes rest × IsAnswered tickets bytes (rest ≡ []) text) ⊎ ((why : ShellFault) × IsSplit splits why bytes rest text))
 
-  -- a script ends early: what was written is a prefix of the replies to its first bytes
+  -- a script ended early with this fault: what was written is a prefix of the replies to its first bytes
   pub record Breaks (splits : ShellFault → List ℕ → List ℕ → Type 0) (may_fail : Bool) (old new : Option (List ℕ)) (why : ShellFault) : Type 0 where
     pub bytes : List ℕ
     pub rest : List ℕ
@@ -42,7 +42,7 @@ module _ {S K : Type 0} (tickets : Tickets S K) (unseen spent : List ℕ → Typ
     pub said : text ≡ sent ++ lost
     pub ends : EndsBy splits may_fail why bytes rest text lost
 
--- why no more of a script came after these bytes: readers of this type may fail, or there are at least as many bytes as a script may have
--- reads
+-- why no more of a script came after these bytes: readers of this type may fail, or the bytes are at least as many as the
+-- reads that a script may have
 abbrev pub IsUnfinished : Type 0 → List ℕ → Type 0
 IsUnfinished may_fail bytes = may_fail ⊎ (1048576 ≤ length bytes)

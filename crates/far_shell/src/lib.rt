@@ -1,8 +1,8 @@
 #![tactic(auto)]
-//! Whole scripts. The first line opens a table or asks for sessions that share one. The script is then run up to its end.
+//! Whole scripts: the first line opens a table, or asks for sessions that share one; then the script runs to its end.
 //!
-//! `far_script` has the language as text, and `far_commands` its commands over a table. `far_scripts` has a script over a table, and
-//! `far_threads` what sessions on threads do.
+//! `far_script` has the language as text, `far_commands` its commands over a table, `far_scripts` scripts over a table, and
+//! `far_threads` the sessions on threads.
 
 pub mod laws;
 mod script;

@@ -1,4 +1,4 @@
-// Runs whole scripts: each line is read when the replies before it are written.
+// Runs whole scripts. A line is read only after the replies before it were written.
 ghost use Rattle.std.specs.Prelude.{◌≡◌, ℕ, List, [], ◌++◌, ◌≤◌, true, IfErr, IfSome, OnErr, OnOk};
 ghost use Rattle.std.specs.Io.KnownBytes.{Appends, Keeps};
 ghost use Rattle.far_script.specs.Flow.{Gives, IsFrontOf, IsOver, IsAtEnd, IsUnseen, Prints, Reads, has_failed};
@@ -13,10 +13,11 @@ use far_store::{AgentStore, FarStore, FarTickets};
 use std::sync::Wait;
 use std::thread::Threads;
 
-/// Runs a script by its first command. If that opens a table, the lines after it are answered. If it asks for sessions, they share a
-/// table, and nothing after the command is read. The store is a type parameter, so the proof unfolds no store.
+/// Reads the first command of a script and runs the script. If the command opens a table, answers the lines after it. If it
+/// asks for sessions, runs them over a shared table and reads no more lines. Generic over the store, so that the proof
+/// unfolds none.
 ///
-/// The faults are those of `run_script`.
+/// Ends with the faults of `run_script`.
 fn serve<
     S: FarStore,
     A: Resources<S>,
@@ -49,10 +50,10 @@ fn serve<
     }
 }
 
-/// Writes the replies that are left when a fault ends a script. If the fault is a failed write, nothing is written. Ends with `Output` if a
-/// write fails, or failed before.
+/// Writes the remaining replies when a fault ends a script. Writes nothing if the fault is a failed write. Ends with
+/// `Output` if a write fails, or failed before.
 ///
-/// For the proof: only the contract reads `fault`. The body knows from `output` whether a write failed.
+/// Only the contract reads `fault`: the body knows from `output` whether a write failed.
 fn flush_at<W: Sink>(
     fault: ShellFault,
     output: &mut Output<W>,
@@ -68,27 +69,26 @@ fn flush_at<W: Sink>(
     output.flush(writer)
 }
 
-/// Runs a script as `run_script` does, from an input that it borrows. Behind a first command that asks for sessions no line is read,
-/// though its bytes may have come with that command.
+/// Runs a script as `run_script` does, from an input that it borrows. After a first command for sessions no line is read,
+/// though bytes may have come together with that command.
 ///
-/// The faults are those of `run_script`. Afterwards no more reads are left than before. At the end of the script and at the fault `Input`,
-/// the bytes that came are subtracted from those that were left. That holds too for a reader whose bytes no contract knows, as standard
-/// input.
+/// Ends with the faults of `run_script`, which say what was read and written:
 ///
-/// At the fault `Memory` the replies to all lines that were taken are written. Only the last of them may have no reply, or if it asks for
-/// a dump a prefix of it. At the fault `Output` the same is so, but of these replies the writer took a prefix.
+/// - `Memory`: the replies to all lines that were taken are written. The last of these lines may lack its reply, or have
+///   only a prefix of it if it is `dump`.
+/// - `Output`: the writer took a prefix of those replies.
+/// - `Input`: all lines before the one that stops the script are answered. That line or its load is not valid UTF-8, or its
+///   load lacks bytes, or the line lacks its end and the end of the script was not found.
 ///
-/// At the fault `Input` all whole lines that came are answered. The next line or its load is not valid UTF-8, or it is incomplete:
-///
-/// - A line lacks its end. Then the end of the script was not seen.
-/// - A load lacks bytes. If the end of the script was seen, nothing is left after them.
-///
-/// The last line, which has no end, is not valid UTF-8 only if the end of the script was seen. If it was not seen, the reader was asked, or no
-/// reads are left. One of these holds too:
+/// The last line, which no line feed ends, counts as not valid UTF-8 only if the end of the script was found. If the end
+/// was not found, the reader was called, unless no read was allowed any more, and one of these holds:
 ///
 /// - readers of its type may fail;
-/// - no reads are left, and at least as many bytes came as there were reads;
-/// - no bytes are left, and the reader, if its bytes are known, has more bytes than were left.
+/// - no read is allowed any more, and at least as many bytes came as reads were allowed;
+/// - no byte is allowed any more, and the reader, if its bytes are known, has more than were allowed.
+///
+/// Afterwards at most as many reads are allowed as before. At the end of the script and at `Input`, the bytes that came are
+/// subtracted from those allowed. That holds even for a reader whose bytes no contract knows, as standard input.
 pub fn run_input<T: AllocGlobal + Sync + Threads + Wait, R: Source + Drop, W: Sink>(
     rt: &T,
     input: &mut Input<R>,
@@ -113,25 +113,25 @@ pub fn run_input<T: AllocGlobal + Sync + Threads + Wait, R: Source + Drop, W: Si
     }
 }
 
-/// Runs a script: reads its commands and writes the replies. Each reply is written before the reader is asked for more. The objects of
-/// its table go to a store in this process, which takes 1,048,576 contents. If the first command asks for sessions, it is the whole
-/// script (`run_threads`), and no line after it is read.
+/// Runs a script: reads its commands and writes the replies, each before the reader is called for more. The objects of its
+/// table go to a store in this process with space for 1,048,576 contents. If the first command asks for sessions, it is the
+/// whole script (`run_threads`), and no line after it is read.
 ///
-/// A script has at most 16,777,216 bytes, and is read in at most 1,048,576 reads. All lines before a fault are answered, and the replies
-/// are written unless the writer fails: `run_input` says which lines these are. Ends with:
+/// A script has at most 16,777,216 bytes, and takes at most 1,048,576 reads. If it ends early, all lines before the fault
+/// are answered, and the replies written unless the writer fails; `run_input` says exactly which. Ends with:
 ///
-/// - `Input`, if a read fails or one of these bounds is exceeded. Also if a line or the bytes of a load are not valid UTF-8, or the script ends
-///   inside a load;
+/// - `Input`, if a read fails or a bound is exceeded, if a line or a load is not valid UTF-8, or if the script ends inside
+///   a load;
 /// - `Output`, if a write fails;
 /// - `Memory`, if the shell itself runs out of memory;
 /// - `BadStart`, if the first command opens no table and asks for no sessions;
 /// - `Turns`, if sessions give up on an edit.
 ///
-/// Take a script with fewer than 1,048,576 bytes that are known, and a reader whose type never fails. It ends with `Input` only if a line
-/// or the bytes of a load are not valid UTF-8, or the script ends inside a load
+/// If a script has fewer than 1,048,576 known bytes and its reader is of a type that never fails, `Input` has only two
+/// causes. A line or a load is not valid UTF-8, or the script ends inside a load
 /// ([`a_short_script_at_hand_comes_whole`](crate::laws::a_short_script_at_hand_comes_whole)).
 ///
-/// It ends with `Output` only if writers of the type of its writer may fail
+/// A script ends with `Output` only if writers of the type of its writer may fail
 /// ([`a_sure_writer_is_never_at_fault`](crate::laws::a_sure_writer_is_never_at_fault)).
 ///
 /// The program does this:

@@ -1,4 +1,4 @@
-// Sessions on threads, and their printed outcome.
+// Runs sessions on threads and prints their outcome.
 ghost use Rattle.std.specs.Prelude.{◌≡◌, ◌⊎◌, ◌≤◌, ℕ, List, ◌++◌, IfErr, OnOk, OnErr};
 ghost use Rattle.std.specs.Io.KnownBytes.{Appends};
 ghost use Rattle.far_shell.specs.Sessions.{CutOutcome, IsOutcomeText, fault_of, gauges_text, session_line, outcome_text};
@@ -22,7 +22,7 @@ fn fault_of(stop: Stop) -> ShellFault
     }
 }
 
-/// Prints the gauge line of a session. Refused with `NoMemory` if memory runs out.
+/// Prints the gauge line of a session. Refused only with `NoMemory` (1).
 fn gauge_line(page: &mut Page, session: u64, reading: &Reading) -> Result<(), Refusal>
     ensures ok { OnOk result (page.new ≡ page.old ++ session_line session reading.now) }
     ensures memory { IfErr result (λ e. e ≡ Refusal.NoMemory) }
@@ -30,7 +30,7 @@ fn gauge_line(page: &mut Page, session: u64, reading: &Reading) -> Result<(), Re
     gauge(page, session, reading.edits, reading.count, reading.sum)
 }
 
-/// Prints the gauge lines of sessions 0, 1 and so on. Refused with `NoMemory` if memory runs out.
+/// Prints the gauge lines of sessions 0, 1 and so on. Refused only with `NoMemory` (1).
 fn gauges(page: &mut Page, readings: &[Reading]) -> Result<(), Refusal>
     ensures ok { OnOk result (page.new ≡ page.old ++ gauges_text 0 readings.now) }
     ensures memory { IfErr result (λ e. e ≡ Refusal.NoMemory) }
@@ -41,7 +41,7 @@ fn gauges(page: &mut Page, readings: &[Reading]) -> Result<(), Refusal>
     Ok(())
 }
 
-/// Prints the gauge lines of the sessions, and the answer over the rows of all of them. Refused with `NoMemory` if memory runs out.
+/// Prints the gauge lines of the sessions, and the answer over all rows. Refused only with `NoMemory` (1).
 fn outcome(page: &mut Page, outcome: &Outcome) -> Result<(), Refusal>
     ensures ok { OnOk result (page.new ≡ page.old ++ outcome_text outcome.now) }
     ensures memory { IfErr result (λ e. e ≡ Refusal.NoMemory) }
@@ -50,8 +50,8 @@ fn outcome(page: &mut Page, outcome: &Outcome) -> Result<(), Refusal>
     answer(page, &outcome.answer)
 }
 
-/// Lets sessions share a table, and prints their outcome, whole or not at all. Ends with `Memory` if a call runs out of memory, and with
-/// `Turns` if sessions give up on an edit. Nothing is printed then.
+/// Runs sessions over a shared table, and adds their outcome to the output. Ends with `Memory` if a call runs out of
+/// memory, and with `Turns` if sessions give up on an edit; then nothing is added.
 pub fn print_sessions<T: AllocGlobal + Sync + Threads + Wait, W: Sink>(
     rt: &T,
     sessions: u32,
@@ -75,15 +75,16 @@ pub fn print_sessions<T: AllocGlobal + Sync + Threads + Wait, W: Sink>(
     }
 }
 
-/// Runs the script line `threads SESSIONS EDITS`. The sessions share a table of one column of numbers, each on a thread of its own if one
-/// can be made. Each inserts EDITS rows of the number 1 on its home stripe. Meanwhile a worker in the background evicts objects. When all
-/// have ended, it writes the gauge of each session's home stripe and the answer over all stripes.
+/// Runs the script line `threads SESSIONS EDITS`. The sessions share a table of one column of numbers, each on a thread of
+/// its own if one can be made. Each inserts EDITS rows of the number 1 on its home stripe, while a background worker evicts
+/// objects. When all have ended, writes the gauge of each session's home stripe and the answer over all stripes.
 ///
 /// Ends with:
 ///
-/// - `Memory`, if a call runs out of memory; nothing is written then;
-/// - `Turns`, if an edit was tried 10,000 times, or was refused for a reason that a further try cannot change; nothing is written then;
-/// - `Output`, if a write fails; then writers of the type may fail.
+/// - `Memory`, if a call runs out of memory; nothing is written;
+/// - `Turns`, if an edit was tried 10,000 times, or was refused for a reason that a retry cannot change; nothing is
+///   written;
+/// - `Output`, if a write fails, which only writers of a type that may fail do.
 pub fn run_threads<T: AllocGlobal + Sync + Threads + Wait, W: Sink>(
     rt: &T,
     sessions: u32,

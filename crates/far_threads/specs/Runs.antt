@@ -1,4 +1,4 @@
--- What sessions on threads leave of a shared table.
+-- What sessions on threads leave in a shared table.
 use Rattle.std.specs.Prelude.{◌≡◌, ◌≢◌, ℕ, ◌*◌, ◌%◌, ◌<◌, zero, suc, pos, List, [], ◌∷◌, ◌++◌, None, replicate}
 use Rattle.far_types.specs.declared.answer.Answer.{Answer}
 use Rattle.far_types.specs.declared.answer.Answer.TheVariants as answer
@@ -18,7 +18,7 @@ use Rattle.far_history.specs.declared.view.Entry.{Entry}
 use Rattle.far_shared.specs.Fours.{all_rows}
 use Rattle.far_threads.specs.declared.outcome.Outcome.{Outcome}
 
--- the row that is inserted
+-- the row that each session inserts: the number 1
 abbrev pub row_of_one : List Cell
 row_of_one = cell.Int (pos 1) ∷ []
 
@@ -26,36 +26,36 @@ row_of_one = cell.Int (pos 1) ∷ []
 abbrev pub stripe_limits : Limits
 stripe_limits = usual_limits 4
 
--- the count of the rows, and the sum of their numbers
+-- the gauge: the count and the sum of the numbers
 abbrev pub sum_of_rows : Spec
 sum_of_rows = record { fold = fold.Totals; value = 0; key = None; filter = [] }
 
--- a table of one column of numbers, for this many sessions
+-- the plan of a table of one column of numbers, for this many sessions
 abbrev pub plan_for : ℕ → Planned
 plan_for n = record { schema = kind.Int ∷ []; limits = stripe_limits; gauge = sum_of_rows; sessions = n }
 
--- this many inserts of session s
+-- this many inserts by session s
 abbrev pub inserts : ℕ → ℕ → List Entry
 inserts s zero = []
 inserts s (suc n) = inserts s n ++ entry s (edit.Insert row_of_one) ∷ []
 
--- what a gauge reads after this many inserts of the number 1, and no other edit
+-- the reading of a gauge after this many inserts of the number 1
 abbrev pub all_of : ℕ → Reading
 all_of n = record { edits = n; count = n; sum = pos n }
 
--- the answer over this many rows of the number 1: one line, without a key
+-- the answer over this many rows of the number 1: one line without a key
 abbrev pub total_of : ℕ → Answer
 total_of n = answer.Totals ((None, n, pos n) ∷ [])
 
--- the history of stripe k when all sessions of a plan have ended: it is legal. Each session has `edits` inserts in it if the
--- stripe is its home, and otherwise no entry. No one else has an entry
+-- the history of stripe k when all sessions of a plan have ended. It is legal, and has `edits` inserts of each session
+-- whose home is stripe k, and no other entry
 pub record IsHistory (p : Planned) (edits k : ℕ) (log : List Entry) : Type 0 where
   pub legal : IsLegal p log
   pub home : (s : ℕ) → s < p.sessions → s % 4 ≡ k → by_session s log ≡ inserts s edits
   pub away : (s : ℕ) → s < p.sessions → s % 4 ≢ k → by_session s log ≡ []
   pub below : AllBelow p.sessions log
 
--- an answer of the gauge over all rows that such histories of the four stripes leave
+-- the answer of the gauge over all rows that are left after four such histories
 pub record IsOverAll (p : Planned) (edits : ℕ) (answer : Answer) : Type 0 where
   pub zeroth : List Entry
   pub first : List Entry
@@ -64,13 +64,13 @@ pub record IsOverAll (p : Planned) (edits : ℕ) (answer : Answer) : Type 0 wher
   pub histories : IsHistory p edits 0 zeroth × IsHistory p edits 1 first × IsHistory p edits 2 second × IsHistory p edits 3 third
   pub is : answer ≡ answer_over p.gauge (all_rows (replay p zeroth) (replay p first) (replay p second) (replay p third))
 
--- all sessions of a plan have ended, each with `edits` inserts on its home stripe. Its gauge there reads just these. The answer
--- is over the rows of all sessions and no other row: it counts and sums `edits` of each session
+-- all sessions of a plan have ended, each with `edits` inserts on its home stripe. The gauge there shows just these, and
+-- the answer counts and sums the rows of all sessions and no others
 pub record IsRun (p : Planned) (edits : ℕ) (o : Outcome) : Type 0 where
   pub gauges : o.gauges.items ≡ replicate p.sessions (all_of edits)
   pub answer : IsOverAll p edits o.answer
   pub total : o.answer ≡ total_of (p.sessions * edits)
 
--- this many sessions have ended, each with this many inserts
+-- the outcome of this many sessions with this many inserts each
 abbrev pub IsOutcome : ℕ → ℕ → Outcome → Type 0
 IsOutcome sessions edits = IsRun (plan_for sessions) edits

@@ -1,4 +1,4 @@
-// What a session does after a refused edit.
+// Prepares the next try of a refused edit.
 ghost use Rattle.std.specs.Prelude.{◌≡◌};
 
 use crate::outcome::Stop;
@@ -8,13 +8,13 @@ use far_store::{FarStore, Meter};
 use far_types::Refusal;
 use std::sync::Wait;
 
-/// Prepares another try of a refused edit of a stripe. If an object is away, it is fetched. If there is no space, an object is
-/// sent away. If that is refused for another reason than memory, the next try may still succeed.
+/// Prepares the next try of an edit that a stripe refused: fetches the object that is away, or evicts one if space is
+/// short. If this is refused in turn, for another reason than memory, the next try may still succeed.
 ///
 /// Ends with:
 ///
 /// - `Memory`, if a call runs out of memory;
-/// - `Turns`, if the edit was refused for a reason that no other try mends.
+/// - `Turns`, if the edit was refused for a reason that a retry cannot change.
 pub(crate) fn clear_way<N: PlanTag, B: TableTag, S: FarStore, R: Wait>(
     rt: &R,
     shared: &Shared<N, B, S>,

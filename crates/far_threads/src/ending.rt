@@ -1,4 +1,5 @@
-// How a run ends. Closing proves that each history contains exactly its sessions' inserts, so the counted rows are exactly those.
+// Ends a run. Closing proves that each history contains exactly its sessions' inserts, so the counted rows are exactly
+// those.
 ghost use Rattle.std.specs.Prelude.{◌≡◌, ◌↔◌, ℕ, ℤ, IfOk, IfNone, IfSome, IsOk, IsOkAnd, IsTrue};
 ghost use Rattle.far_types.specs.declared.answer.Answer.{Answer};
 ghost use Rattle.far_types.specs.Answers.{answer_over};
@@ -18,11 +19,11 @@ use far_types::Answer;
 use std::alloc::Global;
 use std::sync::Wait;
 
-/// Drops a value of any type. For the proof: dropping four tables costs the proof of a function minutes, and here it costs
-/// none.
+/// Drops a value. Generic for the proof: in a function over the tables' own type dropping four of them takes minutes to
+/// prove.
 fn let_go<T: Drop>(_value: T) {}
 
-/// Returns what a call returned that cannot be refused. It takes any type, for the same reason as `let_go`.
+/// Returns the value of a call that cannot be refused. Generic for the same reason as `let_go`.
 fn accepted<T, E: Drop>(given: Result<T, E>) -> T
     requires { IsOk given }
     ensures { IsOkAnd given (λ it. it ≡ result) }
@@ -33,7 +34,7 @@ fn accepted<T, E: Drop>(given: Result<T, E>) -> T
     }
 }
 
-/// Closes a table with all its sessions. So it cannot be refused for a missing one.
+/// Closes a table. The list must have all its sessions, so that closing cannot be refused.
 fn close_all<N: PlanTag, B: TableTag, S: FarTickets, R: Wait>(
     rt: &R,
     shared: Shared<N, B, S>,
@@ -48,8 +49,7 @@ fn close_all<N: PlanTag, B: TableTag, S: FarTickets, R: Wait>(
     accepted(close(rt, shared, sessions))
 }
 
-/// Returns the answer of aggregate 0 of four tables, their gauge, over all their rows. Drops the tables. Ends with `Memory`
-/// alone.
+/// Returns the answer of the gauge, aggregate 0, over the rows of four tables, and drops them. Ends only with `Memory`.
 fn answer_closed<S: FarTickets>(alloc: Global, frames: Four<Frame<S>>) -> Result<Answer, Stop>
     ensures { IfOk result (λ answer. IfSome (spec_at frames.zero.table 0) (λ spec. answer ≡ answer_over spec (all_rows frames.zero.table frames.one.table frames.two.table frames.three.table))) }
 {
@@ -68,7 +68,7 @@ fn answer_closed<S: FarTickets>(alloc: Global, frames: Four<Frame<S>>) -> Result
     }
 }
 
-/// Returns the count and the sum of an answer that has one line, without a key; `None` of any other.
+/// Returns the count and the sum of an answer that is one line without a key; `None` for any other answer.
 fn only_line(answer: &Answer) -> Option<(u64, i128)>
     ensures line { IfSome result (λ line. IsLineOf line.0 line.1 answer.now) }
     ensures none { IfNone result ((count : ℕ) → (sum : ℤ) → ¬ (IsLineOf count sum answer.now)) }
@@ -87,7 +87,7 @@ fn only_line(answer: &Answer) -> Option<(u64, i128)>
     Some((*count, *sum))
 }
 
-/// Returns whether two answers have one line, without a key, and it is the same.
+/// Returns whether two answers are the same single line without a key.
 fn have_same_line(one: &Answer, other: &Answer) -> bool
     ensures { IsTrue result ↔ ((count : ℕ) × (sum : ℤ) × IsLineOf count sum one.now × IsLineOf count sum other.now) }
 {
@@ -99,8 +99,8 @@ fn have_same_line(one: &Answer, other: &Answer) -> bool
     }
 }
 
-/// Closes a table, if its sessions left an outcome, and returns that outcome. Returns the answer of the shared table only if
-/// its closed stripes answer the same, since no clause of `ask_all` says whose rows it counts.
+/// Closes the table of sessions that all ended well, and returns their outcome. The shared table's answer is returned only
+/// if the closed stripes answer the same, since no clause of `ask_all` says whose rows it counts.
 ///
 /// Ends with:
 ///

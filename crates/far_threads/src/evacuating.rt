@@ -1,4 +1,4 @@
-// The worker in the background.
+// The background worker, which evicts objects.
 ghost use Rattle.std.specs.Prelude.{◌≡◌};
 
 use crate::outcome::Stop;
@@ -8,9 +8,9 @@ use far_store::{FarStore, Meter};
 use far_types::Refusal;
 use std::sync::Wait;
 
-/// Makes `tries` evacuations, one stripe after the other. It skips one that is refused.
+/// Tries to evict `tries` objects, from one stripe after the other. Skips a try that is refused.
 ///
-/// Ends with `Memory` if one runs out of memory.
+/// Ends with `Memory` if a call runs out of memory.
 pub(crate) fn evacuate_all<N: PlanTag, B: TableTag, S: FarStore, R: Wait>(
     rt: &R,
     shared: &Shared<N, B, S>,

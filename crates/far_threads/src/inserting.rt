@@ -1,4 +1,4 @@
-// The edits of a session.
+// Makes the edits of a session.
 ghost use Rattle.std.specs.Prelude.{◌≡◌, ℕ, ◌<◌, IfOk, OnOk};
 ghost use Rattle.far_threads.specs.Runs.{row_of_one};
 ghost use Rattle.far_threads.specs.Working.{Makes};
@@ -13,10 +13,10 @@ use far_types::{Cell, Edit, Row};
 use std::alloc::Global;
 use std::sync::Wait;
 
-/// How often one edit is tried.
+/// The most tries for one edit.
 const MOST_TRIES: u32 = 10_000;
 
-/// Returns the row that is inserted: the number 1.
+/// Returns the row that each session inserts: the number 1.
 fn row_of_one(alloc: Global) -> Result<Row, Stop>
     ensures { IfOk result (λ row. row ≡ row_of_one) }
 {
@@ -25,7 +25,7 @@ fn row_of_one(alloc: Global) -> Result<Row, Stop>
     Ok(Row::new(cells))
 }
 
-/// Inserts a row on a stripe, with as many tries as allowed. At the other stripes the session stays the same.
+/// Inserts a row on a stripe, with up to `MOST_TRIES` tries. Does nothing on other stripes.
 fn insert_one<N: PlanTag, B: TableTag, S: FarStore, R: Wait>(
     rt: &R,
     alloc: Global,
@@ -48,7 +48,7 @@ fn insert_one<N: PlanTag, B: TableTag, S: FarStore, R: Wait>(
     Err(Stop::Turns)
 }
 
-/// Inserts `edits` rows on a stripe, and none elsewhere.
+/// Inserts `edits` rows on a stripe. Does nothing on other stripes.
 pub(crate) fn insert_all<N: PlanTag, B: TableTag, S: FarStore, R: Wait>(
     rt: &R,
     alloc: Global,

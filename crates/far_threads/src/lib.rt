@@ -1,6 +1,7 @@
 #![tactic(auto)]
-//! Sessions on threads over one shared table: each inserts rows on its home stripe, while a worker in the background sends objects away.
-//! When all have ended, the gauges and the answer are read, and the table is closed. Its stripes confirm the answer.
+//! Sessions on threads over one shared table: each inserts rows on its home stripe, while a background worker evicts
+//! objects. When all have ended, the gauges and the answer are read, and the table is closed, whose stripes confirm the
+//! answer.
 
 mod clearing;
 mod ending;

@@ -1,4 +1,4 @@
-// How a run begins: one call each picks the names of its plan, of its cells and of its store.
+// Starts a run. Each of these functions picks one type parameter: the plan's, the store's or the cells'.
 ghost use Rattle.std.specs.Prelude.{◌≡◌, ◌≤◌, IfOk};
 ghost use Rattle.far_shared.specs.Opening.{HaveNames};
 ghost use Rattle.far_threads.specs.Runs.{IsOutcome, IsRun};
@@ -15,10 +15,10 @@ use std::marker::Brand;
 use std::sync::Wait;
 use std::thread::Threads;
 
-/// The most contents that the store of a run holds.
+/// How many contents the store of a run can hold.
 const STORE_CAPACITY: u64 = 1_048_576;
 
-/// Opens a table whose cells and store have these names, and runs its sessions.
+/// Opens a table, and runs its sessions.
 fn opened<
     N: PlanTag + Send + Sync,
     B: TableTag + Send + Sync,
@@ -36,7 +36,7 @@ fn opened<
     run_shared(rt, alloc, shared, store, sessions, edits)
 }
 
-/// Gives the cells of a table and its store their names, and runs the sessions.
+/// Makes the cells and the store's brand, and runs the sessions.
 fn named<N: PlanTag + Send + Sync, S: FarStore, R: Threads + Wait + Sync>(
     rt: &R,
     alloc: Global,
@@ -50,7 +50,7 @@ fn named<N: PlanTag + Send + Sync, S: FarStore, R: Threads + Wait + Sync>(
     opened::<N, Brand, S, R>(rt, alloc, made, store, edits)
 }
 
-/// Makes the table of a plan that has this name, and runs its sessions over a store.
+/// Makes the shared plan, and runs its sessions over a store.
 fn made_over<N: PlanTag + Send + Sync, S: FarStore, R: Threads + Wait + Sync>(
     rt: &R,
     alloc: Global,
@@ -68,7 +68,7 @@ fn made_over<N: PlanTag + Send + Sync, S: FarStore, R: Threads + Wait + Sync>(
     named(rt, alloc, made, store, edits)
 }
 
-/// Makes a store in this process, and runs the sessions of a plan that has this name.
+/// Makes a store in this process, and runs the sessions of a plan.
 fn planned<N: PlanTag + Send + Sync, R: Threads + Wait + Sync>(
     rt: &R,
     alloc: Global,
@@ -87,19 +87,19 @@ fn planned<N: PlanTag + Send + Sync, R: Threads + Wait + Sync>(
 
 /// Runs sessions on threads over one shared table:
 ///
-/// 1. Each session inserts `edits` rows of the number 1 on its home stripe. A worker in the background tries as many
-///    evacuations, one stripe after the other.
+/// 1. Each session inserts `edits` rows of the number 1 on its home stripe. A background worker tries to evict as many
+///    objects, from one stripe after the other.
 /// 2. When all have ended, the gauge of each session's home stripe is read, and the gauge is asked over all stripes.
 /// 3. The table is closed.
 ///
-/// Each gauge reads just the rows that its session inserted, and the answer counts the rows of all sessions.
+/// Each gauge shows just the rows that its session inserted, and the answer counts the rows of all sessions.
 ///
-/// A session whose edit meets an object that is away fetches it and tries again. If there is no space, it sends an object away
-/// and tries again. Ends with:
+/// A session whose edit is refused since an object is away fetches that object and tries again. If space is short, it
+/// evicts an object and tries again. Ends with:
 ///
 /// - `Memory`, if a call runs out of memory;
-/// - `Turns`, if an edit was tried 10,000 times or is refused for another reason, or if the closed stripes answer otherwise
-///   than before.
+/// - `Turns`, if an edit was tried 10,000 times or is refused for another reason, or if the closed stripes give another
+///   answer than before.
 pub fn run_sessions<R: Threads + Wait + Sync>(
     rt: &R,
     alloc: Global,

@@ -1,4 +1,4 @@
-// How a run of sessions ends.
+// The outcome of a run of sessions.
 ghost use Rattle.std.specs.Prelude.{◌≡◌};
 
 use far_history::Reading;
@@ -6,22 +6,22 @@ use far_types::Answer;
 use std::alloc::{AllocError, AllocFailed};
 use std::fmt;
 
-/// What a run of sessions leaves, as it is read when all sessions have ended.
+/// The readings and the answer after all sessions of a run have ended.
 #[derive(Drop, Debug)]
 pub struct Outcome {
     /// The gauge of each session's home stripe, in the order of the sessions.
     pub gauges: Vec<Reading>,
-    /// The answer of the gauge over all stripes: the count and the sum of the rows of all sessions.
+    /// The answer of the gauge over all stripes: count and sum of all sessions' rows.
     pub answer: Answer,
 }
 
-/// What ends a run of sessions early.
+/// Why a run of sessions ended early.
 #[derive(Clone, Copy, Debug, PartialEq, Eq)]
 pub enum Stop {
     /// A call ran out of memory.
     Memory,
-    /// An edit was tried 10,000 times, or was refused for what no other try mends. Or the closed stripes answer otherwise than
-    /// the shared table did: no run has met it, and no clause rules it out.
+    /// An edit was tried 10,000 times, or was refused for a reason that a retry cannot change; or the closed stripes answer
+    /// otherwise than the shared table did, which no run has met and no clause rules out.
     Turns,
 }
 

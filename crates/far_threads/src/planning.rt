@@ -1,4 +1,4 @@
-// What the table of a run is.
+// The plan of a run's table.
 ghost use Rattle.std.specs.Prelude.{◌≡◌, ◌<◌, ◌≤◌, IfOk};
 ghost use Rattle.far_threads.specs.Runs.{plan_for};
 
@@ -7,8 +7,8 @@ use far_shared::Plan;
 use far_types::{Kind, Limits, Refusal, Schema, Spec};
 use std::alloc::Global;
 
-/// Returns the plan of a table of one column of numbers, with row groups of 4 places and the totals of the column as its gauge. Ends with
-/// `Memory` alone.
+/// Returns the plan of a table of one column of numbers, with row groups of 4 places and the totals of the column as its
+/// gauge. Ends only with `Memory`.
 pub(crate) fn plan_for(alloc: Global, sessions: u32) -> Result<Plan, Stop>
     requires some { 1 ≤ sessions }
     requires few { sessions ≤ 4 }

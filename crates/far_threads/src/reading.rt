@@ -1,4 +1,4 @@
-// What is read when sessions have made their edits.
+// Reads the gauges and the answer after the edits.
 ghost use Rattle.std.specs.Prelude.{IfOk};
 ghost use Rattle.far_sessions.specs.Known.{newcomers};
 ghost use Rattle.far_threads.specs.Working.{AreGauged, AreLeft, AreWorked, IsRead};
@@ -12,7 +12,7 @@ use far_store::FarStore;
 use std::alloc::Global;
 use std::sync::Wait;
 
-/// Returns a session that has made its edits, and what the gauge of its home stripe reads. Ends as the session did.
+/// Reads the gauge of a session's home stripe. If the session was stopped, returns why.
 fn read_gauge<N: PlanTag, B: TableTag, R: Wait>(
     rt: &R,
     cells: &Cells<N, B>,
@@ -29,7 +29,7 @@ fn read_gauge<N: PlanTag, B: TableTag, R: Wait>(
     Ok((me, reading))
 }
 
-/// Returns the sessions and what the gauges of their home stripes read, both in order.
+/// Reads the gauges of the sessions' home stripes, in order. If a session was stopped, returns why.
 fn read_gauges<N: PlanTag, B: TableTag, R: Wait>(
     rt: &R,
     alloc: Global,
@@ -50,7 +50,7 @@ fn read_gauges<N: PlanTag, B: TableTag, R: Wait>(
     Ok((sessions, readings))
 }
 
-/// Returns the sessions that have made their edits, and what they leave.
+/// Reads all gauges and the answer over all stripes. If a session was stopped, returns why.
 pub(crate) fn read_all<N: PlanTag, B: TableTag, S: FarStore, R: Wait>(
     rt: &R,
     alloc: Global,

@@ -1,4 +1,4 @@
-// Sessions on threads, and a worker in the background.
+// Runs sessions on threads beside a background worker.
 ghost use Rattle.std.specs.Prelude.{◌≡◌, IfOk, OnOk};
 ghost use Rattle.far_sessions.specs.Known.{newcomers};
 ghost use Rattle.far_threads.specs.Runs.{IsRun};
@@ -18,7 +18,7 @@ use std::alloc::Global;
 use std::sync::Wait;
 use std::thread::{self, Threads};
 
-/// Makes the edits of a session on its home stripe.
+/// Makes the edits of one session on its home stripe.
 fn work<N: PlanTag, B: TableTag, S: FarStore, R: Wait>(
     rt: &R,
     alloc: Global,
@@ -38,7 +38,7 @@ fn work<N: PlanTag, B: TableTag, S: FarStore, R: Wait>(
     }
 }
 
-/// Makes the edits of all sessions, each in a thread of its own if one can be made.
+/// Makes the edits of all sessions, each on a thread of its own if one can be made.
 fn work_all<
     N: PlanTag + Send + Sync,
     B: TableTag + Send + Sync,
@@ -63,7 +63,7 @@ fn work_all<
     Ok(worked)
 }
 
-/// Returns the second result, unless the first ended early.
+/// Returns the second result, unless the first is an error.
 fn unless_stopped<T: Drop>(first: Result<(), Stop>, second: Result<T, Stop>) -> Result<T, Stop>
     ensures { OnOk result (result ≡ second) }
 {
@@ -71,7 +71,7 @@ fn unless_stopped<T: Drop>(first: Result<(), Stop>, second: Result<T, Stop>) -> 
     second
 }
 
-/// Lets sessions make their edits while a worker in the background sends objects away.
+/// Makes the edits of all sessions while a background worker evicts objects.
 fn work_beside<
     N: PlanTag + Send + Sync,
     B: TableTag + Send + Sync,
@@ -88,7 +88,7 @@ fn work_beside<
     requires store { S.store_id store.now ≡ B.store }
     ensures worked { IfOk result (λ worked. AreWorked edits sessions.items worked.items) }
 {
-    // Only the first closure goes to another thread, and it holds nothing but references.
+    // Only the first closure goes to another thread, and it holds only references.
     let (evacuated, worked) = thread::join(
         rt,
         || -> Result<(), Stop>
@@ -102,8 +102,8 @@ fn work_beside<
     unless_stopped(evacuated, worked)
 }
 
-/// Lets sessions make their edits while a worker in the background sends objects away. Returns the sessions, and what they
-/// leave when all have ended.
+/// Makes the edits of all sessions while a background worker evicts objects, and then reads the gauges and the answer.
+/// Returns the sessions and their outcome.
 fn leave<
     N: PlanTag + Send + Sync,
     B: TableTag + Send + Sync,
@@ -125,7 +125,7 @@ fn leave<
     read_all(rt, alloc, shared, worked, edits)
 }
 
-/// Lets sessions make their edits on a table, reads what they leave, and closes the table.
+/// Runs sessions on a table, reads the outcome, and closes the table.
 pub(crate) fn run_shared<
     N: PlanTag + Send + Sync,
     B: TableTag + Send + Sync,

@@ -1,4 +1,4 @@
-// Sessions that have made their edits, and where they make them.
+// A session after its edits, and its home stripe.
 ghost use Rattle.std.specs.Prelude.{◌≡◌, ◌%◌};
 ghost use Rattle.far_sessions.specs.Known.{session_number};
 
@@ -7,7 +7,7 @@ use far_sessions::Session;
 use far_shared::TableTag;
 use std::marker::Model;
 
-/// A session that has made its edits, or was stopped.
+/// A session that has made its edits or was stopped.
 #[derive(Drop)]
 pub(crate) struct Worked<B: TableTag> {
     pub(crate) session: Session<B>,

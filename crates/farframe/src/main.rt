@@ -1,11 +1,12 @@
 #![tactic(auto)]
-//! Runs a script: reads it from standard input, and writes its replies to standard output.
+//! Runs a script from standard input, and writes its replies to standard output.
 //!
 //! The exit status is:
 //!
-//! - 0 at the end of the script, also if commands were refused;
+//! - 0 at the end of the script, even if commands were refused;
 //! - 2 if the first command opens no table and asks for no sessions;
-//! - 3 if a read or a write fails, a line or a load is not valid UTF-8, or the script ends inside a load, is too long or needs too many reads;
+//! - 3 if a read or a write fails, a line or a load is not valid UTF-8, or the script ends inside a load, is too long or
+//!   needs too many reads;
 //! - 4 if memory runs out;
 //! - 5 if sessions give up on an edit.
 

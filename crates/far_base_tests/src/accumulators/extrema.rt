@@ -5,7 +5,7 @@ use far_extrema::{GroupExtrema, MinMax};
 use far_types::Refusal;
 use std::alloc::Global;
 
-/// Observes a row, by a second call if the first runs out of memory.
+/// Observes a row, again if the first call runs out of memory.
 fn observe(alloc: Global, group: &mut GroupExtrema, name: Name, value: i64) -> Result<(), Refusal> {
     let key = key_of(alloc, name)?;
     match group.observe_under(&key, value) {
@@ -26,7 +26,8 @@ static ROWS: [Row; 2] = [(Name::Word("a"), 3), (Name::Word("a"), -3)];
 
 static LINES: Lines<'static> = Lines::Extrema(&[(Name::Nobody, -6, 5), (Name::Word("a"), -3, 3)]);
 
-/// Returns whether rows under a text, one under no key, and rows there from -6 to 3 that the caller folded, have the extrema of all.
+/// Returns whether three kinds of rows have the extrema of all: rows under a text, a row without key, and rows without key
+/// that the caller folded.
 fn observes_all(alloc: Global, group: &mut GroupExtrema) -> Result<bool, Refusal> {
     observe_all(alloc, group, &ROWS)?;
     group.see(None, 5)?;

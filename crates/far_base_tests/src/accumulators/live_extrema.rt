@@ -9,7 +9,7 @@ use far_extrema::{GroupExtrema, LiveExtrema, MinMax, RowsLeft};
 use far_types::{Answer, Key, Refusal};
 use std::alloc::Global;
 
-/// Returns the answer, by a second call if the first runs out of memory.
+/// Returns the answer, from a second call if the first runs out of memory.
 fn answer(alloc: Global, live: &LiveExtrema) -> Result<Answer, Refusal> {
     match live.answer(alloc) {
         Err(Refusal::NoMemory) => live.answer(alloc),
@@ -17,7 +17,7 @@ fn answer(alloc: Global, live: &LiveExtrema) -> Result<Answer, Refusal> {
     }
 }
 
-/// Asks extrema while a row group is pending: refused with `Building`.
+/// Asks while a row group is pending, which is refused with `Building`.
 fn while_pending(alloc: Global) -> Result<bool, Refusal> {
     Lines::Extrema(&[]).are_of(LiveExtrema::new(alloc, 1).answer(alloc))
 }
@@ -27,7 +27,7 @@ fn extrema_are_refused_while_a_row_group_is_pending(rt: HostRuntime) {
     must_be(&rt, while_pending(rt.alloc()), Err(Refusal::Building(1)));
 }
 
-/// Reserves a row group and its keys, by a second call if the first runs out of memory.
+/// Reserves for a row group and its keys, again if the first call runs out of memory.
 fn reserve_for(live: &mut LiveExtrema, group: u32, extrema: &GroupExtrema) -> Result<(), Refusal>
     ensures left { live.new.left ≡ live.old.left }
     ensures groups { OnOk result (live.new.groups ≡ after_reserve group live.old.groups) }
@@ -55,7 +55,7 @@ fn make_ready(
     reserve_for(live, number, group)
 }
 
-/// Merges the first row group, which has these rows.
+/// Merges these rows as the first row group.
 fn merge_rows(alloc: Global, live: &mut LiveExtrema, rows: &[Row]) -> Result<(), Refusal>
     requires left { live.old.left ≢ 0 }
     requires empty { live.old.groups ≡ [] }
@@ -87,9 +87,9 @@ fn set_rows(
 /// A case: the rows of two row groups, and the lines of the answer over both.
 struct Groups {
     name: &'static str,
-    /// The rows of row group 0, which is merged.
+    /// The rows of row group 0, which are merged.
     merged: &'static [Row],
-    /// The number and the rows of the row group that is set after that.
+    /// The number and the rows of the row group that is set afterwards.
     set: (u32, &'static [Row]),
     lines: &'static [(Name, i64, i64)],
 }
@@ -139,7 +139,7 @@ fn row_groups_have_the_lines_of_all_their_rows(rt: HostRuntime) {
     all_are_right(&rt, rt.alloc(), &GROUPS);
 }
 
-/// Rows that are left, by their least and their greatest value.
+/// The remaining rows, by their least and greatest value.
 #[derive(Drop)]
 struct Left(Option<MinMax>);
 
@@ -153,7 +153,7 @@ impl RowsLeft for Left {
     }
 }
 
-/// Returns whether a min-max follows two rows, of which the second is retracted.
+/// Returns whether the min-max follows two rows, of which the second is retracted.
 fn follows_rows(live: &mut LiveExtrema, key: &Option<Key>) -> Result<bool, Refusal> {
     live.make_room(1);
     live.observe_under(1, key, 4)?;
@@ -175,8 +175,8 @@ fn a_min_max_follows_rows(rt: HostRuntime) {
     must_be(&rt, follows_rows_under_a_text(rt.alloc()), Ok(true));
 }
 
-/// Returns whether a row under a key that the row group has allocates nothing, and each call returns the min-max before it. Only the first
-/// row may run out of memory.
+/// Returns whether a second row under the same key allocates nothing, and each call returns the min-max before it. Only the
+/// first row may run out of memory.
 fn knows_a_key(live: &mut LiveExtrema, key: &Option<Key>) -> Result<bool, Refusal> {
     live.make_room(1);
     let first = live.observe_under(1, key, 4)?;

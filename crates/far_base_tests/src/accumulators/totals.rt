@@ -11,7 +11,7 @@ use far_groups::{CountSum, LiveTotals};
 use far_types::{Answer, Key, Refusal};
 use std::alloc::Global;
 
-/// Adds these rows, which are not more than 300.
+/// Adds these rows, at most 300.
 fn add_all(alloc: Global, live: &mut LiveTotals, rows: &[Row]) -> Result<(), Refusal>
     requires { live.old.totals ≡ fin.empty }
     ensures left { live.new.left ≡ live.old.left }
@@ -26,7 +26,7 @@ fn add_all(alloc: Global, live: &mut LiveTotals, rows: &[Row]) -> Result<(), Ref
     Ok(())
 }
 
-/// Returns the answer, by a second call if the first runs out of memory.
+/// Returns the answer, from a second call if the first runs out of memory.
 fn answer(alloc: Global, live: &LiveTotals) -> Result<Answer, Refusal> {
     match live.answer(alloc) {
         Err(Refusal::NoMemory) => live.answer(alloc),
@@ -34,7 +34,7 @@ fn answer(alloc: Global, live: &LiveTotals) -> Result<Answer, Refusal> {
     }
 }
 
-/// Merges, by a second call if the first runs out of memory.
+/// Merges a partial aggregate, again if the first call runs out of memory.
 fn merge(live: &mut LiveTotals, partial: &LiveTotals) -> Result<(), Refusal>
     requires left { live.old.left ≢ 0 }
     requires can_join { CanJoin live.old.totals partial.now.totals }
@@ -45,7 +45,7 @@ fn merge(live: &mut LiveTotals, partial: &LiveTotals) -> Result<(), Refusal>
     }
 }
 
-/// Adds rows to live and to partial totals, and merges the partial ones into the live ones.
+/// Adds rows to live totals and to partial ones, and merges the partial into the live ones.
 fn merge_rows(
     alloc: Global,
     live: &mut LiveTotals,
@@ -62,7 +62,7 @@ fn merge_rows(
     merge(live, partial)
 }
 
-/// Asks totals while a row group is pending: refused with `Building`.
+/// Asks while a row group is pending, which is refused with `Building`.
 fn while_pending(alloc: Global) -> Result<bool, Refusal> {
     Lines::Totals(&[]).are_of(LiveTotals::new(alloc, 1).answer(alloc))
 }
@@ -72,18 +72,18 @@ fn totals_are_refused_while_a_row_group_is_pending(rt: HostRuntime) {
     must_be(&rt, while_pending(rt.alloc()), Err(Refusal::Building(1)));
 }
 
-/// Rows that are added while one row group is pending, the rows of that one, and the lines of the answer over all.
+/// A case: rows that are added while one row group is pending, the rows of that one, and the lines of the answer over all.
 struct Merged {
     name: &'static str,
     here: &'static [Row],
     there: &'static [Row],
     lines: &'static [(Name, u64, i128)],
-    /// The count and the sum under no key.
+    /// The count and the sum without key.
     plain: (u64, i128),
 }
 
 impl Merged {
-    /// Returns whether the answer has the lines once the row group is merged.
+    /// Returns whether the answer has the lines after the row group is merged.
     fn is_answered_by(
         &self,
         alloc: Global,
@@ -149,7 +149,7 @@ static TWO_ROWS: [Row; 2] = [(Name::Nobody, 3), (Name::Nobody, 4)];
 
 static ONE_LEFT: Lines<'static> = Lines::Totals(&[(Name::Nobody, 1, 4)]);
 
-/// Returns whether two rows without a key, 3 and 4, leave the 4 once the 3 is retracted.
+/// Returns whether the rows 3 and 4 without key become just 4 when 3 is retracted.
 fn is_one_once_the_other_is_retracted(alloc: Global, live: &mut LiveTotals) -> Result<bool, Refusal>
     requires { live.old.totals ≡ fin.empty }
 {
@@ -175,7 +175,7 @@ static ONE_ROW: [Row; 1] = [(Name::Nobody, 5)];
 
 static TWO_LINES: Lines<'static> = Lines::Totals(&[(Name::Nobody, 1, 5), (Name::Word("a"), 1, 3)]);
 
-/// Adds a row, by a second call if the first runs out of memory.
+/// Adds a row, again if the first call runs out of memory.
 fn add_again(live: &mut LiveTotals, key: &Option<Key>) -> Result<(), Refusal>
     requires { count_in (fin.get live.old.totals key.now) < 2 ^ 26 }
 {
@@ -185,7 +185,7 @@ fn add_again(live: &mut LiveTotals, key: &Option<Key>) -> Result<(), Refusal>
     }
 }
 
-/// Returns whether a row under `a` gets a line of its own after the one row.
+/// Returns whether a row under `a` gets its own line beside the first row's.
 fn has_both_lines(alloc: Global, live: &mut LiveTotals, key: &Option<Key>) -> Result<bool, Refusal>
     requires { live.old.totals ≡ fin.empty }
 {
@@ -204,7 +204,7 @@ fn a_row_is_added_to_another(rt: HostRuntime) {
     must_be(&rt, has_both_lines_in_the_end(rt.alloc()), Ok(true));
 }
 
-/// Returns the count and the sum of a row, and of three that the caller folded.
+/// Returns the count and the sum of one row and of three that the caller folded.
 fn folded(alloc: Global, live: &mut LiveTotals) -> Result<(u64, i128), Refusal>
     requires { live.old.totals ≡ fin.empty }
 {

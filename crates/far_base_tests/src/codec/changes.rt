@@ -1,4 +1,4 @@
-// Forms made from forms in which one text changes, or comes after the others.
+// Forms in which a text is replaced or appended.
 ghost use Rattle.far_codec.specs.TextForm.{IsTextsForm};
 
 use crate::cases::{Case, is_list};
@@ -8,7 +8,7 @@ use far_codec::{Elem, count_texts, form_with, form_with_next, length_with, lengt
 use far_types::{Refusal, Text};
 use std::alloc::Global;
 
-/// Returns the text of a word, or one that is missing.
+/// Returns the text of a word, or a missing one.
 fn text(alloc: Global, word: Option<&str>) -> Result<Option<Text>, Refusal> {
     match word {
         Some(word) => Ok(Some(Text::new(String::from_str(alloc, word)?))),
@@ -16,7 +16,7 @@ fn text(alloc: Global, word: Option<&str>) -> Result<Option<Text>, Refusal> {
     }
 }
 
-/// Returns the form with this text in place of text `i`, or after the others if there is no text `i`. No bytes if that is too long.
+/// Returns the form with this text in place of text `i`, or appended if there is no text `i`; no bytes if that is too long.
 fn changed_texts(
     alloc: Global,
     form: &[u8],
@@ -35,7 +35,7 @@ fn changed_texts(
     Ok(Vec::new(alloc))
 }
 
-/// Returns the same for bytes that may be no form. No bytes if they are none.
+/// Returns the same for any bytes; no bytes if they are no form.
 fn changed(alloc: Global, bytes: &[u8], i: usize, word: Option<&str>) -> Result<Vec<u8>, Refusal> {
     let text = text(alloc, word)?;
     match <u8 as Elem>::unspell(alloc, bytes)? {
@@ -44,10 +44,10 @@ fn changed(alloc: Global, bytes: &[u8], i: usize, word: Option<&str>) -> Result<
     }
 }
 
-/// A form, the changes that are made to it, and the form that it is then.
+/// A form, changes to it, and the resulting form.
 struct Changes {
     from: &'static [u8],
-    /// The changes: this text in place of text `i`, or after the others if there is no text `i`.
+    /// The changes: this text in place of text `i`, or appended if there is no text `i`.
     changes: &'static [(usize, Option<&'static str>)],
     to: &'static [u8],
 }
@@ -65,7 +65,7 @@ impl Case for Changes {
     }
 }
 
-/// Begins without a text. The form has a mask while a text is missing.
+/// Starts from no texts. The form has a mask while a text is missing.
 static CHANGES: [Changes; 1] = [Changes {
     from: &[1, 1, 0, 0, 0, 0],
     changes: &[

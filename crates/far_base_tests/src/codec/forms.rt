@@ -20,7 +20,7 @@ pub const E_ACUTE: &[u8] = &[1, 1, 1, 0, 0, 0, 2, 0, 0, 0, 195, 169];
 
 pub const MISSING_AND_A: &[u8] = &[2, 1, 2, 0, 0, 0, 1, 0, 0, 0, 0, 1, 0, 0, 0, 97];
 
-/// Returns whether the values that are read from the bytes are of a kind, and are written as these bytes again.
+/// Returns whether the bytes are read as values of a kind, and written as the same bytes.
 pub fn are_rewritten(alloc: Global, bytes: &[u8], kind: Kind) -> Result<bool, Refusal> {
     let (read, form) = match decode(alloc, bytes)? {
         Some(Values::Ints(list)) => (Kind::Int, encode_ints(alloc, list.as_slice())),
@@ -30,7 +30,7 @@ pub fn are_rewritten(alloc: Global, bytes: &[u8], kind: Kind) -> Result<bool, Re
     all(&[Ok(read == kind), is_list(form, bytes)])
 }
 
-/// Returns whether these elements are read from the bytes, and are written as these bytes again.
+/// Returns whether the bytes are read as these elements, and written as the same bytes.
 pub fn are_elements<T: Elem + PartialEq>(
     alloc: Global,
     bytes: &[u8],
@@ -46,7 +46,7 @@ pub fn are_elements<T: Elem + PartialEq>(
     ])
 }
 
-/// Returns whether the bytes spell no list of elements of an object.
+/// Returns whether the bytes are read as no list of elements.
 pub fn spells_none<T: Elem>(alloc: Global, bytes: &[u8]) -> Result<bool, Refusal> {
     is_nothing(T::unspell(alloc, bytes))
 }

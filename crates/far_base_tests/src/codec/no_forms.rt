@@ -1,4 +1,4 @@
-// Bytes that are no form.
+// Bytes that are not a form.
 use crate::cases::{Case, all, is_nothing, must_be};
 use crate::codec::case::all_hold;
 use crate::codec::forms::{THREE_TEXTS, spells_none};
@@ -6,7 +6,7 @@ use far_codec::{decode, kind_of, text_at};
 use far_types::Refusal;
 use std::alloc::Global;
 
-/// Returns whether no call reads the bytes.
+/// Returns whether every call refuses to read the bytes.
 pub fn is_no_form(alloc: Global, bytes: &[u8]) -> Result<bool, Refusal> {
     all(&[
         is_nothing(decode(alloc, bytes)),
@@ -17,7 +17,7 @@ pub fn is_no_form(alloc: Global, bytes: &[u8]) -> Result<bool, Refusal> {
     ])
 }
 
-/// Bytes that are no form, and why.
+/// Bytes that are not a form, and why.
 struct NoForm {
     flaw: &'static str,
     bytes: &'static [u8],
@@ -81,7 +81,7 @@ fn other_bytes_are_no_form(rt: HostRuntime) {
     all_hold(&rt, rt.alloc(), &NO_FORMS);
 }
 
-/// Returns whether no part of a form from its beginning on is a form.
+/// Returns whether no proper prefix of a form is a form.
 fn is_whole_alone(alloc: Global) -> Result<bool, Refusal> {
     for length in 0..21 {
         let (prefix, _) = THREE_TEXTS.split_at(length);

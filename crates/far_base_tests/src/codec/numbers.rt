@@ -8,7 +8,7 @@ use far_codec::{Elem, Values, decode, ints_length, kind_of};
 use far_types::{Kind, Refusal};
 use std::alloc::Global;
 
-/// Returns whether the values that are read from the bytes are these numbers.
+/// Returns whether the bytes are read as these numbers.
 fn are_values(alloc: Global, bytes: &[u8], numbers: &[Option<i64>]) -> Result<bool, Refusal> {
     let Some(Values::Ints(list)) = decode(alloc, bytes)? else {
         return Ok(false);
@@ -16,7 +16,7 @@ fn are_values(alloc: Global, bytes: &[u8], numbers: &[Option<i64>]) -> Result<bo
     Ok(list.as_slice() == numbers && ints_length(list.as_slice()) == bytes.len())
 }
 
-/// Returns whether every call that reads and writes numbers agrees that the bytes are their form.
+/// Returns whether every call that reads or writes numbers agrees that the bytes are their form.
 fn are_numbers(alloc: Global, bytes: &[u8], numbers: &[Option<i64>]) -> Result<bool, Refusal> {
     all(&[
         Ok(kind_of(bytes) == Some(Kind::Int)),
@@ -30,7 +30,7 @@ fn are_numbers(alloc: Global, bytes: &[u8], numbers: &[Option<i64>]) -> Result<b
 struct Numbers {
     form: &'static [u8],
     numbers: &'static [Option<i64>],
-    /// The same, if none is missing.
+    /// The numbers, if none is missing.
     plain: Option<&'static [i64]>,
 }
 

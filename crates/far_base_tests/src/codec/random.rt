@@ -9,7 +9,7 @@ use far_random::Draws;
 use far_types::Refusal;
 use std::alloc::Global;
 
-/// Returns whether what is read from the bytes is written as them, and all calls agree whether they are a form.
+/// Returns whether bytes that are read are written as the same bytes, and all calls agree whether they are a form.
 fn is_read_alike(alloc: Global, bytes: &[u8]) -> Result<bool, Refusal> {
     match kind_of(bytes) {
         Some(kind) => are_rewritten(alloc, bytes, kind),
@@ -17,7 +17,8 @@ fn is_read_alike(alloc: Global, bytes: &[u8]) -> Result<bool, Refusal> {
     }
 }
 
-/// Returns whether all calls agree on a form with one of its bytes changed, cut off there, and then with one byte more.
+/// Returns whether all calls agree on a form with one of its bytes changed, then cut off there, and then with one byte
+/// more.
 fn is_changed_at_random(alloc: Global, form: &[u8], draws: &mut Draws) -> Result<bool, Refusal> {
     let mut bytes = Vec::from_slice(alloc, form)?;
     let at = draws.index_or_end(bytes.len());
@@ -39,7 +40,7 @@ static FORMS: [&[u8]; 5] = [
     MISSING_AND_A,
 ];
 
-/// Returns whether all calls agree on each form, whichever byte is changed, a hundred times.
+/// Returns whether all calls agree on each form, with a random byte changed, a hundred times.
 fn are_changed_at_random(alloc: Global) -> Result<bool, Refusal> {
     let mut draws = Draws::new(1);
     for i in 0..500 {

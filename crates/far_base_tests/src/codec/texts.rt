@@ -8,7 +8,7 @@ use far_codec::{Elem, Values, count_texts, decode, kind_of, text_at, text_of, te
 use far_types::{Kind, Refusal};
 use std::alloc::Global;
 
-/// Returns whether the texts are lent from bytes that are known to be a form.
+/// Returns whether the texts are lent from bytes known to be a form.
 fn are_lent(form: &[u8], texts: &[Option<&str>]) -> bool
     requires { IsTextsForm form.now }
 {
@@ -20,7 +20,7 @@ fn are_lent(form: &[u8], texts: &[Option<&str>]) -> bool
     count_texts(form) == texts.len() && text_at(form, texts.len()).is_none()
 }
 
-/// Returns whether the texts, and none after them, are found in the bytes.
+/// Returns whether these texts, and no more, are found in the bytes.
 fn are_found(alloc: Global, bytes: &[u8], texts: &[Option<&str>]) -> Result<bool, Refusal> {
     match <u8 as Elem>::unspell(alloc, bytes)? {
         Some(form) => Ok(are_lent(form.as_slice(), texts)),
@@ -28,7 +28,7 @@ fn are_found(alloc: Global, bytes: &[u8], texts: &[Option<&str>]) -> Result<bool
     }
 }
 
-/// Returns whether the values that are read from the bytes are texts whose form is as long.
+/// Returns whether the bytes are read as texts whose form has the same length.
 fn are_values(alloc: Global, bytes: &[u8]) -> Result<bool, Refusal> {
     let Some(Values::Texts(list)) = decode(alloc, bytes)? else {
         return Ok(false);
@@ -43,7 +43,7 @@ struct Texts {
 }
 
 impl Case for Texts {
-    /// Returns whether every call that reads and writes texts agrees that the bytes are their form.
+    /// Returns whether every call that reads or writes texts agrees that the bytes are their form.
     fn is_right(&self, alloc: Global) -> Result<bool, Refusal> {
         all(&[
             Ok(kind_of(self.form) == Some(Kind::Text)),

@@ -1,4 +1,4 @@
-// Parts that are placed, found, written, dropped and moved.
+// Scripts in which parts are placed, found, written, dropped and moved.
 use crate::log::script::Case;
 use crate::log::script::Line::{Compact, Drop, Fits, Has, IsFull, Place, WriteFirst};
 use far_types::Refusal;

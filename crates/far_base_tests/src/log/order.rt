@@ -1,4 +1,4 @@
-// Checks that offsets are those of a segment's parts.
+// Checks that a list of offsets is that of a segment's parts.
 ghost use Rattle.std.specs.Prelude.{◌≢◌, ◌<◌, ℕ, AllPairs, All, IsSome, IsTrue, Contains};
 ghost use Rattle.far_log.specs.RegionState.{segment_of, list_at};
 ghost use Rattle.far_log.specs.Effects.{IsOrder};
@@ -7,7 +7,7 @@ use far_codec::Elem;
 use far_log::Region;
 use far_pointer::At;
 
-/// Returns whether no number stands twice in a list.
+/// Returns whether no number occurs twice in a list.
 fn are_distinct(order: &[u32]) -> bool
     ensures { IsTrue result → AllPairs (λ offset other. offset ≢ other) order.now }
 {
@@ -34,7 +34,7 @@ fn are_parts<T: Elem>(region: &Region<T>, segment: u16, order: &[u32]) -> bool
     true
 }
 
-/// Returns whether each part that begins below `end` is listed.
+/// Returns whether the list has each part that begins below `end`.
 fn are_all<T: Elem>(region: &Region<T>, segment: u16, end: u32, order: &[u32]) -> bool
     ensures { IsTrue result → (offset : ℕ) → offset < end → IsSome (list_at (segment_of region.now segment).parts offset) → Contains order.now offset }
 {
@@ -46,7 +46,7 @@ fn are_all<T: Elem>(region: &Region<T>, segment: u16, end: u32, order: &[u32]) -
     true
 }
 
-/// Returns whether the offsets are those of a segment's parts, each once.
+/// Returns whether the list has the offset of each part of a segment exactly once.
 pub fn is_order<T: Elem>(region: &Region<T>, segment: u16, order: &[u32]) -> bool
     ensures { IsTrue result → IsOrder (segment_of region.now segment).parts order.now }
 {

@@ -1,4 +1,4 @@
-// What is tried on a region of numbers, line by line.
+// Scripts of calls on a region of numbers.
 use crate::log::order::is_order;
 use crate::log::writing::write_first;
 use far_codec::Elem;
@@ -10,22 +10,23 @@ use std::alloc::Global;
 /// A segment, and an offset in it.
 pub type Spot = (u16, u32);
 
-/// A call, and its reply.
+/// A call with its expected reply.
 #[derive(Clone, Copy)]
 pub enum Line {
-    /// A list is placed there.
+    /// Places a list, which goes to this spot.
     Place(&'static [i64], Spot),
-    /// The region is full for a list.
+    /// Places a list, for which the region is full.
     IsFull(&'static [i64]),
-    /// The part there is dropped.
+    /// Drops the part at this spot.
     Drop(Spot),
-    /// The part there has these elements.
+    /// The part at this spot has these elements.
     Has(Spot, &'static [i64]),
-    /// A list of so many elements fits, or does not.
+    /// Asks whether a list of this length fits.
     Fits(usize, bool),
-    /// A value is written over the first element of the part there.
+    /// Overwrites the first element of the part at this spot.
     WriteFirst(Spot, i64),
-    /// A segment whose parts begin at these offsets is compacted into another one, at those; or not.
+    /// Compacts a segment whose parts begin at these offsets: they move to another segment, at these offsets, or the call
+    /// is refused.
     Compact(u16, &'static [u32], Result<(u16, &'static [u32]), Refusal>),
 }
 
@@ -33,7 +34,7 @@ fn place_of((segment, offset): Spot) -> At {
     At { segment, offset }
 }
 
-/// Returns whether a part lies there, of these elements.
+/// Returns whether a part begins at this spot and has these elements.
 fn has_part<T: Elem + PartialEq>(region: &Region<T>, at: At, list: &[T]) -> bool {
     if !region.holds(at) {
         return false;
@@ -42,7 +43,7 @@ fn has_part<T: Elem + PartialEq>(region: &Region<T>, at: At, list: &[T]) -> bool
     part == list && region.part_long(at, part.len()) == list
 }
 
-/// Drops the part that begins there, and returns whether there was one.
+/// Drops the part that begins at this spot, and returns whether there was one.
 fn drop_part<T: Elem>(region: &mut Region<T>, at: At) -> bool {
     if !region.holds(at) {
         return false;
@@ -51,12 +52,12 @@ fn drop_part<T: Elem>(region: &mut Region<T>, at: At) -> bool {
     true
 }
 
-/// Returns whether a list has elements and its placing gets the reply that is due.
+/// Returns whether a list is not empty and placing it gets the expected reply.
 fn goes_to(region: &mut Region<i64>, list: &[i64], wanted: Result<At, Refusal>) -> bool {
     !list.is_empty() && region.place(list) == wanted
 }
 
-/// Returns whether the compaction of a segment whose parts begin at these offsets gets the reply that is due.
+/// Returns whether compacting a segment whose parts begin at these offsets gets the expected reply.
 fn compacts(
     alloc: Global,
     region: &mut Region<i64>,
@@ -74,7 +75,7 @@ fn compacts(
 }
 
 impl Line {
-    /// Returns whether the region gives the reply of a line.
+    /// Returns whether the region gives the expected reply to a call.
     fn holds(self, alloc: Global, region: &mut Region<i64>) -> bool {
         match self {
             Line::Place(list, spot) => goes_to(region, list, Ok(place_of(spot))),
@@ -97,18 +98,18 @@ fn plays(alloc: Global, region: &mut Region<i64>, lines: &[Line]) -> bool {
     true
 }
 
-/// A region that is made for a case, and what is tried on it.
+/// A region that is made for a case, and the script for it.
 #[derive(Clone, Copy)]
 pub struct Case {
     pub name: &'static str,
     pub segments: u16,
-    /// For how many numbers each segment is made.
+    /// The size of each segment, in numbers.
     pub size: u32,
     pub lines: &'static [Line],
 }
 
 impl Case {
-    /// Returns whether the region gives each line its reply.
+    /// Returns whether the region gives the expected reply to each call.
     pub fn is_right(&self, alloc: Global) -> Result<bool, Refusal> {
         let mut region = Region::new(alloc, u32::from(self.segments), self.size)?;
         Ok(plays(alloc, &mut region, self.lines))

@@ -1,4 +1,4 @@
-// A caller that writes through what the region lends.
+// A caller that writes to the parts that it borrows.
 ghost use Rattle.std.specs.Prelude.{◌<◌, IsSomeAnd, length, Some, slice_set};
 ghost use Rattle.far_log.specs.RegionState.{part_of};
 ghost use Rattle.far_log.specs.Effects.{ChangesOnly};
@@ -7,7 +7,7 @@ use far_codec::Elem;
 use far_log::Region;
 use far_pointer::At;
 
-/// Writes the first element of a part.
+/// Overwrites the first element of a part.
 fn set_first<T: Elem>(region: &mut Region<T>, at: At, value: T)
     requires { IsSomeAnd (part_of region.old at) (λ list. 0 < length list) }
     ensures { IsSomeAnd (part_of region.old at) (λ list. ChangesOnly region.old region.new at (Some (slice_set list 0 value))) }
@@ -16,7 +16,7 @@ fn set_first<T: Elem>(region: &mut Region<T>, at: At, value: T)
     list[0] = value;
 }
 
-/// Writes the first element of the part that begins there, and returns whether there was one.
+/// Overwrites the first element of the part that begins at this spot, and returns whether there was one.
 pub fn write_first<T: Elem>(region: &mut Region<T>, at: At, value: T) -> bool {
     if !region.holds(at) || region.part(at).is_empty() {
         return false;

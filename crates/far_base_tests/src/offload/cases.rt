@@ -1,4 +1,4 @@
-// Row groups whose columns are available, and the lines of their answers.
+// Row groups in memory, and the lines of their answers.
 use crate::cases::all_are_right;
 use crate::lines::{Lines, Name};
 use crate::offload::folding::{Folded, RowGroup};
@@ -15,7 +15,7 @@ static CASES: [Folded; 2] = [
         prefix: None,
         lines: Lines::Totals(&[(Name::Nobody, 3, 8)]),
     },
-    // Three rows under `ab`, of which one has no value and one is dead, one under `b`, one under `ac` and one under no key.
+    // Three rows under `ab`, one of them without value and one dead, one row under `b`, one under `ac` and one without key.
     Folded {
         name: "extrema are those of the rows that pass, under their texts",
         rows: RowGroup {

@@ -1,4 +1,4 @@
-// A row group that is folded, and the lines of its answer.
+// Folds a row group, and compares the lines of its answer.
 ghost use Rattle.std.specs.Prelude.{◌<◌, ◌^◌, length, IsTrue};
 ghost use Rattle.far_codec.specs.TextForm.{IsTextsForm};
 
@@ -17,12 +17,12 @@ pub struct RowGroup {
     pub alive: &'static [bool],
 }
 
-/// A fold of the numbers of a row group by the keys of a column, if there is one, and its lines.
+/// A fold of the numbers of a row group, by the keys of a column or without key, and its lines.
 pub struct Folded {
     pub name: &'static str,
     pub rows: RowGroup,
     pub key: Option<u32>,
-    /// The rows pass whose text begins so; all rows do if there is none.
+    /// Only rows whose text begins with this pass; all rows if it is `None`.
     pub prefix: Option<&'static str>,
     pub lines: Lines<'static>,
 }
@@ -42,7 +42,7 @@ fn answer_of(alloc: Global, done: &PartialDone) -> Result<Answer, Refusal> {
     }
 }
 
-/// Returns whether the answer of a partial aggregate has these lines, or the refusal in its place.
+/// Returns whether the answer of a partial aggregate has these lines, or is the expected refusal.
 pub fn has_lines(
     alloc: Global,
     lines: Lines<'_>,
@@ -54,7 +54,7 @@ pub fn has_lines(
     }
 }
 
-/// Returns the columns of a row group, in memory: the numbers in a list and the texts in a form.
+/// Returns the columns of a row group in memory: the numbers as a list and the texts as a form.
 fn columns<'a>(numbers: &'a [Option<i64>], form: &'a [u8]) -> [Column<'a>; 2]
     requires { IsTextsForm form.now }
 {
@@ -90,7 +90,7 @@ impl Case for Folded {
         self.name
     }
 
-    /// Returns whether the row group with its available columns has the lines.
+    /// Returns whether the row group, with its columns in memory, has the expected lines.
     fn is_right(&self, alloc: Global) -> Result<bool, Refusal> {
         if !self.rows.is_short() {
             return Ok(false);

@@ -1,4 +1,4 @@
-// A job that is kept, meets a fault, and is carried again.
+// A job that meets a fault and is carried again.
 ghost use Rattle.std.specs.Prelude.{All};
 
 use crate::cases::must_be;
@@ -14,7 +14,7 @@ static ALIVE: [bool; 4] = [true, false, true, true];
 
 static LINES: Lines<'static> = Lines::Totals(&[(Name::Nobody, 3, 8)]);
 
-/// Returns whether a job that is kept comes to the count and the sum of its rows, and has what it was made with.
+/// Returns whether a job that is kept has the count and the sum of its rows, and all that it was made with.
 fn is_kept<S: FarStore>(alloc: Global, store: &S, job: &OffloadJob<S>) -> Result<bool, Refusal>
     requires { All (λ ticket. S.is_of ticket.1 (S.store_id store.now)) job.now.tickets }
 {
@@ -24,7 +24,7 @@ fn is_kept<S: FarStore>(alloc: Global, store: &S, job: &OffloadJob<S>) -> Result
     if kept { folded } else { Ok(false) }
 }
 
-/// Returns what was carried, or the refusal alone.
+/// Returns the result of a carry, or just its refusal.
 fn without_job<D: Drop, J: Drop>(carried: Result<D, (Refusal, J)>) -> Result<D, Refusal> {
     match carried {
         Ok(done) => Ok(done),
@@ -32,7 +32,8 @@ fn without_job<D: Drop, J: Drop>(carried: Result<D, (Refusal, J)>) -> Result<D, 
     }
 }
 
-/// Carries a job again after a fault, and returns its partial aggregate. Refused with `StaleJob` if the first carry meets no fault.
+/// Carries a job again after a fault, and returns its partial aggregate. Refused with `StaleJob` if the first carry meets
+/// no fault.
 fn carry_again<S: FarStore>(
     alloc: Global,
     store: &S,
@@ -53,7 +54,7 @@ fn carry_again<S: FarStore>(
     }
 }
 
-/// Returns whether a job is kept, and carried once it met a fault.
+/// Returns whether a job is kept at a fault, and carried afterwards.
 fn is_carried<S: FarStore>(alloc: Global, store: &S, job: OffloadJob<S>) -> Result<bool, Refusal>
     requires { All (λ ticket. S.is_of ticket.1 (S.store_id store.now)) job.tickets }
 {
@@ -66,7 +67,7 @@ fn is_carried<S: FarStore>(alloc: Global, store: &S, job: OffloadJob<S>) -> Resu
     }
 }
 
-/// The same of a job over the numbers from 1 to 4, of which the second has a dead place.
+/// Returns the same for a job over the numbers 1 to 4, of which the second has a dead place.
 fn carries_a_job<S: FarStore>(alloc: Global, store: &S) -> Result<bool, Refusal> {
     let ints = put_ints(alloc, store, &[Some(1), Some(2), Some(3), Some(4)])?;
     let mut tickets = Vec::new(alloc);
@@ -76,7 +77,7 @@ fn carries_a_job<S: FarStore>(alloc: Global, store: &S) -> Result<bool, Refusal>
     is_carried(alloc, store, job)
 }
 
-/// The same over a store, if it was made, whose second get fails. It is the first of a carry.
+/// Returns the same over a store whose second get fails, the first of a carry, if that store was made.
 fn carries_a_job_once_made<S: FarStore>(
     alloc: Global,
     store: Result<S, Refusal>,

@@ -8,7 +8,7 @@ use far_store::{FarStore, Meter};
 use far_types::{Refusal, Text};
 use std::alloc::Global;
 
-/// Returns a ticket for these numbers.
+/// Puts these numbers into a store, and returns the ticket.
 pub fn put_ints<S: FarStore>(
     alloc: Global,
     store: &S,
@@ -23,7 +23,7 @@ pub fn put_ints<S: FarStore>(
     store.put(alloc, &mut meter, &form)
 }
 
-/// Returns a far form of texts with one more, which is missing or short.
+/// Returns a form of texts with one more, which is missing or short.
 fn with_next(alloc: Global, form: &[u8], word: Option<&str>) -> Result<Vec<u8>, Refusal>
     requires { IsTextsForm form.now }
     ensures { IfOk result (λ form. IsTextsForm form.items) }
@@ -38,7 +38,7 @@ fn with_next(alloc: Global, form: &[u8], word: Option<&str>) -> Result<Vec<u8>, 
     Err(Refusal::TextTooLong)
 }
 
-/// Returns the far form of texts, each of which may be missing.
+/// Returns the form of these texts, each of which may be missing.
 pub fn form_of(alloc: Global, words: &[Option<&str>]) -> Result<Vec<u8>, Refusal>
     ensures { IfOk result (λ form. IsTextsForm form.items) }
 {

@@ -1,4 +1,4 @@
-// The agent store: worked examples, four threads at once, and memory that is refused.
+// Tests of the agent store: worked examples, four threads at once, and failed allocations.
 use crate::store::case::{AGENT, Case, all_hold};
 use crate::store::generic::Why::Full;
 use crate::store::script::Line::{Fill, FourThreads, FromShelf, Get, Put, StaysFull, ToShelf};
@@ -21,7 +21,7 @@ static CASES: [Case; 6] = [
         lines: &[Fill(100), StaysFull(3, 1)],
         ..AGENT
     },
-    // A store that kept them would have 1,000 GiB then.
+    // A store that kept these contents would then have 1,000 GiB.
     Case {
         name: "a full store takes no memory for what it refuses",
         capacity: 0,

@@ -1,11 +1,11 @@
-// Contents that are carried between a store and a shelf.
+// Moves contents between a store and a shelf.
 use crate::store::generic::{Why, carry_over, put, reads_alike, round_trip};
 use crate::store::shelf_store::ShelfStore;
 use far_store::{FarRead, FarStore, FarTickets, Meter};
 use far_types::Refusal;
 use std::alloc::Global;
 
-// Returns whether a ticket and its copy read these bytes.
+// Returns whether a ticket and its copy both read these bytes.
 fn is_read_alike<S: FarRead>(
     store: &S,
     alloc: Global,
@@ -21,7 +21,7 @@ fn is_read_alike<S: FarRead>(
     }
 }
 
-// Returns whether a content of one store is read in another once it was carried there.
+// Returns whether a content of one store can be carried to another and read there.
 fn is_carried<S: FarStore, N: FarStore>(
     from: &S,
     to: &N,
@@ -34,7 +34,7 @@ fn is_carried<S: FarStore, N: FarStore>(
     is_read_alike(to, alloc, &copy, bytes)
 }
 
-// Returns whether a content is got as it was put.
+// Returns whether a get returns what was put.
 fn is_served<S: FarStore>(store: &S, alloc: Global, bytes: &[u8]) -> bool {
     match round_trip(store, alloc, bytes) {
         Ok(read) => read.as_slice() == bytes,
@@ -42,14 +42,15 @@ fn is_served<S: FarStore>(store: &S, alloc: Global, bytes: &[u8]) -> bool {
     }
 }
 
-// Returns whether each generic caller is served by two stores. They put two contents into each.
+// Returns whether generic callers are served by two stores. They put two contents into each.
 fn serve_callers<S: FarStore, N: FarStore>(from: &S, to: &N, alloc: Global) -> bool {
     is_served(from, alloc, &[1, 2])
         && is_served(to, alloc, &[3])
         && is_carried(from, to, alloc, &[4, 5]) == Ok(true)
 }
 
-// The same of a store and a shelf for two contents, and whether this is full then.
+// Carries contents from a store to a shelf with space for two. Returns whether both are read there, and the shelf is then
+// full.
 pub fn is_carried_to_shelf<S: FarStore>(store: &S, alloc: Global) -> bool {
     match ShelfStore::new(alloc, 2) {
         Ok(shelf) => {
@@ -59,7 +60,7 @@ pub fn is_carried_to_shelf<S: FarStore>(store: &S, alloc: Global) -> bool {
     }
 }
 
-// The same of a shelf and a store.
+// Carries contents from a shelf to a store. Returns whether they are read there.
 pub fn is_carried_from_shelf<S: FarStore>(store: &S, alloc: Global) -> bool {
     match ShelfStore::new(alloc, 8) {
         Ok(shelf) => serve_callers(&shelf, store, alloc),

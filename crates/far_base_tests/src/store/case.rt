@@ -1,4 +1,4 @@
-// A store that is made for a case, and what is tried on it.
+// A store that is made for a case, and the script for it.
 use crate::store::planned_engine::{PlannedEngine, Turn};
 use crate::store::script::{Line, plays};
 use far_byte_log::ByteLog;
@@ -12,21 +12,21 @@ use std::thread::Threads;
 // Where a store keeps its contents.
 #[derive(Clone, Copy)]
 pub enum Base {
-    // In an agent.
+    // In memory, by the agent store.
     Agent,
-    // In a log of so many bytes, whose calls turn out as planned.
+    // In a log of this many bytes, whose calls turn out as planned.
     Log(usize, &'static [Turn]),
 }
 
-// Each store of a case stands under a `FaultyStore`.
+// A case: a store and a script. Each store is wrapped in a `FaultyStore`.
 #[derive(Clone, Copy)]
 pub struct Case {
     pub name: &'static str,
     pub base: Base,
     pub capacity: u64,
-    // Which put fails, of those that do not run out of memory; 0 for none.
+    // The number of the put that fails, not counting those that run out of memory; 0 for none.
     pub failing_put: u64,
-    // Which get fails, counted in the same way.
+    // The number of the get that fails, counted in the same way.
     pub failing_get: u64,
     pub lines: &'static [Line],
 }
@@ -48,7 +48,7 @@ pub const LOG: Case = Case {
     ..AGENT
 };
 
-// Returns a store of so many contents over a log of so many bytes, whose calls turn out as planned.
+// Returns a store for this many contents, over a log of this many bytes whose calls turn out as planned.
 pub fn logged<R: Drop>(
     rt: R,
     alloc: Global,
@@ -62,7 +62,7 @@ pub fn logged<R: Drop>(
 }
 
 impl Case {
-    // Returns whether the store gives each line its reply. It is made again if memory runs out.
+    // Returns whether the store gives the expected replies. It is made again if memory runs out.
     pub fn holds<R: Threads + Wait + Sync + Drop>(&self, rt: &R, alloc: Global) -> bool {
         match self.tried(rt, alloc) {
             Err(Refusal::NoMemory) => self.tried(rt, alloc) == Ok(true),
@@ -70,7 +70,7 @@ impl Case {
         }
     }
 
-    // Returns whether a store that was made for the case gives each line its reply, under a `FaultyStore`.
+    // Returns whether a store made for the case, wrapped in a `FaultyStore`, gives the expected replies.
     fn is_played<R: Threads + Sync, S: FarStore>(
         &self,
         rt: &R,
@@ -101,7 +101,7 @@ impl Case {
     }
 }
 
-// Ends the test at the first case whose store gives a line another reply.
+// Ends the test at the first case whose store gives another reply.
 pub fn all_hold<R: Abort + Threads + Wait + Sync + Drop>(rt: &R, alloc: Global, cases: &[Case]) {
     for case in cases {
         let name = case.name;

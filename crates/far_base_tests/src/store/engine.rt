@@ -1,4 +1,4 @@
-// Stores over engines: what a store returns if its engine fails, and a log that is full.
+// Tests of stores over engines: the refusal if an engine fails, and a full log.
 use crate::cases::must_be;
 use crate::store::case::{Base, Case, LOG, all_hold};
 use crate::store::generic::Why::{Fault, Full, NoMemory};
@@ -36,7 +36,7 @@ static CASES: [Case; 5] = [
         ],
         ..LOG
     },
-    // The engine would fail if it was asked.
+    // The engine would fail if it were called.
     Case {
         name: "a full store does not ask its engine",
         base: Base::Log(64, &[Turn::Serve, Turn::Serve, Turn::Fail, Turn::Fail]),
@@ -78,7 +78,7 @@ static IN_FIVE_BYTES: [Line; 6] = [
     Put(&[], Ok(2)),
 ];
 
-// Returns whether a store over a log of five bytes gives each line its reply, and uses all five at the end.
+// Returns whether a store over a log of five bytes gives the expected replies, and has used all five afterwards.
 fn uses_all<R: Threads + Wait + Sync + Drop>(
     rt: &R,
     alloc: Global,
@@ -87,7 +87,7 @@ fn uses_all<R: Threads + Wait + Sync + Drop>(
     plays(rt, store, alloc, &IN_FIVE_BYTES) && store.engine().used() == 5
 }
 
-// The same, if the store is made.
+// Returns the same for a store, if it could be made.
 fn uses_all_of_five<R: Threads + Wait + Sync + Drop>(
     rt: &R,
     alloc: Global,

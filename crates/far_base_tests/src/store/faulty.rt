@@ -1,10 +1,10 @@
-// When a planned fault comes: no clause can say it, since no clause knows what an atomic holds.
+// Tests of when a planned fault comes: no clause says it, since no clause knows the value of an atomic.
 use crate::store::case::{AGENT, Base, Case, LOG, all_hold};
 use crate::store::generic::Why::{Fault, Full, NoMemory};
 use crate::store::planned_engine::Turn;
 use crate::store::script::Line::{self, FourThreads, Get, Put};
 
-// The numbers that five puts draw if the first fails, or the third. The put that fails draws none.
+// The numbers of five puts if the first fails, or the third. The put that fails gets none.
 const FIRST_FAILS: &[Line] = &[
     Put(&[1], Err(Fault)),
     Put(&[1], Ok(0)),

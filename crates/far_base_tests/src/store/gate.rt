@@ -1,4 +1,4 @@
-// What a gate does to a put, which no clause can say.
+// Tests of what a gate does to a put, which no clause says.
 use crate::store::generic::Why::{self, Fault};
 use crate::store::generic::put;
 use crate::store::script::Line::{self, Put};
@@ -14,20 +14,20 @@ use std::thread::{self, Threads};
 // What opens a gate.
 #[derive(Clone, Copy)]
 enum Opener {
-    // A release.
+    // A call of `release`.
     Release,
     // The second put.
     SecondPut,
 }
 
-// What is tried on a gate.
+// A trial on a gate.
 #[derive(Clone, Copy)]
 enum Trial {
-    // Lines get their replies one after another, and a put was at the gate.
+    // These calls get their replies in order, and a put was held at the gate.
     Plays(&'static [Line]),
-    // A put that is held is served once it is released, and the next one at once.
+    // A put that is held is served after the release, and the next one at once.
     ServesTheReleased,
-    // Two threads put once each: so many meet a fault, and so many are served.
+    // Two threads put once each: this many meet a fault, and this many are served.
     AnswersTwo(usize, usize),
 }
 
@@ -38,7 +38,7 @@ fn gated<S: FarStore>(store: S, opener: Opener) -> GateStore<S> {
     }
 }
 
-// Waits until a put is held, and then opens the gate. Returns whether one came.
+// Waits until a put is held, and then opens the gate. Returns whether a put came.
 fn release_when_held<S>(gate: &GateStore<S>) -> bool {
     for _ in 0..1_000_000 {
         if gate.held() {
@@ -50,12 +50,12 @@ fn release_when_held<S>(gate: &GateStore<S>) -> bool {
     false
 }
 
-// Returns why a put is not served, if it is not.
+// Returns why a put is refused, or `None` if it is served.
 fn unserved<S: FarStore>(store: &S, alloc: Global) -> Option<Why> {
     put(store, alloc, &[1]).err()
 }
 
-// Returns whether a put that is held is served once it is released, and the next one at once.
+// Returns whether a put that is held is served after the release, and the next one at once.
 fn serves_the_released<R: Threads, S: FarStore>(
     rt: &R,
     gate: &GateStore<S>,
@@ -66,7 +66,7 @@ fn serves_the_released<R: Threads, S: FarStore>(
     !is_held_before && came && [held, unserved(gate, alloc)] == [None, None]
 }
 
-// Returns the replies to two puts at once.
+// Returns the results of two puts at once.
 fn two_at_once<R: Threads, S: FarStore>(
     rt: &R,
     gate: &GateStore<S>,
@@ -76,7 +76,7 @@ fn two_at_once<R: Threads, S: FarStore>(
     [one, other]
 }
 
-// Returns whether a trial comes out on a gate.
+// Returns whether a trial passes on a gate.
 fn comes_out<R: Threads + Sync, S: FarStore>(
     rt: &R,
     gate: &GateStore<S>,
@@ -93,7 +93,7 @@ fn comes_out<R: Threads + Sync, S: FarStore>(
     }
 }
 
-// Returns whether a trial comes out on a gate over a store that was made for it.
+// Returns whether a trial passes on a gate over a store made for it.
 fn comes_out_on<R: Threads + Sync, S: FarStore>(
     rt: &R,
     alloc: Global,
@@ -107,10 +107,10 @@ fn comes_out_on<R: Threads + Sync, S: FarStore>(
     }
 }
 
-// What is tried on a gate over an agent, with a name.
+// A trial on a gate over an agent, with a name.
 type Case = (&'static str, Opener, Trial);
 
-// Ends the test at the first trial that does not come out.
+// Ends the test at the first trial that fails.
 fn all_come_out<R: Abort + Threads + Wait + Sync + Drop>(rt: &R, alloc: Global, cases: &[Case]) {
     for (name, opener, trial) in cases {
         let came_out = comes_out_on(rt, alloc, AgentStore::new(rt, alloc, 8), *opener, *trial);
@@ -118,7 +118,7 @@ fn all_come_out<R: Abort + Threads + Wait + Sync + Drop>(rt: &R, alloc: Global, 
     }
 }
 
-// The first put is held until it is a fault, and the second is served.
+// The first put is held until it becomes a fault, and the second is served.
 const UNRELEASED: Trial = Trial::Plays(&[Put(&[1], Err(Fault)), Put(&[1], Ok(0))]);
 
 static CASES: [Case; 5] = [

@@ -1,4 +1,4 @@
-// Callers that know of a store no more than its traits. Their clauses are proved, and they run over each store.
+// Callers that know only the traits of a store. Their clauses are proved, and they run over each store.
 ghost use Rattle.std.specs.Prelude.{◌≡◌, ◌+◌, ◌<◌, ◌^◌, [], ◌∷◌, All, IfOk, IfSome};
 ghost use Rattle.far_store.specs.Faults.{faults_in, RefusedBy};
 
@@ -6,7 +6,7 @@ use far_store::{FarRead, FarStore, FarTickets, Meter};
 use far_types::Refusal;
 use std::alloc::Global;
 
-// Why a call is refused: there are three reasons.
+// The three reasons for which a call is refused.
 #[derive(Clone, Copy, PartialEq, Eq)]
 pub enum Why {
     Fault,
@@ -14,7 +14,7 @@ pub enum Why {
     NoMemory,
 }
 
-// Puts bytes. A match on these three reasons is complete.
+// Puts bytes. A match on the three reasons is complete.
 pub fn put<S: FarStore>(store: &S, alloc: Global, bytes: &[u8]) -> Result<S::Ticket, Why>
     ensures { IfOk result (λ t. S.is_of t (S.store_id store.now)) }
 {
@@ -27,7 +27,7 @@ pub fn put<S: FarStore>(store: &S, alloc: Global, bytes: &[u8]) -> Result<S::Tic
     }
 }
 
-// Gets a content. That is never refused because the store is full.
+// Gets a content. Never refused because the store is full.
 pub fn get<S: FarRead>(
     store: &S,
     alloc: Global,
@@ -76,7 +76,7 @@ pub fn carry_over<S: FarRead, N: FarStore>(
     to.put(alloc, meter, &buffer)
 }
 
-// Two tickets of one number have one content.
+// Returns a content by one of two tickets with the same number: both have the same content.
 pub fn reads_alike<S: FarRead>(
     store: &S,
     alloc: Global,
@@ -102,7 +102,7 @@ fn nth_content(thread: u64, n: u64) -> [u8; 8] {
     n.wrapping_mul(4).wrapping_add(thread).to_le_bytes()
 }
 
-// Puts so many contents of a thread.
+// Puts this many contents of a thread.
 pub fn puts_all<S: FarStore>(
     store: &S,
     alloc: Global,

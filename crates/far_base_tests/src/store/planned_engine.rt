@@ -3,7 +3,7 @@ use far_store::{Engine, Failure};
 use std::alloc::Global;
 use std::sync::atomic::{AtomicUsize, Ordering};
 
-// How a call turns out.
+// The outcome of a call.
 #[derive(Clone, Copy)]
 pub enum Turn {
     Serve,
@@ -11,11 +11,11 @@ pub enum Turn {
     Fail,
 }
 
-// The engine failed as planned, or the engine under it failed.
+// The engine failed as planned, or the engine inside it failed.
 #[derive(Drop)]
 pub struct Failed;
 
-// An engine over another one. Calls past the end of the plan are served.
+// An engine that wraps another one. Calls after the end of the plan are served.
 #[derive(Drop)]
 pub struct PlannedEngine<E> {
     engine: E,
@@ -42,7 +42,7 @@ impl<E> PlannedEngine<E> {
     }
 }
 
-// Returns the failure of the engine under it.
+// Returns the failure of the engine inside.
 fn passed_on<F: Drop>(failure: Failure<F>) -> Failure<Failed> {
     match failure {
         Failure::NoMemory => Failure::NoMemory,
@@ -69,7 +69,7 @@ impl<E: Engine> Engine for PlannedEngine<E> {
         }
     }
 
-    // A planned failure comes in the middle of the bytes.
+    // A planned failure comes after a wrong byte was read.
     fn read(
         &self,
         alloc: Global,

@@ -1,4 +1,4 @@
-// What is tried on a store, line by line.
+// Scripts of calls on a store.
 ghost use Rattle.std.specs.Prelude.{IfOk, IfSome};
 
 use crate::store::carrying::{is_carried_from_shelf, is_carried_to_shelf};
@@ -8,26 +8,26 @@ use far_store::{FarRead, FarStore, FarTickets};
 use std::alloc::Global;
 use std::thread::Threads;
 
-// A call, or many, and the reply.
+// A call, or many, with the expected reply.
 #[derive(Clone, Copy)]
 pub enum Line {
-    // A put of these bytes draws this number, or is refused.
+    // Puts these bytes: gets this number, or is refused.
     Put(&'static [u8], Result<u64, Why>),
-    // A get of what was put last replaces what the buffer has by these bytes, or is refused and leaves none.
+    // Gets the last content: replaces the bytes of the buffer by these, or is refused and leaves the buffer empty.
     Get(Result<&'static [u8], Why>),
-    // So many puts draw the numbers from 0 upwards.
+    // Puts this many contents, with the numbers from 0 on.
     Fill(u64),
-    // So many puts of so many bytes find the store full.
+    // Makes this many puts of this many bytes, each of which finds the store full.
     StaysFull(u32, usize),
-    // The generic callers are served by the store and a shelf, which is full then.
+    // Runs the generic callers over the store and a shelf, which is full afterwards.
     ToShelf,
-    // The generic callers are served by a shelf and the store.
+    // Runs the generic callers over a shelf and the store.
     FromShelf,
-    // Four threads put so many contents each: so many read back all of their own, and so many meet a fault.
+    // Four threads put this many contents each: this many read back all of their own, and this many meet a fault.
     FourThreads(u64, usize, usize),
 }
 
-// Returns whether a store gives each line its reply.
+// Returns whether a store gives the expected reply to each call.
 pub fn plays<R: Threads + Sync, S: FarStore>(
     rt: &R,
     store: &S,
@@ -45,7 +45,7 @@ pub fn plays<R: Threads + Sync, S: FarStore>(
 }
 
 impl Line {
-    // Returns whether a store gives the reply of a line. `ticket` is the one that it gave last.
+    // Returns whether a store gives the expected reply to a call. `ticket` is the last one that it returned.
     fn holds<R: Threads + Sync, S: FarStore>(
         self,
         rt: &R,
@@ -71,7 +71,7 @@ impl Line {
     }
 }
 
-// Makes a put, and makes it again if memory runs out and that is not the reply that is due.
+// Makes a put, again if memory runs out unexpectedly.
 fn put_at_last<S: FarStore>(
     store: &S,
     alloc: Global,
@@ -107,7 +107,7 @@ fn is_put<S: FarStore>(
     }
 }
 
-// Makes a get, and makes it again if memory runs out and that is not the reply that is due.
+// Makes a get, again if memory runs out unexpectedly.
 fn get_at_last<S: FarRead>(
     store: &S,
     alloc: Global,
@@ -143,7 +143,7 @@ fn is_got<S: FarRead>(
     }
 }
 
-// Returns whether so many puts draw the numbers from 0 upwards.
+// Returns whether this many puts get the numbers from 0 on.
 fn are_drawn<S: FarStore>(store: &S, alloc: Global, count: u64) -> bool {
     for number in 0..count {
         if !is_put(store, alloc, &mut None, &[1, 2, 3], Ok(number)) {
@@ -153,7 +153,7 @@ fn are_drawn<S: FarStore>(store: &S, alloc: Global, count: u64) -> bool {
     true
 }
 
-// Returns whether so many puts of so many bytes find the store full.
+// Returns whether this many puts of this many bytes each find the store full.
 fn stays_full<S: FarStore>(store: &S, alloc: Global, puts: u32, length: usize) -> bool {
     let Ok(content) = vec![in alloc; 0x61; length] else {
         return false;

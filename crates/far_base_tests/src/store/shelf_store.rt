@@ -1,4 +1,4 @@
-// A store without an engine, as docs/FAR_STORE.md describes: a fixed number of places in memory.
+// A store without an engine, as docs/FAR_STORE.md describes it: a fixed number of places in memory.
 ghost use Rattle.std.specs.Prelude.{ℕ, List, ◌≡◌, ◌<◌, ⊤, map, length, slice_index, vec_len, IfOk};
 
 use boxcar::slot::{OnceSlot, SlotRule, Written};
@@ -9,14 +9,14 @@ use std::alloc::Global;
 use std::marker::Model;
 use std::sync::atomic::{AtomicUsize, Ordering};
 
-/// A store with a fixed number of places, each of which takes one content.
+/// A store with a fixed number of places, each for one content.
 #[derive(Drop)]
 pub struct ShelfStore {
     places: Vec<OnceSlot<Vec<u8>, AnyContent>>,
     drawn: AtomicUsize,
 }
 
-/// A ticket of a `ShelfStore`: the place, and what shows that it was written.
+/// A ticket of a `ShelfStore`: the place, and the evidence that it was written.
 #[derive(Drop)]
 pub struct Shelved {
     place: usize,
@@ -29,7 +29,7 @@ impl Model for Shelved {
     ghost view = { λ t. (t.place, t.written.of, t.written.value.items) };
 }
 
-// A place takes whatever bytes.
+// The rule of a place: any bytes may be written.
 pub struct AnyContent;
 
 impl SlotRule<Vec<u8>> for AnyContent {
@@ -37,7 +37,7 @@ impl SlotRule<Vec<u8>> for AnyContent {
 }
 
 impl ShelfStore {
-    /// Returns a store of `capacity` places. Refused with `NoMemory` (1) alone.
+    /// Makes a store of `capacity` places. Refused only with `NoMemory` (1).
     pub fn new(alloc: Global, capacity: usize) -> Result<ShelfStore, Refusal>
         ensures { IfOk result (λ s. ⟦<ShelfStore as FarTickets>⟧.capacity_of s ≡ capacity) }
     {
@@ -106,7 +106,7 @@ impl FarStore for ShelfStore {
         let copy = Vec::from_slice(alloc, bytes)?;
         match self.places[place].set_written(copy) {
             Ok(written) => Ok(Shelved { place, written }),
-            // No place is drawn twice, so this never comes.
+            // Unreachable: no place is drawn twice.
             Err(_) => Err(Refusal::FarFull),
         }
     }

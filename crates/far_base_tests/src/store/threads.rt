@@ -1,11 +1,11 @@
-// Threads that use one store together.
+// Threads that share a store.
 use crate::store::generic::{gets_all, puts_all};
 use far_store::FarStore;
 use far_types::Refusal;
 use std::alloc::{AllocError, Global};
 use std::thread::{self, Threads};
 
-// Returns how many of so many contents that a thread put it read back as they were put.
+// Puts this many contents from one thread, and returns how many it reads back unchanged.
 fn own_contents<S: FarStore>(
     store: &S,
     alloc: Global,
@@ -16,7 +16,7 @@ fn own_contents<S: FarStore>(
     gets_all(store, alloc, thread, &tickets)
 }
 
-// Lets four threads put so many contents each. Returns how many read back all of their own, and how many meet a fault.
+// Lets four threads put this many contents each. Returns how many read back all of their own, and how many meet a fault.
 pub fn read_back_by_four<R: Threads + Sync, S: FarStore>(
     rt: &R,
     store: &S,

@@ -3,7 +3,7 @@ use crate::cases::must_be;
 use far_types::{Refusal, TotalLines};
 use std::alloc::Global;
 
-/// Returns whether the totals of no row are a line of zeros, if there is no key column.
+/// Returns whether totals of no row without key column are one line of zeros.
 fn is_line_of_zeros(alloc: Global) -> Result<bool, Refusal> {
     let lines = TotalLines::new(Vec::new(alloc)).or_zero(None)?;
     Ok(lines.as_slice() == [(None, 0, 0)].as_slice())

@@ -1,10 +1,10 @@
-// A clone is equal.
+// Clones are equal to what they are cloned from.
 use crate::cases::{all, must_be};
 use crate::types::samples::{row, schema, spec, text_key};
 use far_types::{Cell, Edit, Key, Kind, Refusal, Schema, Spec, clone_key};
 use std::alloc::Global;
 
-/// What is cloned while memory is left.
+/// A value that is cloned if memory allows.
 trait Cloned: Drop {
     fn cloned(&self) -> Result<Self, Refusal>;
 
@@ -33,7 +33,7 @@ fn are_cells(cells: &[Cell]) -> bool {
     matches!(cells, [Cell::Int(1), Cell::Text(text)] if text.as_str() == "a")
 }
 
-/// An edit, and so its row, the cells of that and a text.
+/// An edit, which contains a row, cells and a text.
 impl Cloned for Edit {
     fn cloned(&self) -> Result<Edit, Refusal> {
         self.clone()
@@ -54,7 +54,7 @@ impl Cloned for Option<Key> {
     }
 }
 
-/// An aggregate, and so its filter and the test of that.
+/// An aggregate, which contains a filter and a test.
 impl Cloned for Spec {
     fn cloned(&self) -> Result<Spec, Refusal> {
         self.clone()

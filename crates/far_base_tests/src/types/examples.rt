@@ -1,17 +1,17 @@
-// The examples in the comments of far_types, and that they come out: a table of breads and how many of each were sold.
+// The examples in the comments of far_types, and their results: a table of breads and how many of each were sold.
 use crate::cases::{all, must_be};
 use far_types::{
     Answer, Cell, Filter, Key, Kind, Limits, Op, Refusal, Row, Schema, Spec, Test, TotalLines,
 };
 use std::alloc::Global;
 
-/// Returns a column of texts and one of numbers.
+/// Returns a schema with a column of texts and one of numbers.
 fn breads(alloc: Global) -> Result<Schema, Refusal> {
     let kinds = Vec::from_array(alloc, [Kind::Text, Kind::Int])?;
     Schema::new(kinds)
 }
 
-/// Returns whether limits are those of a table that has at most 1,000 rows.
+/// Returns whether limits for at most 1,000 rows are valid.
 fn are_small_limits_allowed() -> bool {
     let limits = Limits {
         places: 1_000,
@@ -26,7 +26,7 @@ fn sale(alloc: Global, bread: &str, sold: i64) -> Result<Row, Refusal> {
     Ok(Row::from(Vec::from_array(alloc, cells)?))
 }
 
-/// Returns whether each cell of a row has a value.
+/// Returns whether no cell of a row is missing.
 fn is_whole(row: &Row) -> bool {
     for cell in row {
         if let Cell::Missing = cell {
@@ -36,7 +36,7 @@ fn is_whole(row: &Row) -> bool {
     true
 }
 
-/// Returns a text, a number, and a number that is not known.
+/// Returns a text, a number, and a missing cell.
 fn cells(alloc: Global) -> Result<Vec<Cell>, Refusal> {
     let bread = Cell::of_text(alloc, "bread")?;
     let sold = Cell::from(5i64);
@@ -44,14 +44,14 @@ fn cells(alloc: Global) -> Result<Vec<Cell>, Refusal> {
     Ok(Vec::from_array(alloc, [bread, sold, unknown])?)
 }
 
-/// Returns whether texts are in the order of their bytes, and numbers in that of their values.
+/// Returns whether texts are ordered by their bytes, and numbers by their values.
 fn are_in_order(alloc: Global) -> Result<bool, Refusal> {
     let bread = Key::of_text(alloc, "bread")?;
     let rye = Key::of_text(alloc, "rye")?;
     Ok(bread < rye && Key::from(2i64) < Key::from(10i64))
 }
 
-/// Returns the tests of rows of which more than two ryes were sold.
+/// Returns a filter for rows with more than two ryes sold.
 fn many_ryes(alloc: Global) -> Result<Filter, Refusal> {
     let is_rye = Test::text_is(alloc, 0, "rye")?;
     let are_many = Test::Int {
@@ -62,13 +62,13 @@ fn many_ryes(alloc: Global) -> Result<Filter, Refusal> {
     Ok(Filter::from(Vec::from_array(alloc, [is_rye, are_many])?))
 }
 
-/// Returns how many were sold of each bread whose name begins with an r.
+/// Returns the totals of breads whose name begins with an r, by name.
 fn sold_by_bread(alloc: Global) -> Result<Spec, Refusal> {
     let begins_with_r = Test::text_begins(alloc, 0, "r")?;
     Spec::totals(alloc, 1).by(0).only(begins_with_r)
 }
 
-/// Returns how many keys have a sum, or a least value, above 0.
+/// Returns how many lines have a sum, or a least value, above 0.
 fn lines_above_zero(answer: &Answer) -> usize {
     match answer {
         Answer::Totals(lines) => lines.iter().filter(|line| line.2 > 0).count(),
@@ -76,7 +76,7 @@ fn lines_above_zero(answer: &Answer) -> usize {
     }
 }
 
-/// Returns what is printed of a schema without a column.
+/// Returns the sentence for a schema without a column.
 fn printed_of_no_column(alloc: Global) -> Result<String, Refusal> {
     match Schema::new(Vec::new(alloc)) {
         Ok(_) => Ok(String::new(alloc)),

@@ -5,7 +5,7 @@ fn is_text(cell: Option<CellRef<'_>>, expected: &str) -> bool {
     matches!(cell, Some(CellRef::Text(text)) if text == expected)
 }
 
-/// Returns whether a row has its cells in order, and another cell in its column.
+/// Returns whether a row has its cells in order, and `with` replaces one of them.
 fn has_its_cells() -> bool {
     let mut row = LentRow::new();
     row.push(CellRef::Int(1));

@@ -1,7 +1,7 @@
-// The usual limits.
+// The default limits.
 use far_types::Limits;
 
-/// The usual limits, in row groups of four places.
+/// The default limits with row groups of four places.
 const FOURS: Limits = Limits {
     group: 4,
     places: 16_777_216,

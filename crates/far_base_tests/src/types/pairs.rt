@@ -1,13 +1,14 @@
-// What rows give to an aggregate, in hand and lent.
+// The pairs of rows for an aggregate, from rows in memory and from lent ones.
 use crate::cases::{all, are_equal, must_be};
 use crate::types::samples::{row, text_key};
 use far_types::{CellRef, Key, LentRow, Refusal, Row, Spec};
 use std::alloc::Global;
 
-/// What a row gives to an aggregate.
+/// The pair of a row: its key and value.
 type Pair = Option<(Option<Key>, i64)>;
 
-/// Returns the pair of a row by the totals of its number, 7, under its second cell, if this key is available.
+/// Returns the pair of a row for the totals of its number, 7, under its second cell, with `earlier` as a key that can be
+/// reused.
 fn pair_under(alloc: Global, cell: CellRef<'_>, earlier: Option<Key>) -> Result<Pair, Refusal> {
     let mut row = LentRow::new();
     row.push(CellRef::Int(7));
@@ -16,14 +17,14 @@ fn pair_under(alloc: Global, cell: CellRef<'_>, earlier: Option<Key>) -> Result<
     spec.lend_pair(&row).pair(alloc, earlier)
 }
 
-/// Returns whether a row gives its value under its text, if the key of a number is available.
+/// Returns whether a row has its text as key, when the key of a number can be reused.
 fn is_under_text(alloc: Global) -> Result<bool, Refusal> {
     let key = text_key(alloc, "ab")?;
     let pair = pair_under(alloc, CellRef::Text("ab"), Some(Key::Int(3)));
     are_equal(pair, Ok(Some((Some(key), 7))))
 }
 
-/// Returns whether a row gives the same in hand and lent.
+/// Returns whether a row in memory has the same pair as the row lent.
 fn gives_the_same(alloc: Global, row: &Row) -> Result<bool, Refusal> {
     if row.len() > 16 {
         return Ok(false);

@@ -1,4 +1,4 @@
-// What the tests begin with.
+// The values that the tests start from.
 use far_types::{Cell, Key, Kind, Refusal, Row, Schema, Spec, Test, Text};
 use std::alloc::Global;
 
@@ -6,7 +6,7 @@ pub fn text(alloc: Global, bytes: &str) -> Result<Text, Refusal> {
     Ok(Text::new(String::from_str(alloc, bytes)?))
 }
 
-/// Returns the key that a text is.
+/// Returns the key of a text.
 pub fn text_key(alloc: Global, bytes: &str) -> Result<Key, Refusal> {
     Ok(Key::Text(text(alloc, bytes)?))
 }
@@ -17,7 +17,7 @@ pub fn row(alloc: Global) -> Result<Row, Refusal> {
     Ok(Row::new(Vec::from_array(alloc, cells)?))
 }
 
-/// Returns a column of numbers and one of texts.
+/// Returns a schema with a column of numbers and one of texts.
 pub fn schema(alloc: Global) -> Result<Schema, Refusal> {
     Schema::new(Vec::from_array(alloc, [Kind::Int, Kind::Text])?)
 }

@@ -1,4 +1,4 @@
-// The access history of a table, and what to fetch next by it.
+// Records accesses to a table, and proposes what to fetch next.
 ghost use Rattle.std.specs.Prelude.{◌≡◌, ℕ, List, true, None, [], ◌∷◌, slice_get, IfOk, IfErr, OnOk, OnErr};
 ghost use Rattle.far_types.specs.MayRefuse.{MayRefuse};
 ghost use Rattle.far_scopes.specs.Refusing.{refusal_in};
@@ -15,7 +15,7 @@ use far_store::FarTickets;
 use far_types::{Kind, Refusal};
 
 impl<S: FarTickets> Frame<S> {
-    /// Records an access to a row group of a column, and marks its object as recently used (AIFM's hot bit), if it is local.
+    /// Records an access to a row group of a column, and marks its object as recently used (AIFM's hot bit) if it is local.
     /// Allocates nothing.
     ///
     /// Refused with the first of these that applies:
@@ -35,17 +35,18 @@ impl<S: FarTickets> Frame<S> {
         Ok(())
     }
 
-    /// Records an access to a row group of a column, whether or not there is such a row group. Allocates nothing.
+    /// Records an access to a row group of a column, even if there is no such row group. Allocates nothing.
     fn record_access(&mut self, column: u32, group: u32)
         ensures accesses { AreObserved column (group ∷ []) self.old self.new }
         ensures here { (id : List ℕ) → AreAt S.is_of id self.old.rows → AreAt S.is_of id self.new.rows }
     {
-        // If there is no such object, none is marked.
+        // If there is no such object, nothing is marked.
         let _used = self.table.touch(column, group);
         self.prefetcher.saw(column, group);
     }
 
-    /// Records an access to each row group that has places `from` up to `to` of a column, in order. Allocates nothing.
+    /// Records an access to each row group that has one of the places `from` to `to`, not including `to`, in order.
+    /// Allocates nothing.
     pub(crate) fn record_accesses(&mut self, column: u32, from: u32, to: u32)
         ensures accesses { AreObserved column (overlapped_groups self.old.rows.size from to) self.old self.new }
         ensures here { (id : List ℕ) → AreAt S.is_of id self.old.rows → AreAt S.is_of id self.new.rows }
@@ -59,13 +60,13 @@ impl<S: FarTickets> Frame<S> {
         }
     }
 
-    /// Checks that a part of a column can be lent: then there is a reply with it. Allocates nothing.
+    /// Checks that a part of a column can be lent. Allocates nothing.
     fn may_lend(&self, column: u32, from: u32, to: u32) -> Result<(), Refusal>
         ensures given { OnOk result ((given : Reply) × IsReplyOf (slice_get self.now.table.schema column) (lent_part self.now.table column from to) given) }
         ensures refused { refusal_in result ≡ lend_refusal self.now.rows column from to }
     {
         let view = self.scope();
-        // For the proof: gives that a row group has a place.
+        // For the proof: shows that row groups are not empty.
         let _size = view.size();
         match view.kind(column) {
             Some(Kind::Int) => {
@@ -80,15 +81,15 @@ impl<S: FarTickets> Frame<S> {
         }
     }
 
-    /// Records that a part of a column was lent, as the step `Lend` records it. Each row group that has some of it is accessed,
-    /// in order, and its object marked as recently used. Use it after reading the part in a view, which copies no value.
-    /// Allocates nothing.
+    /// Records that a part of a column was lent, as the step `Lend` does: accesses each of its row groups in order, and
+    /// marks the objects as recently used. Call it after reading the part through a view, which copies no value. Allocates
+    /// nothing.
     ///
     /// Refused with the first of these that applies:
     ///
     /// - `NoColumn` (4): there is no such column.
     /// - `OutOfRange` (14): `from` is above `to`, or `to` is past the places.
-    /// - `Absent` (16): the object of a row group with some of them is away. It names the first such.
+    /// - `Absent` (16): the object of one of the row groups is away. The refusal names the first.
     ///
     /// A refused call changes nothing.
     pub fn record_lending(&mut self, column: u32, from: u32, to: u32) -> Result<(), Refusal>
@@ -102,8 +103,9 @@ impl<S: FarTickets> Frame<S> {
         Ok(())
     }
 
-    /// Returns the row groups of a column to fetch next. If the last three differences in its history are equal and not 0,
-    /// those are the next two of that stride that exist. Otherwise there are none.
+    /// Returns the row groups of a column to fetch next. If the last four accesses have three equal differences other than
+    /// 0, these are a stride. Returns the next two row groups of the stride, without those that do not exist, and none if
+    /// there is no stride.
     ///
     /// Refused with the first of these that applies:
     ///
@@ -118,7 +120,7 @@ impl<S: FarTickets> Frame<S> {
         if column as usize >= rows.schema().len() {
             return Err(Refusal::NoColumn);
         }
-        // For the proof: give that a table has at most 16,777,216 places.
+        // For the proof: shows that a table has at most 16,777,216 places.
         let _limits = rows.limits();
         let _len = rows.len();
         self.prefetcher

@@ -1,4 +1,4 @@
-// Objects of a table that are pinned, evacuated, fetched and compacted.
+// Pins, evicts, fetches and compacts objects of a table.
 ghost use Rattle.std.specs.Prelude.{◌≡◌, ◌<◌, ◌≤◌, ◌↔◌, ◌⊎◌, ℕ, List, true, OnOk, OnErr, IfOk, IfErr, IfSome, IsErrOf, None};
 ghost use Rattle.far_types.specs.MayRefuse.{MayRefuse};
 ghost use Rattle.far_scopes.specs.Refusing.{refusal_in};
@@ -16,14 +16,14 @@ use far_store::FarTickets;
 use far_types::{Kind, Name, Refusal};
 
 impl<S: FarTickets> Frame<S> {
-    /// Pins the object of a row group of a column once more, so that it does not go away. Allocates nothing.
+    /// Adds a pin to the object of a row group of a column, which then cannot be evicted. Allocates nothing.
     ///
     /// Refused with the first of these that applies:
     ///
     /// - `NoColumn` (4): there is no such column.
-    /// - `OutOfRange` (14): no place of the row group is used.
+    /// - `OutOfRange` (14): the row group has no place.
     /// - `Absent` (16): the object is away.
-    /// - `EditsUsedUp` (24): it has 65,535 pins.
+    /// - `EditsUsedUp` (24): the object has 65,535 pins.
     ///
     /// A refused call changes nothing.
     pub fn pin(&mut self, column: u32, group: u32) -> Result<(), Refusal>
@@ -35,12 +35,12 @@ impl<S: FarTickets> Frame<S> {
         self.table.pin(column, group)
     }
 
-    /// Removes one pin of the object of a row group of a column. Allocates nothing.
+    /// Removes a pin from the object of a row group of a column. Allocates nothing.
     ///
     /// Refused with the first of these that applies:
     ///
     /// - `NoColumn` (4): there is no such column.
-    /// - `OutOfRange` (14): no place of the row group is used.
+    /// - `OutOfRange` (14): the row group has no place.
     /// - `NotPinned` (18): the object has no pin.
     ///
     /// A refused call changes nothing.
@@ -53,12 +53,12 @@ impl<S: FarTickets> Frame<S> {
         self.table.unpin(column, group)
     }
 
-    /// Checks that the object of a row group of a column can go away. Allocates nothing.
+    /// Checks that an eviction of the object of a row group of a column can begin. Allocates nothing.
     ///
     /// Refused with the first of these that applies:
     ///
     /// - `NoColumn` (4): there is no such column.
-    /// - `OutOfRange` (14): no place of the row group is used.
+    /// - `OutOfRange` (14): the row group has no place.
     /// - `Absent` (16): the object is away.
     pub fn may_evac(&self, column: u32, group: u32) -> Result<(), Refusal>
         ensures refused { refusal_in result ≡ evac_refusal self.now.rows column group }
@@ -70,13 +70,13 @@ impl<S: FarTickets> Frame<S> {
         Ok(())
     }
 
-    /// Begins to send the object of a row group of a column away. The job holds the object's far form, or the ticket of a clean
-    /// object. Changes nothing.
+    /// Begins to evict the object of a row group of a column. The job holds the object's far form or, if the object is
+    /// clean, its ticket. Changes nothing.
     ///
     /// Refused with the first of these that applies:
     ///
     /// - `NoColumn` (4): there is no such column.
-    /// - `OutOfRange` (14): no place of the row group is used.
+    /// - `OutOfRange` (14): the row group has no place.
     /// - `Absent` (16): the object is away.
     /// - `NoMemory` (1): an allocation fails.
     pub fn begin_evac(&self, store: &S, column: u32, group: u32) -> Result<Job<S>, Refusal>
@@ -92,8 +92,8 @@ impl<S: FarTickets> Frame<S> {
         })
     }
 
-    /// Returns the object that goes away first: the coldest without a pin, of the kind with less space. `None` if neither kind has
-    /// one. Allocates nothing.
+    /// Returns the eviction victim: the coldest object without a pin, of the kind with less space. `None` if neither kind
+    /// has one. Allocates nothing.
     pub(crate) fn coldest(&self) -> Option<Name>
         ensures coldest { result ≡ coldest self.now.rows }
         ensures free { IfSome result (λ name. evac_refusal self.now.rows name.column name.group ≡ None) }
@@ -101,10 +101,10 @@ impl<S: FarTickets> Frame<S> {
         self.table.coldest()
     }
 
-    /// Begins to send the coldest object without a pin away, of the kind with less space. `None` exactly if neither kind has
+    /// Begins to evict the coldest object without a pin, of the kind with less space. `None` exactly if neither kind has
     /// one. Changes nothing.
     ///
-    /// Refused with `NoMemory` (1) alone.
+    /// Refused only with `NoMemory` (1).
     pub fn begin_coldest(&self, store: &S) -> Result<Option<Job<S>>, Refusal>
         requires here { AreAt S.is_of (S.store_id store.now) self.now.rows }
         ensures begun { IfOk result (IsColdestJob self.now.rows) }
@@ -121,12 +121,12 @@ impl<S: FarTickets> Frame<S> {
         }))
     }
 
-    /// Begins to bring the object of a row group of a column back. Changes and allocates nothing.
+    /// Begins to fetch the object of a row group of a column. Changes and allocates nothing.
     ///
     /// Refused with the first of these that applies:
     ///
     /// - `NoColumn` (4): there is no such column.
-    /// - `OutOfRange` (14): no place of the row group is used.
+    /// - `OutOfRange` (14): the row group has no place.
     /// - `StaleJob` (20): the object is local.
     pub fn begin_fetch(&self, store: &S, column: u32, group: u32) -> Result<Job<S>, Refusal>
         requires here { AreAt S.is_of (S.store_id store.now) self.now.rows }
@@ -141,12 +141,12 @@ impl<S: FarTickets> Frame<S> {
         })
     }
 
-    /// Returns the ticket of the copy of the object of a row group of a column that is away. Allocates nothing.
+    /// Returns the ticket of an object that is away, by its row group and column. Allocates nothing.
     ///
     /// Refused with the first of these that applies:
     ///
     /// - `NoColumn` (4): there is no such column.
-    /// - `OutOfRange` (14): no place of the row group is used.
+    /// - `OutOfRange` (14): the row group has no place.
     /// - `StaleJob` (20): the object is local.
     pub(crate) fn away_copy(&self, column: u32, group: u32) -> Result<&S::Ticket, Refusal>
         ensures ticket { IfOk result (λ ticket. copy_of self.now.rows column group ≡ Some ticket.now) }
@@ -156,11 +156,11 @@ impl<S: FarTickets> Frame<S> {
         self.table.rows().held().away_copy(column as usize, group)
     }
 
-    /// Sends the object of a carried evacuation away; each row, aggregate and answer stays. Allocates nothing.
+    /// Ends a carried eviction: its object is away. No row, aggregate or answer changes. Allocates nothing.
     ///
     /// Refused with the first of these that applies:
     ///
-    /// - `StaleJob` (20): it is any other job, or what the job rests on holds no more: the object was written or away since.
+    /// - `StaleJob` (20): the job is of another kind or phase, or its object was written or away since it began.
     /// - `Pinned` (19): the object has a pin.
     ///
     /// A refused call changes nothing.
@@ -182,12 +182,11 @@ impl<S: FarTickets> Frame<S> {
         }
     }
 
-    /// Brings the object of a carried fetch back; each row, aggregate and answer stays.
+    /// Ends a carried fetch: its object is local. No row, aggregate or answer changes.
     ///
     /// Refused with the first of these that applies:
     ///
-    /// - `StaleJob` (20): it is any other job, or what the job rests on holds no more: the object is local, or was away again
-    ///   since.
+    /// - `StaleJob` (20): the job is of another kind or phase, or its object is local, or was local since it began.
     /// - `RegionFull` (17): the object does not fit.
     /// - `NoMemory` (1): an allocation fails.
     ///
@@ -210,13 +209,13 @@ impl<S: FarTickets> Frame<S> {
         }
     }
 
-    /// Compacts a segment of the objects of a kind. Its parts then lie in the lowest other segment without parts, one after
-    /// the other, those of hot objects first. None of their objects is hot afterwards.
+    /// Compacts a segment of the objects of a kind: moves its parts into the lowest other segment without parts, without
+    /// gaps, those of hot objects first. Clears the hot bits of these objects.
     ///
     /// Refused with the first of these that applies:
     ///
     /// - `OutOfRange` (14): there is no such segment.
-    /// - `RegionFull` (17): no other segment is without parts.
+    /// - `RegionFull` (17): every other segment has a part.
     /// - `NoMemory` (1): an allocation fails.
     ///
     /// A refused call changes nothing.

@@ -1,4 +1,4 @@
-// Row groups that are scanned into aggregates from the far store's copies of their columns.
+// Scans row groups into aggregates from the far copies of their columns.
 ghost use Rattle.std.specs.Prelude.{◌≡◌, is_none, true, IfOk, IfErr, OnOk, OnErr};
 ghost use Rattle.far_types.specs.MayRefuse.{MayRefuse};
 ghost use Rattle.far_scopes.specs.Refusing.{refusal_in};
@@ -14,31 +14,31 @@ use far_store::FarTickets;
 use far_types::Refusal;
 
 impl<S: FarTickets> Frame<S> {
-    /// Returns whether a scan would build a row group into the aggregate of a number, out of memory aside. Allocates nothing.
+    /// Returns whether a row group can be scanned into an aggregate now, if memory allows. Allocates nothing.
     pub fn may_scan(&self, a: u32, group: u32) -> bool
         ensures { result ≡ is_none (scan_refusal (live self.now) (aggregate_at self.now.table a) group) }
     {
         self.table.may_scan(a, group)
     }
 
-    /// Checks that an offloaded build would begin, out of memory aside. Allocates nothing.
+    /// Checks that an offloaded build can begin, if memory allows. Allocates nothing.
     ///
     /// Refused with the first of these that applies:
     ///
     /// - `NoAggregate` (12): there is no such aggregate.
-    /// - `OutOfRange` (14): no place of the row group is used.
-    /// - `StaleJob` (20): it is scanned already, or the object of a column that the aggregate needs is dirty. A clean object
-    ///   may be local or away.
+    /// - `OutOfRange` (14): the row group has no place.
+    /// - `StaleJob` (20): the row group was scanned already, or the object of a column that the aggregate needs is dirty. A
+    ///   clean object may be local or away.
     pub fn may_offload(&self, a: u32, group: u32) -> Result<(), Refusal>
         ensures refused { refusal_in result ≡ offload_refusal (live self.now) (aggregate_at self.now.table a) group }
     {
         self.table.may_offload(a, group)
     }
 
-    /// Begins to build a row group into an aggregate from the far store's copies of its columns. The job holds their tickets
-    /// and the alive flags of the row group. Changes nothing.
+    /// Begins an offloaded build: scanning a row group into an aggregate from the far copies of its columns. The job holds
+    /// their tickets and the alive flags of the row group. Changes nothing.
     ///
-    /// Refused as `may_offload` is, else with `NoMemory` (1) alone.
+    /// Refused as `may_offload` is, otherwise only with `NoMemory` (1).
     pub fn begin_offload(&self, store: &S, a: u32, group: u32) -> Result<Job<S>, Refusal>
         requires here { AreAt S.is_of (S.store_id store.now) self.now.rows }
         ensures begun { IfOk result (IsOffloadJob self.now a group) }
@@ -52,14 +52,14 @@ impl<S: FarTickets> Frame<S> {
         })
     }
 
-    /// Builds the row group of a carried offloaded build into its aggregate, as a scan would. Each row and object stays.
+    /// Ends a carried offloaded build: merges its row group into the aggregate, as a scan would. No row or object changes.
     ///
     /// Refused with the first of these that applies:
     ///
-    /// - `StaleJob` (20): it is no offloaded build.
+    /// - `StaleJob` (20): the job is no offloaded build.
     /// - `NoAggregate` (12): its aggregate is not registered.
-    /// - `StaleJob` (20): it was not carried, or what it rests on holds no more. That is the registration, the objects of the
-    ///   columns that it needs, the flags, and that the row group is still pending.
+    /// - `StaleJob` (20): the job was not carried, or something changed since it began: the aggregate was registered anew,
+    ///   the objects of its columns or the alive flags are others, or the row group was scanned.
     /// - `NoMemory` (1): an allocation fails.
     ///
     /// A refused call changes nothing.

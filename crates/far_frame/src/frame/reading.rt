@@ -1,4 +1,4 @@
-// What can be read of a table's objects, space and aggregates.
+// Describes a table's objects, space and aggregates.
 ghost use Rattle.std.specs.Prelude.{◌≡◌, Some, false, IfOk, IfErr, option_map};
 ghost use Rattle.far_types.specs.MayRefuse.{MayRefuse};
 ghost use Rattle.far_scopes.specs.Refusing.{refusal_in};
@@ -21,12 +21,12 @@ use far_store::FarTickets;
 use far_types::{Key, Kind, Refusal};
 
 impl<S: FarTickets> Frame<S> {
-    /// Returns what the object of a row group of a column is. Allocates nothing.
+    /// Returns the state of the object of a row group of a column. Allocates nothing.
     ///
     /// Refused with the first of these that applies:
     ///
     /// - `NoColumn` (4): there is no such column.
-    /// - `OutOfRange` (14): no place of the row group is used.
+    /// - `OutOfRange` (14): the row group has no place.
     pub fn object(&self, store: &S, column: u32, group: u32) -> Result<ObjectState, Refusal>
         requires here { AreAt S.is_of (S.store_id store.now) self.now.rows }
         ensures state { IfOk result (λ state. option_map (state_of S.number_of self.now.rows) (object_at self.now.rows column group) ≡ Some state) }
@@ -40,21 +40,21 @@ impl<S: FarTickets> Frame<S> {
         Ok(state)
     }
 
-    /// Returns how many row groups are pending in the aggregate of a number, and the first of them, if there is one. `None` if
-    /// there is no such aggregate. Allocates nothing.
+    /// Returns how many row groups are pending in an aggregate, and the first of them. `None` if there is no such
+    /// aggregate. Allocates nothing.
     pub fn pending(&self, a: u32) -> Option<(u32, Option<u32>)>
         ensures { result ≡ option_map pending_of (aggregate_at self.now.table a) }
     {
         self.table.pending(a)
     }
 
-    /// Returns the line of a key in the answer of the aggregate of a number, over the rows as they are, or `None` if the answer has no
-    /// such line. Costs one look-up, and makes no other line. Allocates nothing.
+    /// Returns the line of one key in the answer of an aggregate over the rows as they are, or `None` if the answer has no
+    /// such line. Costs one look-up and makes no other line. Allocates nothing.
     ///
     /// Refused with the first of these that applies:
     ///
     /// - `NoAggregate` (12): there is no such aggregate.
-    /// - `Building` (15): row groups are pending. It says how many.
+    /// - `Building` (15): row groups are pending. The refusal says how many.
     pub fn line(&self, a: u32, key: &Option<Key>) -> Result<Option<Line>, Refusal>
         ensures ok { IfOk result (AnswersKey self.now.table.places (aggregate_at self.now.table a) key.now) }
         ensures err { IfErr result (MayRefuse (ask_refusal (aggregate_at self.now.table a)) false) }

@@ -1,4 +1,4 @@
-// A table that goes on with another far store.
+// Moves a table to another far store.
 ghost use Rattle.std.specs.Prelude.{◌≡◌, ◌+◌, ◌<◌, ◌^◌, [], ◌∷◌, IfOk, IfErr};
 ghost use Rattle.far_store.specs.Faults.{faults_of};
 ghost use Rattle.far_rows.specs.Jobs.{AreAt};
@@ -9,14 +9,14 @@ use super::Frame;
 use far_store::{FarRead, FarStore, Meter};
 use far_types::Refusal;
 
-/// Returns the same table with its far copies in another store: puts the content of each object that is away there. Rows,
-/// aggregates and answers do not change. A local object stays local, with its pins, versions and order of use. It is dirty,
-/// since the new store has no copy of it. Do not use jobs of the old table on the new one.
+/// Moves a table to another store: puts the content of each object that is away there. No row, aggregate or answer changes.
+/// A local object stays local, with its pins, versions and order of use, and is dirty, since the new store has no copy of
+/// it. Do not use jobs of the old table at the new one.
 ///
-/// A refused call returns the table as it was. What was put stays in the new store. Refused with one of these:
+/// A refused call returns the unchanged table; contents that were put stay in the new store. Refused with one of these:
 ///
-/// - `FarFault` (21): one of the stores fails, exactly if the meter rises, by one.
-/// - `FarFull` (22): the new store gives out no more numbers.
+/// - `FarFault` (21): one of the stores fails. Only then the meter rises, by one.
+/// - `FarFull` (22): the new store has no space for another content.
 /// - `NoMemory` (1): an allocation fails.
 pub fn migrate<S: FarRead, N: FarStore>(
     frame: Frame<S>,

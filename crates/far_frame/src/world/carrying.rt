@@ -1,4 +1,4 @@
-// A world whose jobs its caller carries, step by step: the jobs that wait, and what ends them early.
+// Calls for a program that carries a world's jobs itself: which jobs wait, and how they end early.
 ghost use Rattle.std.specs.Prelude.{◌≡◌, ◌+◌, ◌<◌, ◌^◌, [], ◌∷◌, None, IfErr, IfOk, IfSome, IsSome, IsSomeAnd, OnErr, OnOk, length, option_copied, unwrap_or};
 ghost use Rattle.far_rows.specs.Coldest.{coldest};
 ghost use Rattle.far_rows.specs.Moving.{object_refusal};
@@ -17,7 +17,7 @@ use far_store::FarStore;
 use far_types::Refusal;
 
 impl<S: FarStore> World<S> {
-    /// Returns the job of a number; `None` if there is none, or it is spent. Allocates nothing.
+    /// Returns the job of a number; `None` if there is no such job or its number is spent. Allocates nothing.
     pub fn job(&self, n: u64) -> Option<&Job<S>>
         ensures job { option_copied result ≡ job_at self.now.jobs n }
         ensures here { IfSome result (λ job. IsJobAt S.is_of self.now.store job.now) }
@@ -25,8 +25,8 @@ impl<S: FarStore> World<S> {
         self.jobs.get(n)
     }
 
-    /// Returns the number of the content at an index, 0, 1, .., of those that the job of a number has still to read. `None` if
-    /// there are no more than `index` of them. A job that was carried has none. Allocates nothing.
+    /// Returns the number of a content, by its index among those that a job has still to read. `None` if the index is past
+    /// the last. A job that was carried has none. Allocates nothing.
     ///
     /// Refused with `StaleJob` (20) exactly if there is no such job.
     pub fn wanted(&self, n: u64, index: usize) -> Result<Option<u64>, Refusal>
@@ -52,15 +52,15 @@ impl<S: FarStore> World<S> {
         self.begun
     }
 
-    /// Returns how many of them are not spent. Allocates nothing.
+    /// Returns how many jobs have a number that is not spent. Allocates nothing.
     pub fn waiting(&self) -> u64
         ensures { result ≡ length self.now.jobs }
     {
         self.jobs.count()
     }
 
-    /// Begins to send the coldest object without a pin away, of the kind with less space, and returns the number of the job.
-    /// `None` exactly if neither kind has one. Then nothing changes.
+    /// Begins to evict the coldest object without a pin, of the kind with less space, and returns the number of the job.
+    /// Returns `None`, and changes nothing, exactly if neither kind has one.
     ///
     /// Refused with the first of these that applies. A refused call changes nothing.
     ///
@@ -79,7 +79,7 @@ impl<S: FarStore> World<S> {
         Ok(Some(self.add(job)?))
     }
 
-    /// Gives up the job of a number, whatever its phase: its number is spent. Allocates nothing.
+    /// Gives up a job in any phase: spends its number. Allocates nothing.
     ///
     /// Refused with `StaleJob` (20) exactly if there is no such job. A refused call changes nothing.
     pub fn give_up(&mut self, n: u64) -> Result<(), Refusal>
@@ -94,8 +94,8 @@ impl<S: FarStore> World<S> {
         Ok(())
     }
 
-    /// Counts a fault of the storage in what it did for the job of a number, and returns `FarFault` (21). The job waits. If
-    /// there is no such job, it returns `StaleJob` (20), and counts nothing. Allocates nothing.
+    /// Counts a fault of the caller's storage during a job, and returns `FarFault` (21). The job stays. If there is no such
+    /// job, returns `StaleJob` (20) and counts nothing. Allocates nothing.
     pub fn fault(&mut self, n: u64) -> Refusal
         requires few { self.old.faults < 2 ^ 63 }
         ensures refusal { result ≡ unwrap_or (no_job self.old n) Refusal.FarFault }
@@ -108,7 +108,8 @@ impl<S: FarStore> World<S> {
         Refusal::FarFault
     }
 
-    /// Records an access to a row group of a column, and marks its object as recently used, if it is local. Allocates nothing.
+    /// Records an access to a row group of a column, and marks its object as recently used if it is local. Allocates
+    /// nothing.
     ///
     /// Refused with the first of these that applies. A refused call changes nothing.
     ///

@@ -1,4 +1,4 @@
-// A world over a store whose contents the calling program keeps.
+// Calls for a program that keeps the contents of a world's store itself.
 ghost use Rattle.std.specs.Prelude.{◌≡◌, ◌+◌, ◌<◌, ◌^◌, ◌↔◌, [], ◌∷◌, None, IfErr, IsErrOf, OnErr, OnOk};
 ghost use Rattle.far_scopes.specs.Refusing.{refusal_in};
 ghost use Rattle.far_store.specs.Faults.{faults_in};
@@ -17,14 +17,14 @@ use far_store::FarDelivery;
 use far_types::Refusal;
 
 impl<S: FarDelivery> World<S> {
-    /// Takes the bytes that the program kept under a number, for a job that has still to read them. They are copied.
+    /// Takes a copy of the bytes that the program kept under a number, for a job that has still to read them.
     ///
-    /// The condition: if the store takes these bytes for the content of that number, they are that content.
+    /// Premise: if the store accepts these bytes as the content of that number, they are that content.
     ///
     /// Refused with one of these. A refused call changes nothing but the count of faults:
     ///
-    /// - `StaleJob` (20): there is no such job, or it reads no content of this number, or was carried.
-    /// - `FarFault` (21): the bytes are others than those that went out under this number. It is counted.
+    /// - `StaleJob` (20): there is no such job, or it reads no content of this number, or it was carried.
+    /// - `FarFault` (21): these are not the bytes that went out under this number. The fault is counted.
     /// - `NoMemory` (1): an allocation fails.
     pub fn deliver(&mut self, n: u64, number: u64, bytes: &[u8]) -> Result<(), Refusal>
         requires few { self.old.faults < 2 ^ 63 }
@@ -45,7 +45,7 @@ impl<S: FarDelivery> World<S> {
             .deliver(self.alloc, &mut self.meter, ticket, bytes)
     }
 
-    /// Carries the job of a number, as the step `Carry` does. If it is carried, the store lets go of what was delivered for it.
+    /// Carries a job, as the step `Carry` does. If that succeeds, the store forgets what was delivered for the job.
     pub fn carry_delivered(&mut self, n: u64) -> Reply
         requires few { self.old.faults < 2 ^ 63 }
         ensures { IsStep S.content S.number_of self.old (Step.Carry n) result self.new }
@@ -57,7 +57,7 @@ impl<S: FarDelivery> World<S> {
         reply
     }
 
-    /// Gives up the job of a number, as `give_up` does. The store lets go of what was delivered for it.
+    /// Gives up a job, as `give_up` does. The store forgets what was delivered for the job.
     ///
     /// Refused with `StaleJob` (20) exactly if there is no such job. A refused call changes nothing.
     pub fn give_up_delivered(&mut self, n: u64) -> Result<(), Refusal>
@@ -69,7 +69,7 @@ impl<S: FarDelivery> World<S> {
         self.give_up(n)
     }
 
-    /// Lets go of what was delivered for the job of a number, if there is such a job. The world stays as it is. Allocates
+    /// Forgets what was delivered for a job, if there is such a job. The world does not change otherwise. Allocates
     /// nothing.
     pub fn forget(&mut self, n: u64)
         ensures { self.new ≡ self.old }
@@ -80,16 +80,16 @@ impl<S: FarDelivery> World<S> {
         }
     }
 
-    /// Takes the bytes that the program kept for an object that is away, for a migration. They are copied.
+    /// Takes a copy of the bytes that the program kept for an object that is away, for a migration.
     ///
-    /// The condition: if the store takes these bytes for the content of the object's copy, they are that content.
+    /// Premise: if the store accepts these bytes as the content of the object's copy, they are that content.
     ///
     /// Refused with the first of these that applies. A refused call changes nothing but the count of faults:
     ///
     /// - `NoColumn` (4): there is no such column.
-    /// - `OutOfRange` (14): no place of the row group is used.
+    /// - `OutOfRange` (14): the row group has no place.
     /// - `StaleJob` (20): the object is local.
-    /// - `FarFault` (21): the bytes are others than those that went out as the object's content. It is counted.
+    /// - `FarFault` (21): these are not the bytes that went out as the object's content. The fault is counted.
     /// - `NoMemory` (1): an allocation fails.
     pub fn deliver_copy(&mut self, column: u32, group: u32, bytes: &[u8]) -> Result<(), Refusal>
         requires few { self.old.faults < 2 ^ 63 }
@@ -105,7 +105,7 @@ impl<S: FarDelivery> World<S> {
             .deliver(self.alloc, &mut self.meter, ticket, bytes)
     }
 
-    /// Lets go of all that was delivered. The world stays as it is. Allocates nothing.
+    /// Forgets all that was delivered. The world does not change otherwise. Allocates nothing.
     pub fn forget_all(&mut self)
         ensures { self.new ≡ self.old }
     {
@@ -113,7 +113,7 @@ impl<S: FarDelivery> World<S> {
     }
 }
 
-/// Lets go of what was delivered for a job, which has no more tickets than there are columns.
+/// Forgets what was delivered for a job. The job has at most as many tickets as the table has columns.
 fn forget_contents<S: FarDelivery>(store: &mut S, job: &Job<S>, columns: usize)
     requires here { IsJobAt S.is_of (S.store_id store.old) job.now }
     ensures same { S.store_id store.new ≡ S.store_id store.old }

@@ -1,4 +1,4 @@
-// The steps of jobs.
+// Serves the steps of jobs.
 ghost use Rattle.std.specs.Prelude.{◌≡◌, ◌+◌, ◌<◌, ◌^◌, true, OnOk, OnErr, IfOk, IfErr, IsSomeAnd};
 ghost use Rattle.std.specs.Option.{option_or};
 ghost use Rattle.far_types.specs.MayRefuse.{MayRefuse};
@@ -21,7 +21,8 @@ use far_store::{FarStore, FarTickets};
 use far_types::Refusal;
 
 impl<S: FarStore> World<S> {
-    /// Checks that one more job may begin. Refused with `EditsUsedUp` (24) exactly if the numbers of jobs are used up.
+    /// Checks that one more job may begin. Refused with `EditsUsedUp` (24) exactly if as many jobs were begun as edits are
+    /// allowed.
     pub(super) fn may_begin(&self) -> Result<(), Refusal>
         ensures refused { refusal_in result ≡ used_up self.now }
         ensures few { OnOk result (self.now.begun < self.now.state.table.limits.edits) }
@@ -33,7 +34,7 @@ impl<S: FarStore> World<S> {
         Ok(())
     }
 
-    /// Begins an evacuation, if a job may begin.
+    /// Begins an eviction, if a job may begin.
     fn evac(&self, column: u32, group: u32) -> Result<Job<S>, Refusal>
         ensures begun { IfOk result (IsEvacJob self.now.state.rows column group) }
         ensures few { OnOk result (self.now.begun < self.now.state.table.limits.edits) }
@@ -72,7 +73,7 @@ impl<S: FarStore> World<S> {
         self.frame.begin_offload(&self.store, a, group)
     }
 
-    /// Gives a begun job its number. Refused with `NoMemory` (1) alone. A refused call changes nothing.
+    /// Gives a job that was begun its number. Refused only with `NoMemory` (1). A refused call changes nothing.
     pub(super) fn add(&mut self, job: Job<S>) -> Result<u64, Refusal>
         requires next { self.old.begun + 1 < 2 ^ 64 }
         requires here { IsJobAt S.is_of self.old.store job }
@@ -87,7 +88,7 @@ impl<S: FarStore> World<S> {
         Ok(n)
     }
 
-    /// Serves the beginning of an evacuation.
+    /// Serves the beginning of an eviction.
     pub(super) fn begin_evac(&mut self, column: u32, group: u32) -> Reply
         ensures { IsStep S.content S.number_of self.old (Step.BeginEvac column group) result self.new }
     {
@@ -134,7 +135,7 @@ impl<S: FarStore> World<S> {
         Reply::done_or(self.jobs.carry(n, self.alloc, &self.store, &mut self.meter))
     }
 
-    /// Serves the end of an evacuation.
+    /// Serves the end of an eviction.
     pub(super) fn commit(&mut self, n: u64) -> Reply
         ensures { IsStep S.content S.number_of self.old (Step.Commit n) result self.new }
     {
@@ -162,7 +163,7 @@ impl<S: FarStore> World<S> {
     }
 }
 
-/// Ends the job of a number as an evacuation. Refused as the table refuses it, and with `StaleJob` (20) if there is no such job.
+/// Ends a job as an eviction. Refused as the table refuses it, and with `StaleJob` (20) if there is no such job.
 fn end_evac<S: FarTickets>(
     frame: &mut Frame<S>,
     store: &S,
@@ -182,7 +183,7 @@ fn end_evac<S: FarTickets>(
     }
 }
 
-/// Ends the job of a number as a fetch. Refused as the table refuses it, and with `StaleJob` (20) if there is no such job.
+/// Ends a job as a fetch. Refused as the table refuses it, and with `StaleJob` (20) if there is no such job.
 fn end_fetch<S: FarTickets>(
     frame: &mut Frame<S>,
     store: &S,
@@ -202,7 +203,7 @@ fn end_fetch<S: FarTickets>(
     }
 }
 
-/// Ends the job of a number as an offloaded build. Refused as the table refuses it, and with `StaleJob` (20) if there is no such job.
+/// Ends a job as an offloaded build. Refused as the table refuses it, and with `StaleJob` (20) if there is no such job.
 fn end_build<S: FarTickets>(
     frame: &mut Frame<S>,
     store: &S,

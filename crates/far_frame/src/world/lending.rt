@@ -1,4 +1,4 @@
-// The step that lends a part of a column.
+// Serves the step that lends a part of a column.
 ghost use Rattle.std.specs.Prelude.{◌≡◌, ℕ, List, true, None, Some, map, option_copied, slice_get, IfOk, IfErr, OnOk};
 ghost use Rattle.far_types.specs.MayRefuse.{MayRefuse};
 ghost use Rattle.far_rows.specs.Jobs.{AreAt};
@@ -15,7 +15,7 @@ use far_texts::TextCells;
 use far_types::{Kind, Refusal, Text};
 use std::alloc::Global;
 
-/// Lends a part of a column as copies, and records accesses to the row groups that have some of it.
+/// Copies a part of a column, and records the accesses to its row groups.
 pub(super) fn lend<S: FarTickets>(
     frame: &mut Frame<S>,
     alloc: Global,
@@ -35,7 +35,7 @@ pub(super) fn lend<S: FarTickets>(
     }
 }
 
-/// Copies a part of a column, as the reply has it.
+/// Copies a part of a column, as a reply.
 fn copied<S: FarTickets>(
     frame: &Frame<S>,
     alloc: Global,
@@ -54,7 +54,7 @@ fn copied<S: FarTickets>(
     }
 }
 
-/// Copies a part of a column of numbers, a piece for each row group that has some of it.
+/// Copies a part of a column of numbers, as one piece for each of its row groups.
 fn copied_ints<S: FarTickets>(
     frame: &Frame<S>,
     alloc: Global,
@@ -75,7 +75,7 @@ fn copied_ints<S: FarTickets>(
     Ok(copies)
 }
 
-/// Copies a piece of numbers. Refused with `NoMemory` (1) alone.
+/// Copies a piece of numbers. Refused only with `NoMemory` (1).
 fn copy_ints(alloc: Global, lent: &Lent<'_>) -> Result<IntPiece, Refusal>
     ensures copy { IfOk result (λ copy. int_piece copy ≡ ints_lent (lent.now.values.now, lent.now.alive.now)) }
     ensures memory { IfErr result (λ e. e ≡ Refusal.NoMemory) }
@@ -86,7 +86,7 @@ fn copy_ints(alloc: Global, lent: &Lent<'_>) -> Result<IntPiece, Refusal>
     })
 }
 
-/// Copies a part of a column of texts, a piece for each row group that has some of it.
+/// Copies a part of a column of texts, as one piece for each of its row groups.
 fn copied_texts<S: FarTickets>(
     frame: &Frame<S>,
     alloc: Global,
@@ -99,7 +99,7 @@ fn copied_texts<S: FarTickets>(
     ensures refused { IfErr result (MayRefuse (texts_refusal frame.now.rows column from to) true) }
 {
     let view = frame.scope();
-    // Checks that all of it is local before anything is copied.
+    // Checks that the whole part is local before anything is copied.
     view.texts(column, from, to)?;
     let size = view.size();
     let mut copies = Vec::new(alloc);
@@ -113,7 +113,7 @@ fn copied_texts<S: FarTickets>(
     Ok(copies)
 }
 
-/// Copies a piece of texts. Refused with `NoMemory` (1) alone.
+/// Copies a piece of texts. Refused only with `NoMemory` (1).
 fn copy_texts<S: FarTickets>(
     alloc: Global,
     lent: &mut TextCells<'_, S>,
@@ -130,7 +130,7 @@ fn copy_texts<S: FarTickets>(
     Ok(TextPiece { values, flags })
 }
 
-/// Copies a text, if there is one. Refused with `NoMemory` (1) alone.
+/// Copies a text, if there is one. Refused only with `NoMemory` (1).
 fn copy_text(alloc: Global, text: Option<&str>) -> Result<Option<Text>, Refusal>
     ensures copy { IfOk result (λ copy. copy ≡ option_copied text.entry) }
     ensures memory { IfErr result (λ e. e ≡ Refusal.NoMemory) }

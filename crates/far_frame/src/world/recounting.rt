@@ -1,4 +1,4 @@
-// A world's aggregates, computed from scratch.
+// Computes a world's aggregates from scratch.
 ghost use Rattle.std.specs.Prelude.{◌≡◌, ◌+◌, ◌<◌, ◌≤◌, ◌^◌, None, IfErr, IfOk, OnOk};
 ghost use Rattle.far_table.specs.Recounting.{IsAnswerNow, RecountRefusal, recount_refusal};
 
@@ -7,13 +7,13 @@ use far_store::FarStore;
 use far_types::{Answer, Refusal};
 
 impl<S: FarStore> World<S> {
-    /// Returns the answer of the aggregate of a number over the rows as they are, computed from scratch without threads, as
+    /// Computes the answer of an aggregate from scratch, over the rows as they are and without threads, as
     /// `Frame::recount_alone` does. Only the count of faults changes.
     ///
     /// Refused with the first of these that applies:
     ///
     /// - `NoAggregate` (12): there is no such aggregate.
-    /// - `FarFault` (21): the store failed. It is counted.
+    /// - `FarFault` (21): the store failed. The fault is counted.
     /// - `NoMemory` (1): an allocation fails.
     pub fn recount_alone(&mut self, a: u32) -> Result<Answer, Refusal>
         requires few { self.old.faults < 2 ^ 63 }

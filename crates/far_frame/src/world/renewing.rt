@@ -1,4 +1,4 @@
-// A world that goes on with another far store.
+// Moves a world to another far store.
 ghost use Rattle.std.specs.Prelude.{◌≡◌, ◌+◌, ◌<◌, ◌^◌, [], ◌∷◌, IfOk, IfErr};
 ghost use Rattle.far_store.specs.Faults.{faults_of};
 ghost use Rattle.far_frame.specs.Jobs.{IsOneOf};
@@ -12,13 +12,14 @@ use far_store::FarStore;
 use far_types::Refusal;
 
 impl<S: FarStore> World<S> {
-    /// Returns the same table with its far copies in another store. All numbers of jobs that were begun are spent, and the
-    /// count goes on.
+    /// Moves the world to another store: puts the content of each object that is away there. All numbers of jobs that were
+    /// begun are spent, and the numbering goes on.
     ///
-    /// A refused call returns the world as it was, jobs included, but for its count of faults. Refused with one of these:
+    /// A refused call returns the world, jobs included; only its count of faults may have changed. Refused with one of
+    /// these:
     ///
-    /// - `FarFault` (21): one of the stores fails. It is counted.
-    /// - `FarFull` (22): the new store gives out no more numbers.
+    /// - `FarFault` (21): one of the stores fails. The fault is counted.
+    /// - `FarFull` (22): the new store has no space for another content.
     /// - `NoMemory` (1): an allocation fails.
     pub fn migrate<N: FarStore>(self, new_store: N) -> Result<World<N>, (Refusal, World<S>)>
         requires few { self.faults < 2 ^ 62 }

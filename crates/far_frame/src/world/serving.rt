@@ -1,4 +1,4 @@
-// The steps that the table alone serves.
+// Serves the steps that need only the table.
 ghost use Rattle.std.specs.Prelude.{◌≡◌, ℕ, List};
 ghost use Rattle.far_rows.specs.Jobs.{AreAt};
 ghost use Rattle.far_frame.specs.Effects.{Changes};
@@ -28,7 +28,7 @@ pub(super) fn edit<S: FarTickets>(frame: &mut Frame<S>, edit: Edit) -> Reply
     }
 }
 
-/// Serves a registration.
+/// Serves the registration of an aggregate.
 pub(super) fn watch<S: FarTickets>(frame: &mut Frame<S>, spec: Spec) -> Reply
     ensures changes { Changes S.content frame.old (Step.Watch spec) result frame.new }
     ensures rows { frame.new.rows ≡ frame.old.rows }
@@ -39,7 +39,7 @@ pub(super) fn watch<S: FarTickets>(frame: &mut Frame<S>, spec: Spec) -> Reply
     }
 }
 
-/// Forgets an aggregate.
+/// Serves the step that forgets an aggregate.
 pub(super) fn unwatch<S: FarTickets>(frame: &mut Frame<S>, a: u32) -> Reply
     ensures changes { Changes S.content frame.old (Step.Unwatch a) result frame.new }
     ensures rows { frame.new.rows ≡ frame.old.rows }
@@ -47,7 +47,7 @@ pub(super) fn unwatch<S: FarTickets>(frame: &mut Frame<S>, a: u32) -> Reply
     Reply::done_or(frame.unwatch(a))
 }
 
-/// Scans a row group into an aggregate.
+/// Serves the scan of a row group into an aggregate.
 pub(super) fn scan_group<S: FarTickets>(frame: &mut Frame<S>, a: u32, group: u32) -> Reply
     ensures changes { Changes S.content frame.old (Step.ScanGroup a group) result frame.new }
     ensures rows { frame.new.rows ≡ frame.old.rows }
@@ -55,7 +55,7 @@ pub(super) fn scan_group<S: FarTickets>(frame: &mut Frame<S>, a: u32, group: u32
     Reply::done_or(frame.scan_group(a, group))
 }
 
-/// Asks an aggregate.
+/// Serves the question for an aggregate's answer.
 pub(super) fn ask<S: FarTickets>(frame: &Frame<S>, a: u32) -> Reply
     ensures { Changes S.content frame.now (Step.Ask a) result frame.now }
 {
@@ -65,7 +65,7 @@ pub(super) fn ask<S: FarTickets>(frame: &Frame<S>, a: u32) -> Reply
     }
 }
 
-/// Pins an object once more.
+/// Serves the step that adds a pin to an object.
 pub(super) fn pin<S: FarTickets>(frame: &mut Frame<S>, column: u32, group: u32) -> Reply
     ensures changes { Changes S.content frame.old (Step.Pin column group) result frame.new }
     ensures here { (id : List ℕ) → AreAt S.is_of id frame.old.rows → AreAt S.is_of id frame.new.rows }
@@ -73,7 +73,7 @@ pub(super) fn pin<S: FarTickets>(frame: &mut Frame<S>, column: u32, group: u32) 
     Reply::done_or(frame.pin(column, group))
 }
 
-/// Pins an object once less.
+/// Serves the step that removes a pin from an object.
 pub(super) fn unpin<S: FarTickets>(frame: &mut Frame<S>, column: u32, group: u32) -> Reply
     ensures changes { Changes S.content frame.old (Step.Unpin column group) result frame.new }
     ensures here { (id : List ℕ) → AreAt S.is_of id frame.old.rows → AreAt S.is_of id frame.new.rows }
@@ -81,7 +81,7 @@ pub(super) fn unpin<S: FarTickets>(frame: &mut Frame<S>, column: u32, group: u32
     Reply::done_or(frame.unpin(column, group))
 }
 
-/// Compacts a segment.
+/// Serves the compaction of a segment.
 pub(super) fn compact<S: FarTickets>(frame: &mut Frame<S>, kind: Kind, segment: u32) -> Reply
     ensures changes { Changes S.content frame.old (Step.Compact kind segment) result frame.new }
     ensures here { (id : List ℕ) → AreAt S.is_of id frame.old.rows → AreAt S.is_of id frame.new.rows }
@@ -89,7 +89,7 @@ pub(super) fn compact<S: FarTickets>(frame: &mut Frame<S>, kind: Kind, segment: 
     Reply::done_or(frame.compact(kind, segment))
 }
 
-/// Asks which row groups of a column to fetch next.
+/// Serves the question which row groups of a column to fetch next.
 pub(super) fn prefetch<S: FarTickets>(frame: &Frame<S>, column: u32) -> Reply
     ensures { Changes S.content frame.now (Step.Prefetch column) result frame.now }
 {

@@ -13,7 +13,7 @@ fn keep_up(alive: &mut Alive, count: usize) -> Result<(), Refusal> {
     Ok(())
 }
 
-/// Returns so many flags, of which the first is cleared. Refused with `NoMemory` if memory runs out.
+/// Returns this many flags, of which the first is cleared. Refused only with `NoMemory` (1).
 pub fn flags(alloc: Global, count: usize) -> Result<Alive, Refusal> {
     let mut alive = Alive::new(alloc);
     for _ in 0..count {

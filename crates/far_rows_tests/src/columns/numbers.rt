@@ -77,7 +77,7 @@ fn is_lent<S: FarTickets>(
     }
 }
 
-// Fills an empty column, and returns whether its first piece is as it was filled.
+// Fills an empty column, and returns whether its first piece has the numbers.
 fn is_lent_as_filled<S: FarTickets>(
     objects: &mut Objects<Option<i64>, S>,
     column: &mut IntColumn,
@@ -109,7 +109,7 @@ fn reads_back<S: FarTickets>(alloc: Global) -> Result<bool, Refusal> {
     }
 }
 
-/// No store is made: an object that is local needs none.
+/// Makes no store, since local objects need none.
 #[test]
 fn numbers_are_pushed_set_and_lent(rt: HostRuntime) {
     assert!(rt; reads_back::<AgentStore<&'_ HostRuntime>>(rt.alloc()) == Ok(true));

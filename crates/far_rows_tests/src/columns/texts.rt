@@ -16,7 +16,7 @@ use far_texts::laws::columns_stay_together;
 use far_types::{Refusal, Text};
 use std::alloc::Global;
 
-/// How many columns there are, and how many places a row group has.
+/// The number of columns, and of places in a row group.
 #[derive(Clone, Copy)]
 struct Layout {
     columns: u32,
@@ -39,7 +39,7 @@ fn no_texts(alloc: Global, layout: Layout) -> Result<Vec<TextColumn>, Refusal>
     Ok(columns)
 }
 
-// Returns the k-th column, counted from 0. Refused with `NoColumn` if there are fewer.
+// Returns column `k`, counted from 0. Refused with `NoColumn` if there is none.
 fn column_of<'a, S: FarTickets>(
     _objects: &Objects<u8, S>,
     columns: &'a [TextColumn],
@@ -62,7 +62,7 @@ fn two_texts(alloc: Global) -> Result<[Option<Text>; 2], Refusal> {
     ])
 }
 
-/// What is tried on an empty collection of objects of texts.
+/// A trial on an empty collection of objects of texts.
 #[derive(Clone, Copy)]
 enum Trial {
     OneColumn,
@@ -92,7 +92,7 @@ fn comes_out<S: FarTickets>(alloc: Global, trial: Trial) -> Result<bool, Refusal
     }
 }
 
-/// No store is made: an object that is local needs none.
+/// Makes no store, since local objects need none.
 #[test]
 fn texts_are_pushed_set_and_lent(rt: HostRuntime) {
     assert!(rt; comes_out::<AgentStore<&'_ HostRuntime>>(rt.alloc(), Trial::OneColumn) == Ok(true));

@@ -1,8 +1,8 @@
-// The calls that cases make.
+// The calls of cases.
 use far_evacuator::Want;
 use far_types::Refusal;
 
-/// A call, with the list that it is given.
+/// A call, with the list that it takes.
 #[derive(Drop)]
 pub enum Call<L> {
     Create(L),
@@ -11,10 +11,10 @@ pub enum Call<L> {
     Move(Phase),
 }
 
-/// What is done to an object.
+/// A change of an object.
 #[derive(Drop)]
 pub enum Change<L> {
-    /// Writes a list over the object's, if it is as long.
+    /// Overwrites the object's list by one of the same length.
     Write(L),
     Replace(L),
     Pin,
@@ -22,7 +22,8 @@ pub enum Change<L> {
     Touch,
 }
 
-/// A phase of an evacuation or of a fetch. A carry takes the job that was begun last, a commit or an install the one carried last.
+/// A phase of an eviction or of a fetch. A carry takes the job that was begun last, a commit or an install the one carried
+/// last.
 #[derive(Clone, Copy)]
 pub enum Phase {
     Begin(Want),
@@ -33,7 +34,7 @@ pub enum Phase {
     Install,
 }
 
-/// Returns the reply of a call that gives no number: 0 stands for its `Ok`.
+/// Returns the reply of a call without result, with 0 for `Ok`.
 pub fn done(reply: Result<(), Refusal>) -> Result<u32, Refusal> {
     match reply {
         Ok(()) => Ok(0),
@@ -41,7 +42,7 @@ pub fn done(reply: Result<(), Refusal>) -> Result<u32, Refusal> {
     }
 }
 
-/// Returns the refusal of a call that needs object `o` to be local.
+/// Returns the refusal of a call on object `o` while it is away.
 pub fn away(o: u32) -> Refusal {
     Refusal::Absent {
         column: 0,

@@ -39,7 +39,7 @@ impl<'a, T: Element, S: FarStore> Model for Fixture<'a, T, S> {
 }
 
 impl<'a, T: Element, S: FarStore> Fixture<'a, T, S> {
-    /// Returns an empty collection of objects, with no job. Refused as `Objects::new` is.
+    /// Returns a fixture without objects and jobs. Refused as `Objects::new` is.
     pub fn new(
         alloc: Global,
         store: &'a S,
@@ -50,7 +50,7 @@ impl<'a, T: Element, S: FarStore> Fixture<'a, T, S> {
         Ok(Fixture::over(store, objects))
     }
 
-    // Returns objects with their store, and no job.
+    // Returns a fixture of these objects and their store, without jobs.
     fn over(store: &'a S, objects: Objects<T, S>) -> Fixture<'a, T, S>
         requires here { AreHere S.is_of (S.store_id store.now) objects }
         requires clean { AreClean T.meaning S.content objects }
@@ -65,7 +65,7 @@ impl<'a, T: Element, S: FarStore> Fixture<'a, T, S> {
         }
     }
 
-    /// Empties the collection of objects and gives it another number. The jobs stay.
+    /// Replaces the objects by an empty collection of another frame. The jobs stay.
     pub fn clear(
         &mut self,
         alloc: Global,
@@ -76,8 +76,8 @@ impl<'a, T: Element, S: FarStore> Fixture<'a, T, S> {
         Ok(())
     }
 
-    /// Makes a call, and once more if it runs out of memory and leaves the objects as they were. Returns the number that the call
-    /// gives, or 0 if it gives none. Refused with `NoRow` if there is no such object.
+    /// Makes a call, again if it runs out of memory and changed nothing. Returns the number that the call returns, or 0.
+    /// Refused with `NoRow` if there is no such object.
     pub fn make(&mut self, alloc: Global, call: &Call<&[T]>) -> Result<u32, Refusal> {
         let before = digest_of(&self.objects);
         match self.make_once(alloc, call) {
@@ -103,7 +103,8 @@ impl<'a, T: Element, S: FarStore> Fixture<'a, T, S> {
         self.objects.lend(o)
     }
 
-    /// Returns `Ok` if an object may be written. Refused with `NoRow` if there is no such object, and else as `Objects::may_write` is.
+    /// Checks that an object may be written. Refused with `NoRow` if there is no such object, and otherwise as
+    /// `Objects::may_write` is.
     pub fn may_write(&self, o: u32) -> Result<(), Refusal> {
         if o >= self.objects.count() {
             return Err(Refusal::NoRow);

@@ -1,4 +1,4 @@
-// Jobs that are begun, carried, accepted and found stale: cases, each played on objects of its own.
+// Cases of jobs that are accepted or found stale, each with its own objects.
 mod cases;
 
 use crate::evacuator::call::Call::{self, Create, Move};
@@ -23,25 +23,25 @@ struct Case {
     steps: &'static [Step],
 }
 
-/// A step: what is done, and how it should turn out.
+/// A step, with its expected result.
 enum Step {
-    /// The call is accepted.
+    /// This call is accepted.
     Done(Call<&'static [i64]>),
-    /// The call is refused, with this refusal.
+    /// This call is refused, with this refusal.
     Refused(Call<&'static [i64]>, Refusal),
-    /// The object is evacuated.
+    /// Evicts the object.
     SentAway(u32),
-    /// The object is fetched.
+    /// Fetches the object.
     BroughtBack(u32),
     /// The object is away: it can be neither read nor written.
     IsAway(u32),
     /// The object is local, with this list.
     Has(u32, &'static [i64]),
-    /// The frame gets this number, and eight new objects in place of the old ones.
+    /// Gives the frame this number, and replaces the objects by eight new ones.
     Frame(u32),
 }
 
-/// Returns the index of the first step of a case that turns out otherwise.
+/// Returns the index of the first step of a case with another result.
 fn play<R: Wait + Sync + Drop + Copy>(
     rt: R,
     alloc: Global,
@@ -50,8 +50,8 @@ fn play<R: Wait + Sync + Drop + Copy>(
     play_in(alloc, sound(rt, alloc, case.store), case)
 }
 
-// The same over a store, if it was made. It fails as the case says. The store is of a type parameter, so to take it out of its result
-// costs the proof little.
+// Returns the same for this store, if it was made. It fails as the case says. Generic over the store, so that taking it out
+// of its result is cheap to prove.
 fn play_in<S: FarStore>(
     alloc: Global,
     store: Result<S, Refusal>,
@@ -116,7 +116,7 @@ fn are_done<S: FarStore>(
     true
 }
 
-// Returns whether an object can be neither read nor written since it is away.
+// Returns whether an object can be neither read nor written because it is away.
 fn is_away<S: FarStore>(fixture: &Fixture<'_, i64, S>, o: u32) -> bool {
     fixture.list(o) == Err(away(o)) && fixture.may_write(o) == Err(away(o))
 }
@@ -134,7 +134,7 @@ fn begins_frame<S: FarStore>(
     begins
 }
 
-/// Returns whether a case comes out over one log, and this many bytes of the log are used at the end.
+/// Returns whether a case passes over one log and uses this many bytes of it.
 fn uses_log<R: Wait + Sync + Drop + Copy>(
     rt: R,
     alloc: Global,
@@ -152,14 +152,14 @@ fn uses_log<R: Wait + Sync + Drop + Copy>(
     }
 }
 
-// Plays cases, and fails if a step of one turns out otherwise.
+// Plays cases, and fails at the first step with another result.
 fn play_all<R: Wait + Sync + Drop + Copy>(
     rt: R,
     alloc: Global,
     cases: &[Case],
 ) -> Result<(), Fail> {
     for case in cases {
-        // Plays once more if memory ran out for the store or the objects.
+        // Plays once more if there was no memory for the store or the objects.
         let wrong = match play(rt, alloc, case) {
             Err(Refusal::NoMemory) => play(rt, alloc, case),
             reply => reply,
@@ -178,7 +178,7 @@ fn cases_turn_out(rt: HostRuntime) -> Result<(), Fail> {
 
 #[test]
 fn objects_come_and_go_over_one_log(rt: HostRuntime) {
-    // Three far forms of two numbers, of 22 bytes each: a log takes a form for each write, and none for an object that was not
+    // Three far forms of two numbers, of 22 bytes each. Only writing takes space in the log, and a clean object is not
     // written.
     assert!(rt; uses_log(&rt, rt.alloc(), &cases::COME_AND_GO, 66) == Ok(true));
 }

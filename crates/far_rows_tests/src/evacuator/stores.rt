@@ -1,22 +1,22 @@
-// The stores over which cases are played.
+// The stores for cases.
 use far_byte_log::ByteLog;
 use far_store::EngineStore;
 use far_types::Refusal;
 use std::alloc::Global;
 
-/// A store over a log of bytes, and where it fails.
+/// A store over a log of bytes, and when it fails.
 #[derive(Clone, Copy)]
 pub struct Plan {
-    /// How many bytes its log takes.
+    /// The capacity of its log, in bytes.
     pub bytes: usize,
-    /// How many contents it takes.
+    /// How many contents it can hold.
     pub capacity: u64,
-    /// The put and the get that fail, each counted from 1; 0 is none.
+    /// The number of the put, and of the get, that fails, counted from 1; 0 for none.
     pub failing_put: u64,
     pub failing_get: u64,
 }
 
-/// Returns a store over a log of so many bytes. Its log fails only if it is full. Refused with `NoMemory` if memory runs out.
+/// Returns a store over a log of this many bytes, which fails only if the log is full. Refused only with `NoMemory` (1).
 pub fn sound<R: Drop>(
     rt: R,
     alloc: Global,

@@ -1,4 +1,4 @@
-// Callers that learn something of the objects of rows from one call on the rows, and from nothing else.
+// Callers that know about the objects of rows only what one call on the rows says.
 ghost use Rattle.std.specs.Prelude.{◌≡◌, ◌*◌, ◌<◌, IfOk, IsOk, Some, length, option_map};
 ghost use Rattle.far_scopes.specs.Memory.{list_in};
 
@@ -8,13 +8,13 @@ use far_rows::{Object, Rows};
 use far_store::FarTickets;
 use far_types::{Kind, Refusal};
 
-// Returns the kind of the column that an object is named by. The object is one of those that columns of this kind have.
+// Returns the kind of the column that owns an object. `kind` is the kind of the object.
 fn owner<S: FarTickets>(rows: &Rows<S>, kind: Kind, o: u32) -> Option<Kind>
     requires number { kind ≡ Kind.Int → o < length rows.now.number_objects.records }
     requires text { kind ≡ Kind.Text → o < length rows.now.text_objects.records }
     ensures { result ≡ Some kind }
 {
-    // For the proof: gives to which column each object belongs.
+    // For the proof: shows which column owns each object.
     let _len = rows.len();
     let name = match kind {
         Kind::Int => rows.number_objects().name(o),
@@ -23,13 +23,13 @@ fn owner<S: FarTickets>(rows: &Rows<S>, kind: Kind, o: u32) -> Option<Kind>
     rows.kind(name.column as usize)
 }
 
-// Returns the object of a column's row group. There is one, since the row group has a place.
+// Returns the object of a column's row group. The row group must have been begun, so there is one.
 fn object_begun<S: FarTickets>(rows: &Rows<S>, column: usize, group: u32) -> Result<Object, Refusal>
     requires column { column < length rows.now.column_indexes }
     requires used { group * rows.now.size < length rows.now.alive }
     ensures { IsOk result }
 {
-    // For the proof: gives that each column has an object for each row group that has a place.
+    // For the proof: shows that each column has an object for each row group that was begun.
     let _len = rows.len();
     rows.object(column, group)
 }
@@ -52,7 +52,8 @@ fn text_kind<S: FarTickets>(rows: &Rows<S>, o: u32) -> Result<Option<Kind>, Refu
     Ok(kind_of(form))
 }
 
-/// Returns whether the first two columns of a table, one of texts and one of numbers, have their first objects, and both are local.
+/// Returns whether the first two columns of a table, one of texts and one of numbers, have their first objects, and both
+/// are local.
 pub fn have_their_objects<S: FarTickets>(rows: &Rows<S>) -> bool {
     rows.len() > 0
         && rows.column_indexes().len() >= 2

@@ -1,4 +1,4 @@
-// A table with its store, and calls on it: a column of texts, one of numbers, and one more of each.
+// A table of two columns of texts and two of numbers, alternating, with its store, and calls on it.
 ghost use Rattle.std.specs.Prelude.{◌≡◌, [], ◌∷◌, ℕ, List, length, IfOk};
 ghost use Rattle.far_types.specs.declared.cell.Kind.TheVariants.{Int, Text};
 ghost use Rattle.far_scopes.specs.Movement.{AreHere};
@@ -49,7 +49,7 @@ impl<'a, S: FarStore> Model for Fixture<'a, S> {
 }
 
 impl<'a, S: FarStore> Fixture<'a, S> {
-    /// Returns a table without a row. Refused as `Rows::new` is.
+    /// Returns a fixture with a table without rows. Refused as `Rows::new` is.
     pub fn new(
         alloc: Global,
         store: &'a S,
@@ -67,7 +67,8 @@ impl<'a, S: FarStore> Fixture<'a, S> {
         &self.rows
     }
 
-    /// Moves the table's far copies to the other store. Refused as `Rows::renewal` is. The call is made once, even if memory runs out.
+    /// Moves the table's far copies to the other store. Refused as `Rows::renewal` is. The call is not repeated if memory
+    /// runs out.
     pub fn moved(self, alloc: Global) -> Result<Fixture<'a, S>, Refusal> {
         let rows = self.rows;
         match rows.renewal(alloc, self.store, self.other, &mut Meter::new()) {
@@ -83,7 +84,7 @@ impl<'a, S: FarStore> Fixture<'a, S> {
         }
     }
 
-    /// Makes a call and returns its reply. A call that runs out of memory is made once more.
+    /// Makes a call, again if it runs out of memory, and returns its reply.
     pub fn answer(&mut self, alloc: Global, call: &Call) -> Result<(), Refusal> {
         match self.reply(alloc, call) {
             Err(Refusal::NoMemory) => self.reply(alloc, call),
@@ -110,7 +111,7 @@ fn four_columns(alloc: Global) -> Result<Schema, Refusal>
     Schema::new(Vec::from_array(alloc, kinds)?)
 }
 
-// Returns a table without a row.
+// Returns a table without rows.
 fn no_rows<S: FarStore>(alloc: Global, limits: &Limits) -> Result<Rows<S>, Refusal>
     ensures numbers { IfOk result (λ rows. length rows.numbers ≡ 2) }
     ensures texts { IfOk result (λ rows. length rows.texts ≡ 2) }

@@ -1,4 +1,4 @@
-// What the tests look at in a table: each fact is what one call returns.
+// Facts about a table. One call on the table checks each.
 mod naming;
 
 use crate::cell::Cell;
@@ -9,25 +9,25 @@ use far_store::FarTickets;
 use far_types::{CellRef, Name, Refusal};
 use naming::{numbers_named, texts_named};
 
-/// A fact that should hold of a table.
+/// A fact that should hold for a table.
 pub enum Look {
-    /// A place has these values, read cell by cell, and as one row.
+    /// A place has these values, read cell by cell and as one row.
     Values(usize, Values),
-    /// The column and the row group of the coldest object, if there is one.
+    /// The coldest object, if there is one, is of this column and row group.
     Coldest(Option<Name>),
     /// Whether the far store has a current copy of a row group of a column.
     Copy(usize, u32, bool),
-    /// How many objects of numbers, and how many of texts, are found by their own column and row group.
+    /// This many objects of numbers, and of texts, are found by their column and row group.
     AreNamed(u32, u32),
-    /// The first two columns have objects of the right kinds, as calls on the rows show (`have_their_objects`).
+    /// The first two columns have objects of the right kinds (`have_their_objects`).
     HaveTheirObjects,
-    /// Why a column's cell at a place is refused, or `None` if it is not.
+    /// The refusal to read a column's cell at a place, or `None` if it can be read.
     Cell(usize, usize, Option<Refusal>),
-    /// The numbers of a row group of a column.
+    /// A row group of a column has these numbers.
     Numbers(usize, u32, &'static [Option<i64>]),
 }
 
-/// Returns whether a fact holds of a table.
+/// Returns whether a fact holds for a table.
 pub fn is_so<S: FarTickets>(rows: &Rows<S>, look: &Look) -> bool {
     match look {
         Look::Values(place, values) => has_values(rows, *place, values),
@@ -42,7 +42,7 @@ pub fn is_so<S: FarTickets>(rows: &Rows<S>, look: &Look) -> bool {
     }
 }
 
-// Returns whether a place has these values and no more, read cell by cell and as one row.
+// Returns whether a place has exactly these values, read cell by cell and as one row.
 fn has_values<S: FarTickets>(rows: &Rows<S>, place: usize, values: &Values) -> bool {
     if place >= rows.len() {
         return false;
@@ -59,7 +59,7 @@ fn has_values<S: FarTickets>(rows: &Rows<S>, place: usize, values: &Values) -> b
     true
 }
 
-// Returns the value for a column, if there is one.
+// Returns the value for a column, if there is such a column.
 fn value_in(values: &Values, column: usize) -> Option<Cell> {
     match column {
         0 => Some(values.0),
@@ -70,7 +70,7 @@ fn value_in(values: &Values, column: usize) -> Option<Cell> {
     }
 }
 
-// Returns whether both are the same cell, or neither is one.
+// Returns whether both are the same cell, or both are `None`.
 fn is_cell(one: Option<CellRef<'_>>, other: Option<Cell>) -> bool {
     match (one, other) {
         (Some(CellRef::Int(one)), Some(Cell::Number(other))) => one == other,

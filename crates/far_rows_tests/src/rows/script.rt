@@ -1,5 +1,5 @@
-// Scripts: calls on a table, and facts that should hold between them. They are data, since the proof of a test grows with its steps. One
-// player makes the stores and the table for all scripts.
+// Scripts: calls on a table, and facts that hold between them. They are data, since the proof of a test grows with its
+// steps. One function plays all scripts, with stores and a table for each.
 use crate::cell::Cell;
 use crate::fixtures::agent;
 use crate::rows::fixture::{Fixture, LIMITS, Values};
@@ -14,25 +14,25 @@ use std::test::Fail;
 #[derive(Drop)]
 pub enum Call {
     Push(Values),
-    /// The column, the place and the value.
+    /// Takes a column, a place and a value.
     Set(usize, usize, Cell),
-    /// The column and the row group.
+    /// Takes a column and a row group.
     Evacuate(usize, u32),
     FetchBack(usize, u32),
-    /// The segment.
+    /// Takes a segment.
     CompactNumbers(u32),
     CompactTexts(u32),
 }
 
-/// A line of a script.
+/// A step of a script.
 pub enum Step {
-    /// A call that is accepted.
+    /// This call is accepted.
     Does(Call),
-    /// A fact that holds of the table.
+    /// This fact holds.
     Is(Look),
 }
 
-/// A script on a table of its own, which begins without a row.
+/// A script for a table, which has no rows at first.
 pub struct Case {
     pub name: &'static str,
     pub steps: &'static [Step],
@@ -40,7 +40,7 @@ pub struct Case {
     pub moved: &'static [Step],
 }
 
-/// Plays cases. Fails at the first step that does not come out as it should, and names the case and the index of the step.
+/// Plays cases. Fails at the first step with another result, and names the case and the index of the step.
 pub fn play<R: Wait + Sync + Drop + Copy>(
     rt: R,
     alloc: Global,
@@ -54,7 +54,7 @@ pub fn play<R: Wait + Sync + Drop + Copy>(
     Ok(())
 }
 
-// Returns the index of the first step of a case that does not come out as it should.
+// Returns the index of the first step of a case with another result.
 fn first_wrong<R: Wait + Sync + Drop + Copy>(
     rt: R,
     alloc: Global,
@@ -64,8 +64,8 @@ fn first_wrong<R: Wait + Sync + Drop + Copy>(
     first_wrong_over(alloc, first, agent(rt, alloc, 16), case)
 }
 
-// The same over two stores, if they were made. The stores are of a type parameter, so to take them out of their results costs the proof
-// little.
+// Returns the same for these two stores, if they were made. Generic over the stores, so that taking them out of their
+// results is cheap to prove.
 fn first_wrong_over<S: FarStore>(
     alloc: Global,
     first: Result<S, Refusal>,
@@ -104,7 +104,7 @@ fn first_wrong_in<S: FarStore>(
     }
 }
 
-// The same for the steps after the table has moved to the other store. Their indices begin at `from`.
+// Returns the same for the steps after the table has moved to the other store. Their indices begin at `from`.
 fn first_wrong_moved<S: FarStore>(
     alloc: Global,
     fixture: Fixture<'_, S>,
@@ -135,7 +135,7 @@ fn first_wrong_step<S: FarStore>(
     None
 }
 
-// Returns whether a step comes out as it should.
+// Returns whether a step has its expected result.
 fn comes_out<S: FarStore>(alloc: Global, fixture: &mut Fixture<'_, S>, step: &Step) -> bool {
     match step {
         Step::Does(call) => fixture.answer(alloc, call) == Ok(()),

@@ -10,8 +10,8 @@ use far_store::{FarStore, FarTickets};
 use far_types::{Name, Refusal};
 use std::alloc::Global;
 
-/// Makes a call, and once more if it runs out of memory, and returns its last reply. A refused call must leave the objects as they were:
-/// else the reply is `WRONG`.
+/// Makes a call, again if it runs out of memory, and returns its last reply. Returns `WRONG` if a refused call changed the
+/// objects.
 pub fn last_reply<S: FarStore>(
     alloc: Global,
     store: &S,
@@ -106,8 +106,8 @@ fn pin_often<S: FarTickets>(
     Ok(())
 }
 
-/// Pins three listed objects as a scope, and closes it. Finds that the close removes so many pins. With `unpins`, a pin of the first
-/// object is removed before.
+/// Pins three objects as a scope, and closes it, which must remove this many pins. With `unpins`, removes a pin of the
+/// first object before the close.
 fn pin_three<S: FarTickets>(
     alloc: Global,
     objects: &mut Objects<i64, S>,
@@ -158,7 +158,7 @@ fn pin_and_unpin<S: FarTickets>(
     found(objects.close(scope) == pins)
 }
 
-/// Removes a pin of an object, if it has one. The number of objects stays.
+/// Removes a pin of an object, if it has one. Keeps the number of objects.
 fn unpin_one<S: FarTickets>(objects: &mut Objects<i64, S>, o: u32)
     requires within { o < length objects.old.records }
     ensures count { length objects.new.records ≡ length objects.old.records }
@@ -167,7 +167,7 @@ fn unpin_one<S: FarTickets>(objects: &mut Objects<i64, S>, o: u32)
     objects.unpin(o).ok();
 }
 
-/// Pins listed objects as a scope. The number of objects stays. Refused as `Objects::enter` is.
+/// Pins objects as a scope. Keeps the number of objects. Refused as `Objects::enter` is.
 fn enter<S: FarTickets>(
     alloc: Global,
     objects: &mut Objects<i64, S>,
@@ -183,7 +183,7 @@ fn enter<S: FarTickets>(
     Ok(scope)
 }
 
-/// Replaces an object's list by the call that replaces several.
+/// Replaces an object's list, by the call that can replace several.
 fn give<S: FarTickets>(
     objects: &mut Objects<i64, S>,
     replacement: Replacement<i64>,
@@ -195,7 +195,7 @@ fn give<S: FarTickets>(
     objects.replace_all(&[replacement])
 }
 
-/// Returns a list to replace that of an object.
+/// Returns the replacement of an object's list by a list.
 fn replacement(alloc: Global, object: u32, list: &[i64]) -> Result<Replacement<i64>, Refusal>
     ensures object { IfOk result (λ r. r.object ≡ object) }
     ensures list { IfOk result (λ r. r.list.items ≡ list.now) }
@@ -206,7 +206,7 @@ fn replacement(alloc: Global, object: u32, list: &[i64]) -> Result<Replacement<i
     })
 }
 
-/// Returns `Ok` if a fact holds of an object, and `WRONG` if not.
+/// Returns `Ok` if a fact holds for an object, and `WRONG` otherwise.
 fn find<S: FarStore>(
     store: &S,
     objects: &Objects<i64, S>,
@@ -226,7 +226,7 @@ fn find<S: FarStore>(
     }
 }
 
-/// Returns whether a fact holds of an object that one call on it shows.
+/// Returns whether a fact holds for an object. One call on the object checks it.
 fn is_so_of<S: FarTickets>(objects: &Objects<i64, S>, o: u32, fact: &Fact) -> bool
     requires { o < length objects.now.records }
 {

@@ -11,7 +11,7 @@ use std::alloc::Global;
 use std::sync::Wait;
 use std::test::Fail;
 
-/// Plays scripts. Fails if a line of one does not get its reply, and names the script and the index of the line.
+/// Plays scripts. Fails at the first line with another reply, and names the script and the index of the line.
 pub fn play_all<R: Wait + Sync + Copy + Drop>(
     rt: R,
     alloc: Global,
@@ -25,7 +25,7 @@ pub fn play_all<R: Wait + Sync + Copy + Drop>(
     Ok(())
 }
 
-/// Returns the index of the first line that does not get its reply.
+/// Returns the index of the first line with another reply.
 fn first_wrong<R: Wait + Sync + Copy + Drop>(
     rt: R,
     alloc: Global,
@@ -34,7 +34,8 @@ fn first_wrong<R: Wait + Sync + Copy + Drop>(
     play_over(alloc, agent(rt, alloc, 4), script)
 }
 
-// The same over a store, if it was made. The store is of a type parameter, so to take it out of its result costs the proof little.
+// Returns the same for this store, if it was made. Generic over the store, so that taking it out of its result is cheap to
+// prove.
 fn play_over<S: FarStore>(
     alloc: Global,
     store: Result<S, Refusal>,
@@ -54,7 +55,7 @@ fn play_over<S: FarStore>(
     }
 }
 
-/// Returns the index of the first line that does not get its reply.
+/// Returns the index of the first line with another reply.
 fn play<S: FarStore>(
     alloc: Global,
     store: &S,

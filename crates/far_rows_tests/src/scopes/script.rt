@@ -1,11 +1,11 @@
-// Scripts: calls on objects, and their replies.
+// Scripts: calls on objects with their replies.
 use far_scopes::ObjectLimits;
 use far_types::Refusal;
 
-/// A call, and its reply.
+/// A call with its expected reply.
 pub type Line = (Call, Result<(), Refusal>);
 
-/// A script: lines on an empty collection of objects of numbers.
+/// A script for an empty collection of objects of numbers.
 pub struct Script {
     /// A sentence that says what the script shows.
     pub name: &'static str,
@@ -13,7 +13,7 @@ pub struct Script {
     pub lines: &'static [Line],
 }
 
-/// A script without a line.
+/// A script without lines.
 pub const SCRIPT: Script = Script {
     name: "",
     limits: TWO_OF_FOUR,
@@ -28,30 +28,30 @@ pub const TWO_OF_FOUR: ObjectLimits = ObjectLimits {
     leavings: 1,
 };
 
-/// A call on objects, or what is looked for.
+/// A call on objects, or a check.
 pub enum Call {
-    /// Makes an object with this list, of this row group of column 0. Objects get the numbers 0, 1 and so on.
+    /// Makes an object with this list, of this row group of column 0. Objects are numbered from 0.
     Create(u32, &'static [i64]),
     /// Changes an object.
     On(u32, Change),
-    /// Finds that a fact holds of an object.
+    /// Checks that a fact holds for an object.
     Find(u32, Fact),
-    /// Pins the listed objects as a scope. Its close removes so many pins.
+    /// Pins these objects as a scope. Its close removes this many pins.
     PinTogether([u32; 3], u32),
-    /// The same, but a pin of the first object is removed before the close.
+    /// Does the same, but removes a pin of the first object before the close.
     PinAndUnpin([u32; 3], u32),
     Compact(u32),
-    /// Finds that this object is the coldest.
+    /// Checks that this object is the coldest.
     Coldest(Option<u32>),
 }
 
-/// What is done to an object.
+/// A change of an object.
 pub enum Change {
-    /// Writes a list over the object's, which is as long.
+    /// Overwrites the object's list by one of the same length.
     Write(&'static [i64]),
-    /// Replaces its list by the call that replaces several.
+    /// Replaces the object's list, by the call that can replace several.
     Give(&'static [i64]),
-    /// Pins it so many times.
+    /// Pins the object this many times.
     Pin(u32),
     Touch,
     Leave,
@@ -65,14 +65,14 @@ pub enum Fact {
     Version(u64),
     Pins(u32),
     Dirty(bool),
-    /// Its far copy was put before that of this other object.
+    /// Its far copy was put before the copy of this other object.
     PutBefore(u32),
 }
 
-/// What a call returns that found something else than it should.
+/// The refusal of a call that found something unexpected.
 pub const WRONG: Refusal = Refusal::BadSpec;
 
-/// Returns `Ok` if a call found what it should, and `WRONG` if not.
+/// Returns `Ok` if a check succeeded, and `WRONG` otherwise.
 pub fn found(right: bool) -> Result<(), Refusal> {
     if right { Ok(()) } else { Err(WRONG) }
 }

@@ -29,7 +29,7 @@ pub fn reply<S: FarStore>(
     }
 }
 
-/// Pushes an element, and tries once more if memory runs out. Returns `WRONG` if there are 8 objects.
+/// Pushes an element, again if memory runs out. Returns `WRONG` if there are 8 objects.
 fn push<S: FarTickets>(
     vector: &mut FarVector<i64>,
     objects: &mut Objects<i64, S>,
@@ -47,7 +47,8 @@ fn push<S: FarTickets>(
     }
 }
 
-/// Writes over the first element of a part in place. Returns `WRONG` if the part is empty, and else refuses as `may_write_part` does.
+/// Overwrites the first element of a part in place. Returns `WRONG` if the part is empty. Otherwise refused as
+/// `may_write_part` is.
 fn overwrite<S: FarTickets>(
     vector: &FarVector<i64>,
     objects: &mut Objects<i64, S>,
@@ -66,7 +67,7 @@ fn overwrite<S: FarTickets>(
     Ok(())
 }
 
-/// Writes over the first element of a part that may be written.
+/// Overwrites the first element of a part that may be written.
 fn write_first<T: Elem, S: FarTickets>(
     vector: &FarVector<T>,
     objects: &mut Objects<T, S>,
@@ -79,13 +80,13 @@ fn write_first<T: Elem, S: FarTickets>(
     requires free { write_part_refusal objects.old vector.now from to ≡ None }
     ensures { IsVector (list_of T.meaning S.content objects.new) vector.now }
 {
-    // For the proof: gives `IsShaped` of the vector.
+    // For the proof: shows `IsShaped` of the vector.
     let _ = vector.len();
     let part = FarVector::part_mut(objects, vector, from, to);
     part[0] = x;
 }
 
-/// Returns `Ok` if a vector has what the call looks for, and `WRONG` if not.
+/// Returns `Ok` if a vector has what a check expects, and `WRONG` otherwise.
 fn find<S: FarTickets>(
     vector: &FarVector<i64>,
     objects: &Objects<i64, S>,
@@ -101,7 +102,7 @@ fn find<S: FarTickets>(
     }
 }
 
-/// Returns `Ok` if the pieces of a part have these lengths, and `WRONG` if not.
+/// Returns `Ok` if the pieces of a part have these lengths, and `WRONG` otherwise.
 fn find_pieces<S: FarTickets>(
     vector: &FarVector<i64>,
     objects: &Objects<i64, S>,

@@ -23,7 +23,7 @@ const LIMITS: ObjectLimits = ObjectLimits {
     leavings: 1,
 };
 
-/// Plays lines on an empty vector with row groups of four places. Returns the index of the first line that does not get its reply.
+/// Plays lines on an empty vector with row groups of four places. Returns the index of the first line with another reply.
 pub fn first_wrong<R: Wait + Sync + Copy + Drop>(
     rt: R,
     alloc: Global,
@@ -32,7 +32,8 @@ pub fn first_wrong<R: Wait + Sync + Copy + Drop>(
     play_over(alloc, agent(rt, alloc, 4), lines)
 }
 
-// The same over a store, if it was made. The store is of a type parameter, so to take it out of its result costs the proof little.
+// Returns the same for this store, if it was made. Generic over the store, so that taking it out of its result is cheap to
+// prove.
 fn play_over<S: FarStore>(
     alloc: Global,
     store: Result<S, Refusal>,
@@ -58,7 +59,7 @@ fn play_in<S: FarStore>(
     Ok(play(&mut vector, objects, lines))
 }
 
-/// Returns an empty vector of column 0. It is made a second time if memory runs out.
+/// Returns an empty vector of column 0, from a second call if memory runs out.
 fn no_elements(alloc: Global, size: u32) -> Result<FarVector<i64>, Refusal>
     requires { 0 < size }
     ensures { IfOk result (λ v. (lists : ℕ → Option (List ℤ)) → IsVector lists v) }
@@ -69,7 +70,7 @@ fn no_elements(alloc: Global, size: u32) -> Result<FarVector<i64>, Refusal>
     }
 }
 
-/// Returns the index of the first line that does not get its reply.
+/// Returns the index of the first line with another reply.
 fn play<S: FarStore>(
     vector: &mut FarVector<i64>,
     objects: &mut Objects<i64, S>,

@@ -4,7 +4,7 @@ use crate::vector::script::Call::{Get, Overwrite, Part, Pieces, Push, Set};
 use crate::vector::script::Line;
 use far_types::Refusal;
 
-/// Five numbers in two row groups are read and written in place.
+/// Reads and writes five numbers in two row groups in place.
 static LINES: [Line; 13] = [
     (Push(1), Ok(())),
     (Push(2), Ok(())),

@@ -1,4 +1,4 @@
-// Bytes of a script, as they come.
+// Reads the bytes of a script.
 ghost use Rattle.std.specs.Prelude.{◌≡◌, ◌≢◌, ◌==◌, ◌≤◌, ◌<◌, ◌+◌, ◌++◌, [], false, true, slice_index, slice_range, take, length, IfNone, IfErr, IfOk, IfSome, OnOk};
 ghost use Rattle.std.specs.List.{list_any};
 ghost use Rattle.far_script.specs.Faults.{IfInput, IfHalted};
@@ -13,11 +13,11 @@ use crate::source::Source;
 use std::alloc::Global;
 use std::io::Read;
 
-/// How many bytes are read at a time, at least.
+/// The least capacity for a read, in bytes.
 const CHUNK: usize = 65_536;
 
 impl<R: Read + Drop> Input<R> {
-    /// Returns a script of which nothing was read yet. If memory runs out, the fault is `Memory`.
+    /// Returns a script that has not been read yet. Ends with `Memory` if there is no memory for a buffer.
     pub fn new(alloc: Global, reader: R) -> Result<Input<R>, ShellFault>
         ensures reader { IfOk result (λ input. input.source.reader ≡ reader) }
         ensures bytes { IfOk result (λ input. input.source.bytes ≡ 16777216) }
@@ -37,21 +37,21 @@ impl<R: Read + Drop> Input<R> {
         })
     }
 
-    /// Returns how many reads are left.
+    /// Returns how many reads are still allowed.
     pub fn reads_left(&self) -> u32
         ensures { result ≡ self.now.source.reads }
     {
         self.source.reads
     }
 
-    /// Returns how many bytes are left.
+    /// Returns how many bytes are still allowed.
     pub fn bytes_left(&self) -> u32
         ensures { result ≡ self.now.source.bytes }
     {
         self.source.bytes
     }
 
-    /// Forgets what was taken.
+    /// Drops the bytes that were taken.
     fn forget(&mut self)
         ensures source { self.new.source ≡ self.old.source }
         ensures unread { unread R.Read self.new ≡ unread R.Read self.old }
@@ -63,8 +63,8 @@ impl<R: Read + Drop> Input<R> {
 }
 
 impl<R: Source + Drop> Input<R> {
-    /// Reads once, and returns whether bytes came. They stop at the end of the script alone. All replies were written before. If there is no
-    /// memory for the bytes, nothing is read.
+    /// Reads once, and returns whether bytes came; false means the end of the script. All replies must have been written
+    /// before. Ends with `Memory`, without a read, if there is no memory for the bytes.
     pub fn read_more(&mut self, gathered: &Page) -> Result<bool, ShellFault>
         requires flushed { gathered.now ≡ [] }
         ensures read { OnOk result (Reads R.Read self.old [] self.new) }
@@ -85,7 +85,7 @@ impl<R: Source + Drop> Input<R> {
         }
         let len = self.held.len();
         let is_plain = self.is_ascii || len == 0;
-        // Space for the bytes comes first. If there is none, nothing is read, so that no byte that came is lost.
+        // The space is allocated before the read, so that no byte is read and then lost.
         if let Err(refusal) = self.held.bytes(self.chunk.as_slice()) {
             return Err(ShellFault::of_memory(refusal));
         }
@@ -105,7 +105,7 @@ impl<R: Source + Drop> Input<R> {
 }
 
 impl<R: Read + Drop> Input<R> {
-    /// Returns where the first line ends that is whole in the buffer.
+    /// Returns the index of the first line feed at or after `start`, if one is held.
     pub fn line_end(&mut self) -> Option<usize>
         ensures end { IfSome result (λ end. (self.new.start ≤ end) × (end < length self.new.held) × (slice_index self.new.held end ≡ 10) × (list_any (λ c. c == 10) (slice_range self.new.held self.new.start end) ≡ false)) }
         ensures none { IfNone result (list_any (λ c. c == 10) (unread R.Read self.new) ≡ false) }
@@ -126,7 +126,7 @@ impl<R: Read + Drop> Input<R> {
     }
 }
 
-/// Returns the place of the first line feed. There is none before `from`.
+/// Returns the index of the first line feed. The first `from` bytes must have none.
 fn line_feed(bytes: &[u8], from: usize) -> Option<usize>
     requires within { from ≤ length bytes.now }
     requires none { list_any (λ c. c == 10) (take from bytes.now) ≡ false }

@@ -1,4 +1,4 @@
-// Lines and loads of a script.
+// Takes lines and loads from a script.
 ghost use Rattle.std.specs.Prelude.{◌↔◌, ◌≡◌, ◌≢◌, ◌==◌, ◌≤◌, ◌<◌, [], false, true, length, slice_index, slice_range, take, IsTrue, IsUtf8, IfNone, IfErr, IfOk, IfSome, OnOk};
 ghost use Rattle.std.specs.Io.BufRead.{strip_last};
 ghost use Rattle.std.specs.List.{list_any};
@@ -14,11 +14,11 @@ use crate::sink::Sink;
 use crate::source::Source;
 use std::str;
 
-/// One turn more than the reads of a script: each turn but the last makes one.
+/// The most turns of the loop of `seek_line`, which reads once in each but the last.
 const MORE_THAN_READS: u32 = MAX_READS + 1;
 
 impl ByteRange {
-    /// Returns whether there is no byte.
+    /// Returns whether the range is empty.
     pub fn is_empty(self) -> bool
         ensures { IsTrue result ↔ (self.to ≤ self.from) }
     {
@@ -26,7 +26,7 @@ impl ByteRange {
     }
 }
 
-/// Returns how long a line is without the carriage return at its end.
+/// Returns the length of a line, not counting a carriage return at its end.
 fn line_len(line: &[u8]) -> usize
     ensures within { result ≤ length line.now }
     ensures line { take result line.now ≡ strip_last 13 line.now }
@@ -40,8 +40,8 @@ fn line_len(line: &[u8]) -> usize
 }
 
 impl<R: Source + Drop> Input<R> {
-    /// Reads until a whole line is in memory, and returns where it ends; `None` at the end of the script. Replies are written
-    /// before the reader is asked.
+    /// Reads until a whole line is held, and returns the index of its line feed, or `None` at the end of the script.
+    /// Replies are written before each read.
     fn seek_line<W: Sink>(
         &mut self,
         output: &mut Output<W>,
@@ -71,7 +71,7 @@ impl<R: Source + Drop> Input<R> {
         Err(ShellFault::Input)
     }
 
-    /// Takes what stands up to a place.
+    /// Takes the bytes up to `end`, and makes `next` the start of the next line.
     fn take(&mut self, end: usize, next: usize) -> ByteRange
         requires { (self.old.start ≤ end) × (end ≤ next) × (next ≤ length self.old.held) }
         ensures from { result.from ≡ self.old.start }
@@ -86,7 +86,7 @@ impl<R: Source + Drop> Input<R> {
         ByteRange { from, to: end }
     }
 
-    /// Takes the next line. Its end is a line feed, and a carriage return directly before that, if there is one.
+    /// Takes the next line, without its line feed and without a carriage return directly before that.
     pub fn line<W: Sink>(
         &mut self,
         output: &mut Output<W>,
@@ -115,7 +115,7 @@ impl<R: Source + Drop> Input<R> {
         }))
     }
 
-    /// Takes the next bytes, as many as asked. If the script ends before them, or no more of it comes, the fault is `Input`.
+    /// Takes the next `count` bytes. Ends with `Input` if the script ends before them, or no more of it comes.
     pub fn bytes<W: Sink>(
         &mut self,
         output: &mut Output<W>,
@@ -144,7 +144,7 @@ impl<R: Source + Drop> Input<R> {
         Err(ShellFault::Input)
     }
 
-    /// Returns the text of a line or of a load that was just taken. If it is not valid UTF-8, the fault is `Input`.
+    /// Returns the text of a line or a load that was just taken. Ends with `Input` if it is not valid UTF-8.
     pub fn text(&self, byte_range: ByteRange) -> Result<&str, ShellFault>
         requires { Holds R.Read self.now byte_range }
         ensures ok { IfOk result (λ text. (text.now ≡ bytes_in R.Read self.now byte_range) × IsUtf8 text.now) }

@@ -25,7 +25,7 @@ impl<W: Sink> Output<W> {
         }
     }
 
-    /// Adds the current reply to the replies. Ends with `Memory` if memory runs out, and adds nothing then.
+    /// Adds the current reply. Ends with `Memory`, and adds nothing, if memory runs out.
     pub fn add(&mut self) -> Result<(), ShellFault>
         ensures ok { OnOk result (self.new.page ≡ self.old.page ++ self.old.reply) }
         ensures err { OnErr result (self.new.page ≡ self.old.page) }
@@ -38,8 +38,8 @@ impl<W: Sink> Output<W> {
         }
     }
 
-    /// Adds the current reply, if it was printed. Ends with `Memory` if it was not, or if memory runs out now. Nothing is added then.
-    /// It is inlined into its callers, since each step ends with it.
+    /// Adds the current reply if `printed` says that it is complete. Ends with `Memory`, and adds nothing, if it is not or
+    /// if memory runs out now. Inlined, since each step ends with it.
     #[inline(always)]
     pub fn add_printed(&mut self, printed: Result<(), Refusal>) -> Result<(), ShellFault>
         requires { IfErr printed (λ e. e ≡ Refusal.NoMemory) }
@@ -58,7 +58,7 @@ impl<W: Sink> Output<W> {
         }
     }
 
-    /// Adds a text as a reply of its own. Ends with `Memory` if memory runs out, and adds nothing then.
+    /// Adds a text as a reply. Ends with `Memory`, and adds nothing, if memory runs out.
     pub fn add_text(&mut self, text: &str) -> Result<(), ShellFault>
         ensures ok { OnOk result (self.new.page ≡ self.old.page ++ text.now) }
         ensures err { OnErr result (self.new.page ≡ self.old.page) }
@@ -71,7 +71,7 @@ impl<W: Sink> Output<W> {
         }
     }
 
-    /// Adds the line of a refusal. Ends with `Memory` if memory runs out, and adds nothing then.
+    /// Adds the line of a refusal as a reply. Ends with `Memory`, and adds nothing, if memory runs out.
     pub fn add_refusal(&mut self, refusal: &Refusal) -> Result<(), ShellFault>
         ensures ok { OnOk result (self.new.page ≡ self.old.page ++ refusal_text refusal.now) }
         ensures err { OnErr result (self.new.page ≡ self.old.page) }

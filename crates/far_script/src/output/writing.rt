@@ -11,7 +11,7 @@ use std::io::ErrorKind;
 /// How many bytes of replies are collected before they are written.
 const FULL: usize = 65_536;
 
-/// Writes bytes until the writer took all of them or a write fails. Returns how many the writer took.
+/// Writes bytes until the writer has taken all of them or a write fails. Returns how many the writer took.
 fn write_out<W: Sink>(writer: &mut W, bytes: &[u8]) -> usize
     ensures sent { Appends (W.contents writer.old) (W.contents writer.new) (take result bytes.now) }
     ensures within { result ≤ length bytes.now }
@@ -38,8 +38,8 @@ fn write_out<W: Sink>(writer: &mut W, bytes: &[u8]) -> usize
 impl<W: Sink> Output<W> {
     /// Writes the replies and flushes the writer. Does nothing if there are no replies.
     ///
-    /// Ends with `Output` if that fails, or if a write failed before. What the writer took is a prefix of the replies, and nothing is
-    /// written afterwards.
+    /// Ends with `Output` if that fails, or if a write failed before. The writer then got a prefix of the replies, and
+    /// nothing is written afterwards.
     pub fn flush(&mut self, writer: &mut W) -> Result<(), ShellFault>
         ensures printed { Prints (W.contents writer.old) self.old.page [] (W.contents writer.new) self.new.page }
         ensures ok { OnOk result (self.new.page ≡ []) }
@@ -63,7 +63,7 @@ impl<W: Sink> Output<W> {
         Ok(())
     }
 
-    /// Writes the replies as `flush` does, if they are at least 65,536 bytes. Ends with `Output` if that fails.
+    /// Calls `flush` if there are at least 65,536 bytes of replies. Ends with `Output` if that fails.
     pub fn flush_if_full(&mut self, writer: &mut W) -> Result<(), ShellFault>
         ensures printed { Prints (W.contents writer.old) self.old.page [] (W.contents writer.new) self.new.page }
         ensures going { OnOk result (has_failed self.new ≡ has_failed self.old) }

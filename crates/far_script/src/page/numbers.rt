@@ -1,4 +1,4 @@
-// Numbers of replies, in decimal digits.
+// Prints numbers in decimal digits.
 ghost use Rattle.std.specs.Prelude.{◌≡◌, ◌<◌, ◌≤◌, ◌+◌, ◌%◌, ◌++◌, length, OnOk, IfErr, decimal};
 ghost use Rattle.std.specs.Fmt.{signed_decimal};
 
@@ -6,16 +6,16 @@ use super::Page;
 use far_types::Refusal;
 use itoa::{Buffer, write_digits};
 
-/// Smaller numbers, which are most, have at most four digits. Each of those is computed by itself.
+/// Numbers below this have at most four digits. Most are; each of their digits is computed directly.
 const SHORT: u64 = 10_000;
 
 /// The most digits of a number of 64 bits.
 const DIGITS: usize = 20;
 
-/// Smaller numbers have at most eight digits, which can be counted with only one division.
+/// Numbers below this have at most eight digits, which can be counted with only one division.
 const MIDDLING: u64 = 100_000_000;
 
-/// Returns how many digits a number of at most four digits has.
+/// Returns the number of digits of a number of at most four digits.
 #[inline(always)]
 fn short_count(number: u64) -> usize
     requires { number < 10000 }
@@ -28,7 +28,7 @@ fn short_count(number: u64) -> usize
     if number < 1000 { 3 } else { 4 }
 }
 
-/// Returns how many digits a number of at most eight digits has.
+/// Returns the number of digits of a number of at most eight digits.
 #[inline(always)]
 fn digit_count(number: u64) -> usize
     requires { number < 100000000 }
@@ -50,20 +50,20 @@ fn last_digit(number: u32) -> u8
 }
 
 impl Page {
-    /// Adds a number in decimal digits. Refused with `NoMemory` (1) alone.
+    /// Adds a number in decimal digits. Refused only with `NoMemory` (1).
     #[inline(always)]
     pub fn number(&mut self, number: u64) -> Result<(), Refusal>
         ensures ok { OnOk result (self.new ≡ self.old ++ decimal number) }
         ensures memory { IfErr result (λ e. e ≡ Refusal.NoMemory) }
     {
-        // A compiler that knows of the space omits the tests for it, and has no call on this way.
+        // With this test the compiler sees that there is space, and omits its own tests and the call that allocates.
         if number < SHORT && self.bytes.capacity() - self.bytes.len() >= 4 {
             return self.short_number(number as u32);
         }
         self.any_number(number)
     }
 
-    /// Does the same for a number of at most four digits.
+    /// Adds a number of at most four digits.
     #[inline(always)]
     fn short_number(&mut self, number: u32) -> Result<(), Refusal>
         requires { number < 10000 }
@@ -89,7 +89,7 @@ impl Page {
         Ok(())
     }
 
-    /// Does the same for any number. It is a function of its own, so that a short number has no stack frame.
+    /// Adds a number of any length. Not inlined, so that a short number needs no stack frame.
     #[inline(never)]
     fn any_number(&mut self, number: u64) -> Result<(), Refusal>
         ensures ok { OnOk result (self.new ≡ self.old ++ decimal number) }
@@ -101,8 +101,8 @@ impl Page {
         self.long_number(number)
     }
 
-    /// Does the same for a number of at most eight digits. They are counted first, and written in place. Copying bytes that
-    /// were just written in pairs would have to wait for them.
+    /// Adds a number of at most eight digits. They are counted first and written in place: a copy of bytes that were just
+    /// written in pairs would have to wait for them.
     #[inline(always)]
     fn middling_number(&mut self, number: u64) -> Result<(), Refusal>
         requires { number < 100000000 }
@@ -117,7 +117,7 @@ impl Page {
         Ok(())
     }
 
-    /// Does the same for any number. It is a function of its own, since long numbers are rare.
+    /// Adds a number of any length. Not inlined, since long numbers are rare.
     #[inline(never)]
     fn long_number(&mut self, number: u64) -> Result<(), Refusal>
         ensures ok { OnOk result (self.new ≡ self.old ++ decimal number) }
@@ -125,15 +125,14 @@ impl Page {
     {
         let mut buffer = [0u8; 40];
         let start = write_digits(number, &mut buffer, DIGITS);
-        // The number of bytes copied is always the same, so that no call has to compute it. Those after the digits are
-        // removed.
+        // A copy of constant length needs no call. The bytes after the digits are then removed.
         self.bytes(&buffer[start..start + DIGITS])?;
         let len = self.len() - start;
         self.truncate(len);
         Ok(())
     }
 
-    /// Adds a number in decimal digits, with a minus if it is below 0. Refused with `NoMemory` (1) alone.
+    /// Adds a signed number in decimal digits, with a minus if it is negative. Refused only with `NoMemory` (1).
     pub fn signed(&mut self, number: i64) -> Result<(), Refusal>
         ensures ok { OnOk result (self.new ≡ self.old ++ signed_decimal number) }
         ensures memory { IfErr result (λ e. e ≡ Refusal.NoMemory) }
@@ -145,7 +144,7 @@ impl Page {
         self.number(number.unsigned_abs())
     }
 
-    /// Does the same for a wide number. Refused with `NoMemory` (1) alone.
+    /// Adds a signed 128-bit number in decimal digits. Refused only with `NoMemory` (1).
     #[inline(always)]
     pub fn wide(&mut self, number: i128) -> Result<(), Refusal>
         ensures ok { OnOk result (self.new ≡ self.old ++ signed_decimal number) }
@@ -157,8 +156,8 @@ impl Page {
         }
     }
 
-    /// Does the same for a number of more than 64 bits, which are rare. It is a function of its own: its digits have a large
-    /// stack frame, and each call would have to make it.
+    /// Adds a number of more than 64 bits. Not inlined: such numbers are rare, and their digits need a large stack frame,
+    /// for which each call would pay.
     #[inline(never)]
     fn very_wide(&mut self, number: i128) -> Result<(), Refusal>
         ensures ok { OnOk result (self.new ≡ self.old ++ signed_decimal number) }

@@ -1,4 +1,4 @@
-// Two columns of texts get a text each.
+// Two columns of texts get one text each.
 ghost use Rattle.std.specs.Prelude.{◌≡◌, length, All, IsTrue};
 ghost use Rattle.far_texts.specs.Texts.{lists_of};
 ghost use Rattle.far_texts.specs.Columns.{AreTextColumns};
@@ -11,7 +11,7 @@ use far_texts::{TextColumn, push_texts};
 use far_types::{Refusal, Text};
 use std::alloc::Global;
 
-// Returns whether there are two columns of the same length. Their row groups have the same size.
+// Returns whether there are two columns, of one length and one size of row groups.
 fn are_same_length<S: FarTickets>(
     _objects: &Objects<u8, S>,
     columns: &[TextColumn],
@@ -25,7 +25,7 @@ fn are_same_length<S: FarTickets>(
     columns.len() == 2 && columns[0].len() == columns[1].len()
 }
 
-// Pushes a text to each of two columns. Refused with `TableFull` if there are other columns, or 32 objects.
+// Pushes a text to each of two columns. Refused with `TableFull` if there are not two columns, or there are 32 objects.
 fn push_all<S: FarTickets>(
     alloc: Global,
     objects: &mut Objects<u8, S>,
@@ -58,7 +58,7 @@ fn has_text<S: FarTickets>(
     }
 }
 
-// Pushes both texts, and returns whether each column has its own.
+// Pushes two texts, and returns whether each column has its own.
 fn get_their_own<S: FarTickets>(
     alloc: Global,
     objects: &mut Objects<u8, S>,
@@ -73,7 +73,7 @@ fn get_their_own<S: FarTickets>(
     Ok(has_text(objects, columns, 0, "one") && has_text(objects, columns, 1, "two"))
 }
 
-/// Returns whether each of two columns of texts in row groups of two places gets its own text.
+/// Returns whether each of two columns of texts, in row groups of two places, gets its own text.
 pub fn comes_out<S: FarTickets>(
     alloc: Global,
     objects: &mut Objects<u8, S>,

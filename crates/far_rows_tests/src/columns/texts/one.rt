@@ -11,7 +11,7 @@ use far_texts::{TextCell, TextColumn};
 use far_types::{Refusal, Text};
 use std::alloc::Global;
 
-/// What a call returns that found something else than it should.
+/// The refusal of a call that found something unexpected.
 const WRONG: Refusal = Refusal::BadSpec;
 
 fn push<S: FarTickets>(
@@ -29,7 +29,7 @@ fn push<S: FarTickets>(
     column.push(alloc, objects, text)
 }
 
-// Sets a text. Before that it asks `may_set`, which must give the same reply, unless memory runs out.
+// Sets a text, and checks that `may_set` gives the same reply beforehand, unless memory runs out.
 fn set<S: FarTickets>(
     alloc: Global,
     objects: &mut Objects<u8, S>,
@@ -103,7 +103,7 @@ fn lend<S: FarTickets>(
     Ok(())
 }
 
-// Returns whether the first text is at its place, that of place 2 is missing, and no place is past the end.
+// Returns whether the first text is at its place, the text of place 2 is missing, and there is no place 3.
 fn is_filled<S: FarTickets>(objects: &Objects<u8, S>, column: &TextColumn) -> bool
     requires { IsTextColumn (lists_of S.content objects.now) column.now }
 {
@@ -112,7 +112,7 @@ fn is_filled<S: FarTickets>(objects: &Objects<u8, S>, column: &TextColumn) -> bo
         && column.text(objects, 3) == Err(Refusal::NoRow)
 }
 
-// Returns whether a text of 4,097 bytes is too long for a column.
+// Returns whether a text of 4,097 bytes is refused as too long.
 fn is_bounded<S: FarTickets>(
     alloc: Global,
     objects: &mut Objects<u8, S>,
@@ -124,7 +124,7 @@ fn is_bounded<S: FarTickets>(
     Ok(push(alloc, objects, column, &long) == Err(Refusal::TextTooLong))
 }
 
-// Returns whether an empty column is filled, and then read and lent as it should be.
+// Fills an empty column, and returns whether it is then read and lent as expected.
 fn is_right<S: FarTickets>(
     alloc: Global,
     objects: &mut Objects<u8, S>,
@@ -141,7 +141,7 @@ fn is_right<S: FarTickets>(
     is_bounded(alloc, objects, column)
 }
 
-/// Returns whether what is pushed and set reads back from a column of texts in row groups of two places.
+/// Returns whether texts that are pushed and set read back from a column in row groups of two places.
 pub fn comes_out<S: FarTickets>(
     alloc: Global,
     objects: &mut Objects<u8, S>,

@@ -28,7 +28,7 @@ const SOUND: Plan = Plan {
     failing_get: 0,
 };
 
-/// The refusal of a call that needs object 0 to be local.
+/// The refusal of a call on object 0 while it is away.
 const AWAY: Refusal = Refusal::Absent {
     column: 0,
     group: 0,
@@ -192,7 +192,7 @@ pub static CASES: &[Case] = &[
     },
 ];
 
-/// Objects that are written, go away and come back.
+/// Objects that are written, evicted and fetched.
 pub static COME_AND_GO: Case = Case {
     name: "objects come and go",
     store: SOUND,

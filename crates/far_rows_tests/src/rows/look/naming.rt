@@ -1,11 +1,11 @@
-// Objects that are found by their own column and row group.
+// Finds objects by their column and row group.
 ghost use Rattle.std.specs.Prelude.{◌≡◌, ◌<◌, Ok, length};
 
 use far_rows::{Object, Rows};
 use far_store::FarTickets;
 use far_types::Refusal;
 
-// Looks up the column and the row group of an object of numbers, and returns what is found: that object.
+// Looks up the column and the row group of an object of numbers, and returns the object that these have: the same one.
 fn number_found<S: FarTickets>(rows: &Rows<S>, o: u32) -> Result<Object, Refusal>
     requires { o < length rows.now.number_objects.records }
     ensures { result ≡ Ok (Object.Number o) }
@@ -14,7 +14,7 @@ fn number_found<S: FarTickets>(rows: &Rows<S>, o: u32) -> Result<Object, Refusal
     rows.object(name.column as usize, name.group)
 }
 
-// The same for an object of texts.
+// Does the same for an object of texts.
 fn text_found<S: FarTickets>(rows: &Rows<S>, o: u32) -> Result<Object, Refusal>
     requires { o < length rows.now.text_objects.records }
     ensures { result ≡ Ok (Object.Text o) }
@@ -23,7 +23,7 @@ fn text_found<S: FarTickets>(rows: &Rows<S>, o: u32) -> Result<Object, Refusal>
     rows.object(name.column as usize, name.group)
 }
 
-/// Returns how many objects of numbers are found so.
+/// Returns how many objects of numbers are found by their column and row group.
 pub fn numbers_named<S: FarTickets>(rows: &Rows<S>) -> u32 {
     let mut found = 0u32;
     for o in 0..rows.number_objects().count() {
@@ -33,7 +33,7 @@ pub fn numbers_named<S: FarTickets>(rows: &Rows<S>) -> u32 {
     found
 }
 
-/// Returns how many objects of texts are found so.
+/// Returns how many objects of texts are found by their column and row group.
 pub fn texts_named<S: FarTickets>(rows: &Rows<S>) -> u32 {
     let mut found = 0u32;
     for o in 0..rows.text_objects().count() {
