@@ -1,6 +1,6 @@
--- Answers of totals without key column, which are one line.
+-- Answers without key column, which are one line.
 use Rattle.std.proofs.Common.{◌≡◌, ℕ, true, false, cond, List, [], ◌∷◌, map, refl, sym, ap, ◌∙◌, subst, Option, None, Some, arith, append-nil}
-use Rattle.std.specs.Prelude.{ℤ, is_none, ◌&&◌, ◌==◌}
+use Rattle.std.specs.Prelude.{ℤ, is_none, ◌&&◌, ◌==◌, option_map}
 use Rattle.std.specs.List.{filter_map, cons_option}
 use Rattle.std.specs.List.Sorted.{IsStrictlySortedBy}
 use Rattle.std.specs.Map.{keys_of}
@@ -14,7 +14,7 @@ use Rattle.far_types.specs.declared.key.Key.{Key}
 use Rattle.far_types.specs.declared.spec.Spec.{Spec}
 use Rattle.far_types.specs.declared.spec.Fold.{Fold}
 use Rattle.far_types.specs.declared.spec.Fold.TheVariants as fold
-use Rattle.far_types.specs.Answers.{is_under, values_of, count_sum, totals, total_lines, or_zero, answer_of, answer_over}
+use Rattle.far_types.specs.Answers.{is_under, values_of, grouped, count_sum, min_max, totals, total_lines, extrema, extrema_lines, or_zero, answer_of, answer_over}
 use Rattle.far_types.specs.Cells.{cells_of, number_in}
 use Rattle.far_types.specs.Keys.{line_cmp}
 use Rattle.far_types.specs.Pairs.{Pair, key_under, paired, pair_in, kept, pairs_of}
@@ -22,12 +22,14 @@ use Rattle.far_types.specs.Table.{Place, Registered, rows_of, left}
 use Rattle.far_types.proofs.AnswersGrouping.{same, own_key, if_any, get-grouped, values_of-cons}
 use Rattle.far_types.proofs.AnswersByKeyMaps.{Entries, by_key, get_at, entries-by_key}
 use Rattle.far_aggregates.specs.Aggregates.{Answers}
+use Rattle.far_aggregates.specs.declared.line.Line.TheVariants as line
+use Rattle.far_aggregates.specs.Lines.{found_in, line_in, AnswersKey}
 use Rattle.far_aggregates.specs.Readings.{is_totals, all_values, plain_in}
 use Rattle.far_table.specs.Watching.{aggregate_at}
 use Rattle.far_frame.specs.declared.step.Reply.TheVariants as reply
 use Rattle.far_frame.specs.declared.step.Step.TheVariants as step
 use Rattle.far_frame.specs.Worlds.{World}
-use Rattle.far_script.specs.Printing.{total_text}
+use Rattle.far_script.specs.Printing.{total_text, extrema_text}
 use Rattle.far_commands.specs.Replies.{Takes}
 
 -- no pair has a key
@@ -53,10 +55,10 @@ under_key k (pair ∷ pairs) h =
     let other : is_under (Some k) pair ≡ false = ap (λ key. is_under (Some k) (key, pair.1)) h.0 in
     values_of-cons (Some k) pair pairs ∙ ap (λ b. cond b (pair.1 ∷ values_of (Some k) pairs) (values_of (Some k) pairs)) other ∙ under_key k pairs h.1
 
-one_line : ℕ × ℤ → Entries (ℕ × ℤ)
+one_line : {V : Type 0} → V → Entries V
 one_line t = (None, t) ∷ []
 
-ascends : (t : ℕ × ℤ) → IsStrictlySortedBy line_cmp (keys_of (one_line t))
+ascends : {V : Type 0} (t : V) → IsStrictlySortedBy line_cmp (keys_of (one_line t))
 unfolding IsStrictlySortedBy one_line
 ascends t = (tt, tt)
 
@@ -64,22 +66,22 @@ none_ascends : IsStrictlySortedBy line_cmp []
 unfolding IsStrictlySortedBy
 none_ascends = tt
 
-one_total : (pair : Pair) (pairs : List Pair) → AreKeyless (pair ∷ pairs) → totals (pair ∷ pairs) ≡ by_key (one_line (count_sum (values (pair ∷ pairs))))
+one_group : {V : Type 0} (fold : List ℤ → V) (pair : Pair) (pairs : List Pair) → AreKeyless (pair ∷ pairs) → grouped fold (pair ∷ pairs) ≡ by_key (one_line (fold (values (pair ∷ pairs))))
 unfolding values one_line
-one_total pair pairs h = same _ _ alike where
-  t : ℕ × ℤ
-  t = count_sum (map (λ (pair : Pair). pair.1) (pair ∷ pairs))
+one_group {V} fold pair pairs h = same _ _ alike where
+  t : V
+  t = fold (map (λ (pair : Pair). pair.1) (pair ∷ pairs))
 
-  alike : (q : Option Key) → fin.get (totals (pair ∷ pairs)) q ≡ fin.get (by_key (one_line t)) q
-  alike None = get-grouped count_sum (pair ∷ pairs) None ∙ ap (λ vs. if_any vs (count_sum vs)) (under_none (pair ∷ pairs) h) ∙ sym (get_at (one_line t) None)
-  alike (Some k) = get-grouped count_sum (pair ∷ pairs) (Some k) ∙ ap (λ vs. if_any vs (count_sum vs)) (under_key k (pair ∷ pairs) h) ∙ sym (get_at (one_line t) (Some k))
+  alike : (q : Option Key) → fin.get (grouped fold (pair ∷ pairs)) q ≡ fin.get (by_key (one_line t)) q
+  alike None = get-grouped fold (pair ∷ pairs) None ∙ ap (λ vs. if_any vs (fold vs)) (under_none (pair ∷ pairs) h) ∙ sym (get_at (one_line t) None)
+  alike (Some k) = get-grouped fold (pair ∷ pairs) (Some k) ∙ ap (λ vs. if_any vs (fold vs)) (under_key k (pair ∷ pairs) h) ∙ sym (get_at (one_line t) (Some k))
 
 plain_lines : (pairs : List Pair) → AreKeyless pairs → or_zero None (total_lines (totals pairs)) ≡ (None, (count_sum (values pairs)).0, (count_sum (values pairs)).1) ∷ []
 unfolding values one_line
 plain_lines [] h = ap (λ (es : Entries (ℕ × ℤ)). or_zero None (map (λ (entry : Option Key × (ℕ × ℤ)). (entry.0, entry.1.0, entry.1.1)) es)) (entries-by_key [] none_ascends)
 plain_lines (pair ∷ pairs) h =
     let t = count_sum (values (pair ∷ pairs)) in
-    ap (λ m. or_zero None (total_lines m)) (one_total pair pairs h)
+    ap (λ m. or_zero None (total_lines m)) (one_group count_sum pair pairs h)
     ∙ ap (λ (es : Entries (ℕ × ℤ)). or_zero None (map (λ (entry : Option Key × (ℕ × ℤ)). (entry.0, entry.1.0, entry.1.1)) es)) (entries-by_key (one_line t) (ascends t))
 
 -- without key column no pair has one
@@ -132,3 +134,59 @@ pub asks : {S K : Type 0} (tickets : Tickets S K) (old : World K) (a : ℕ) (x :
 asks tickets old a x text plain printed =
     let found = answer.Totals ((None, x.0, x.1) ∷ []) in
     (reply.Answer found, ((found, refl, plain_answers old.state.table.places (aggregate_at old.state.table a) x plain, refl), refl), printed ∙ sym (append-nil (total_text (None, x.0, x.1))))
+
+-- extrema without key column that have a line have no other
+no_extrema : extrema_lines (extrema []) ≡ []
+unfolding one_line
+no_extrema = ap (λ (es : Entries (ℤ × ℤ)). map (λ (entry : Option Key × (ℤ × ℤ)). (entry.0, entry.1.0, entry.1.1)) es) (entries-by_key [] none_ascends)
+
+one_extrema : (pair : Pair) (pairs : List Pair) → AreKeyless (pair ∷ pairs)
+    → extrema_lines (extrema (pair ∷ pairs)) ≡ (None, (min_max (values (pair ∷ pairs))).0, (min_max (values (pair ∷ pairs))).1) ∷ []
+unfolding one_line
+one_extrema pair pairs h =
+    let t = min_max (values (pair ∷ pairs)) in
+    ap extrema_lines (one_group min_max pair pairs h)
+    ∙ ap (λ (es : Entries (ℤ × ℤ)). map (λ (entry : Option Key × (ℤ × ℤ)). (entry.0, entry.1.0, entry.1.1)) es) (entries-by_key (one_line t) (ascends t))
+
+line_of_extrema : (pairs : List Pair) (m n : ℤ) → AreKeyless pairs → Some (line.Extrema m n) ≡ line_in (answer.Extrema (extrema_lines (extrema pairs))) None
+    → extrema_lines (extrema pairs) ≡ (None, m, n) ∷ []
+line_of_extrema [] m n h is =
+    let none : Some (line.Extrema m n) ≡ None = is ∙ ap (λ lines. line_in (answer.Extrema lines) None) no_extrema in
+    cc
+line_of_extrema (pair ∷ pairs) m n h is =
+    let t = min_max (values (pair ∷ pairs)) in
+    let one : Some (line.Extrema m n) ≡ Some (line.Extrema t.0 t.1) = is ∙ ap (λ lines. line_in (answer.Extrema lines) None) (one_extrema pair pairs h) in
+    let least_is : m ≡ t.0 = cc in
+    let greatest_is : n ≡ t.1 = cc in
+    one_extrema pair pairs h ∙ (λ i. (None, sym least_is i, sym greatest_is i) ∷ [])
+
+no_totals : (found : Option (ℕ × ℤ)) (m n : ℤ) → Some (line.Extrema m n) ≡ option_map (λ (found : ℕ × ℤ). line.Totals found.0 found.1) found → ⊥
+no_totals None m n is = cc
+no_totals (Some found) m n is = cc
+
+answer_of_extrema : (f : Fold) (pairs : List Pair) (m n : ℤ) → AreKeyless pairs → Some (line.Extrema m n) ≡ line_in (answer_of f None pairs) None
+    → answer_of f None pairs ≡ answer.Extrema ((None, m, n) ∷ [])
+answer_of_extrema fold.Totals pairs m n h is = absurd (no_totals (found_in (or_zero None (total_lines (totals pairs))) None) m n is)
+answer_of_extrema fold.Extrema pairs m n h is = ap answer.Extrema (line_of_extrema pairs m n h is)
+
+extrema_answers : (places : List Place) (found : Option Registered) (spec : Spec) (all : Answer) (m n : ℤ)
+    → Some spec ≡ option_map (λ (aggregate : Registered). aggregate.spec) found → spec.key ≡ None → Answers places found all
+    → Some (line.Extrema m n) ≡ line_in all None → all ≡ answer.Extrema ((None, m, n) ∷ [])
+extrema_answers places None spec all m n is none answers line_is = cc
+extrema_answers places (Some a) spec all m n is none answers line_is =
+    let own : a.spec ≡ spec = cc in
+    let keyless_spec : a.spec.key ≡ None = ap (λ (s : Spec). s.key) own ∙ none in
+    let pairs = pairs_of a.spec (rows_of places) in
+    let all_is : all ≡ answer_of a.spec.fold None pairs = answers.1 ∙ ap (λ key. answer_of a.spec.fold key pairs) keyless_spec in
+    all_is ∙ answer_of_extrema a.spec.fold pairs m n (keyless a.spec (kept a.spec (rows_of places)) keyless_spec) (line_is ∙ ap (λ (all : Answer). line_in all None) all_is)
+
+-- a least and a greatest value that are printed as they are kept are the reply of an ask
+pub asks_extrema : {S K : Type 0} (tickets : Tickets S K) (old : World K) (a : ℕ) (spec : Spec) (m n : ℤ) (text : List ℕ)
+    → Some spec ≡ option_map (λ (aggregate : Registered). aggregate.spec) (aggregate_at old.state.table a) → spec.key ≡ None
+    → AnswersKey old.state.table.places (aggregate_at old.state.table a) None (Some (line.Extrema m n))
+    → text ≡ extrema_text (None, m, n) → Takes tickets old (step.Ask a) text old
+asks_extrema tickets old a spec m n text is none answers printed =
+    let found = answer.Extrema ((None, m, n) ∷ []) in
+    let all_is = extrema_answers old.state.table.places (aggregate_at old.state.table a) spec answers.0 m n is none answers.1 answers.2 in
+    let right = subst (Answers old.state.table.places (aggregate_at old.state.table a)) all_is answers.1 in
+    (reply.Answer found, ((found, refl, right, refl), refl), printed ∙ sym (append-nil (extrema_text (None, m, n))))

@@ -1,4 +1,4 @@
--- The commands that lines spell.
+-- The commands that lines spell, by the words of each part.
 use Rattle.std.specs.Prelude.{ℕ, List, Option, None, Some, option_map, option_and_then, is_none, slice_get, if◌then◌else◌}
 use Rattle.far_types.specs.declared.cell.Kind.{Kind}
 use Rattle.far_types.specs.declared.edit.Edit.TheVariants as edit
@@ -50,7 +50,7 @@ object_in left = option_and_then (λ column. option_map (λ group. record { colu
 abbrev pub compact_of : Option (List ℕ) → Option Step
 compact_of left = option_and_then (λ kind. option_map (λ segment. step.Compact kind segment) (last_number_in (after left))) (option_and_then kind_named (word_in left))
 
--- what a word that is about objects or jobs says with the rest of its line
+-- the step that a word about objects or jobs spells with the rest of its line
 abbrev pub movement_of : Movement → Option (List ℕ) → Option Step
 movement_of movement.Lend left = lend_of left
 movement_of movement.Pin left = option_map (λ object. step.Pin object.column object.group) (object_in left)
@@ -65,11 +65,11 @@ movement_of movement.Prefetch left = option_map step.Prefetch (last_number_in le
 movement_of movement.Offload left = offload_of left
 movement_of movement.Merge left = option_map step.Merge (last_long_number_in left)
 
--- a command that has one number
+-- a command whose only argument is a number
 abbrev pub numbered : (ℕ → Command) → Option (List ℕ) → Option Command
 numbered make left = option_map make (last_number_in left)
 
--- what a verb says with the rest of its line
+-- the command that a verb spells with the rest of its line
 abbrev pub command_by : List Kind → Verb → Option (List ℕ) → Option Command
 command_by kinds verb.Insert left = insert_of kinds left
 command_by kinds verb.Set left = set_of kinds left

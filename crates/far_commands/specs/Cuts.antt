@@ -1,4 +1,4 @@
--- What is printed of a reply that a fault ends, and which lines can get no reply.
+-- What a fault leaves of a reply, and which lines can get no reply.
 use Rattle.std.specs.Prelude.{◌≡◌, ◌⊎◌, ◌<◌, ◌≤◌, ℕ, List, [], ◌++◌, length, take, Option, Some, IsUtf8}
 use Rattle.std.specs.declared.io.traits.Read.{Ghosts}
 use Rattle.far_types.specs.declared.cell.Kind.{Kind}
@@ -17,7 +17,7 @@ use Rattle.far_commands.specs.Progress.{At}
 abbrev pub IsFront : (List ℕ → Type 0) → List ℕ → Type 0
 IsFront answer text = (text ≡ []) ⊎ ((rest : List ℕ) × answer (text ++ rest))
 
--- what is printed of the reply that a fault ends: nothing if the input is at fault
+-- the part of a reply that is printed before a fault: nothing at `Input`, a prefix at `Output` or `Memory`
 abbrev pub CutOff : ShellFault → (List ℕ → Type 0) → List ℕ → Type 0
 CutOff fault.BadStart answer text = ⊥
 CutOff fault.Input answer text = text ≡ []
@@ -25,26 +25,26 @@ CutOff fault.Output answer text = IsFront answer text
 CutOff fault.Memory answer text = IsFront answer text
 CutOff fault.Turns answer text = ⊥
 
--- a fault comes, and a prefix of a reply is printed
+-- at a fault, a prefix of a reply was printed
 abbrev pub PrintsCut : ShellFault → (List ℕ → Type 0) → Option (List ℕ) → List ℕ → Option (List ℕ) → List ℕ → Type 0
 PrintsCut why answer old held new left = (text : List ℕ) × Prints old held text new left × CutOff why answer text
 
--- a load lacks bytes, or its bytes are no text. The first argument says why no more came
+-- a command is a load that lacks bytes, for a reason of `short`, or whose bytes are not valid UTF-8
 abbrev pub FailsBy : Type 0 → Option Command → List ℕ → Type 0
 FailsBy short asked behind = (count : ℕ) × (asked ≡ Some (command.Load count)) × (((length behind < count) × short) ⊎ ((count ≤ length behind) × ¬ (IsUtf8 (take count behind))))
 
--- a line can get no reply with the bytes after it: it is no text, or such a load
+-- a line with the bytes after it can get no reply: it is not valid UTF-8, or it is a load as above
 abbrev pub Fails : Type 0 → List Kind → List ℕ → List ℕ → Type 0
 Fails short kinds line behind = ¬ (IsUtf8 line) ⊎ FailsBy short (command_of kinds line) behind
 
--- a line asks for a dump, and this is what is listed
+-- a line is the command `dump`, and this text is its reply
 abbrev pub IsListing : {K : Type 0} → At K → List ℕ → List ℕ → Type 0
 IsListing at line text = (command_of at.world.state.table.schema line ≡ Some command.Dump) × (text ≡ listing_of (live at.world.state))
 
--- what was taken after a line when memory ran out or a write failed: nothing, or all rows of its load
+-- the bytes taken after a line when memory ran out or a write failed: none, or all rows of its load
 abbrev pub IsTakenFor : Option Command → List ℕ → Type 0
 IsTakenFor asked rows = (rows ≡ []) ⊎ (asked ≡ Some (command.Load (length rows)))
 
--- the same of an input, from the end of the line on
+-- an input after a line moved on by such bytes
 abbrev pub TakesFor : {R : Type 0} (read : Ghosts R) → Option Command → Input R read → Input R read → Type 0
 TakesFor read asked old new = (rows : List ℕ) × Reads read old rows new × IsTakenFor asked rows

@@ -1,4 +1,4 @@
--- The rows of a table as they are listed.
+-- The rows of a table, as `dump` lists them.
 use Rattle.std.specs.Prelude.{◌≡◌, ◌<◌, ◌/◌, ℕ, Bool, false, List, [], ◌∷◌, ◌++◌, codes, length, map, slice_get, if◌then◌else◌, None}
 use Rattle.std.specs.Option.{option_map_or}
 use Rattle.std.specs.Fmt.{signed_decimal}
@@ -13,13 +13,13 @@ use Rattle.far_frame.specs.Views.{away}
 use Rattle.far_script.specs.Fields.{missing_mark}
 use Rattle.far_script.specs.Printing.{numbered_text, record_text, refusal_text, texts_of}
 
--- what stands for a cell, before it is quoted
+-- the text of a cell, before it is quoted
 abbrev pub cell_text : Cell → List ℕ
 cell_text (cell.Int number) = signed_decimal number
 cell_text (cell.Text text) = text
 cell_text cell.Missing = missing_mark
 
--- a field of a record, as the csv writer writes it: the only one, or one of several
+-- a field as the csv writer writes it: alone in its record, or as one of several
 abbrev pub field_in_record : Bool → List ℕ → List ℕ
 field_in_record is_lone text = if is_lone then record_text (text ∷ []) else field_text default_writer text
 
@@ -27,11 +27,11 @@ field_in_record is_lone text = if is_lone then record_text (text ∷ []) else fi
 abbrev pub cells_at : ℕ → List Place → List Cell
 cells_at p places = option_map_or (λ place. place.cells) (slice_get places p) []
 
--- whether there is a row at a place
+-- whether the row of a place is alive
 abbrev pub is_live : ℕ → List Place → Bool
 is_live p places = option_map_or (λ place. place.alive) (slice_get places p) false
 
--- a place is there, and each object of its row group is local
+-- a place is used, and no object of its row group is away
 abbrev pub IsHere : {K : Type 0} → LiveState K → ℕ → Type 0
 IsHere s place = (place < length s.table.places) × (first_of (absents s.rows (place / s.table.limits.group)) ≡ None)
 
@@ -39,10 +39,10 @@ IsHere s place = (place < length s.table.places) × (first_of (absents s.rows (p
 abbrev pub row_line : List Cell → List ℕ
 row_line cells = row_text default_writer (map cell_text cells)
 
--- the live rows, and before them how many there are
+-- the reply to `dump` if no object is away: how many rows are alive, and then those rows
 abbrev pub dump_text : Table → List ℕ
 dump_text table = numbered_text (codes "rows") (length (rows_of table.places)) ++ texts_of row_line (rows_of table.places)
 
--- the reply to a dump: the refusal for an object of the rows that is away, if there is one, or else the live rows
+-- the reply to `dump`: the refusal for the first object that is away, or else the rows
 abbrev pub listing_of : {K : Type 0} → LiveState K → List ℕ
 listing_of s = option_map_or refusal_text (away s) (dump_text s.table)

@@ -1,4 +1,4 @@
--- How a load goes over its records, and what is printed of it.
+-- How a load reads its records, and its reply.
 -- Internal: no public contract cites it.
 use Rattle.std.specs.Prelude.{◌≡◌, ◌<◌, ◌+◌, ℕ, false, List, [], ◌++◌, length, codes, Option, Some}
 use Rattle.std.specs.Option.{option_map_or}
@@ -9,7 +9,7 @@ use Rattle.csv.specs.declared.reader.Trim.TheVariants as trim
 use Rattle.far_types.specs.declared.refusal.Refusal.{Refusal}
 use Rattle.far_script.specs.Printing.{numbered_text, refusal_text}
 
--- these are the records that a reader still has
+-- these are the records that a reader has not returned yet
 pub record Remains {R : Type 0} (rem : R → Option (List ℕ)) (reader : Reader R) (rows : List (List (List ℕ))) : Type 0 where
   pub fuel : ℕ
   pub rest : List ℕ
@@ -21,6 +21,6 @@ pub record Remains {R : Type 0} (rem : R → Option (List ℕ)) (reader : Reader
   pub ready : Ready reader
   pub config : reader_config reader ≡ default_config
 
--- what is printed of a load: how many rows it inserted, and the refusal that ended it, if one did
+-- the reply to a load: how many rows it inserted, and the refusal that ended it, if one did
 abbrev pub loaded_text : ℕ → Option Refusal → List ℕ
 loaded_text count refusal = numbered_text (codes "loaded") count ++ option_map_or refusal_text refusal []

@@ -24,12 +24,12 @@ use Rattle.far_commands.specs.Progress.{At}
 use Rattle.far_commands.specs.Recounts.{Recounts}
 use Rattle.far_commands.specs.Renewals.{Renews}
 
--- the text of the reply `Done` to a step
+-- the text for `Done` as the reply to this step
 abbrev pub done_text : Step → List ℕ
 done_text (step.Carry n) = codes "carried\n"
 done_text _ = codes "ok\n"
 
--- the line of a reply, or the lines of an answer or of a part of a column
+-- the text of a reply: its line, or the lines of an answer or of a part of a column
 abbrev pub reply_text : List ℕ → Reply → List ℕ
 reply_text done (reply.Place place) = numbered_text (codes "place") place
 reply_text done reply.Done = done
@@ -41,32 +41,32 @@ reply_text done (reply.Job n) = numbered_text (codes "job") n
 reply_text done (reply.Next groups) = next_text groups.items
 reply_text done (reply.Refused refusal) = refusal_text refusal
 
--- the insert of a record's fields
+-- the step that inserts the fields of a record as a row
 abbrev pub insert_of_record : List Kind → List (List ℕ) → Step
 insert_of_record kinds fields = step.Edit (edit.Insert (cells_from kinds 0 fields))
 
--- how a load goes on after the reply to a record: a refusal ends it
+-- a load stops at a refusal, and goes on after any other reply
 abbrev pub AfterReply : Reply → (Refusal → Type 0) → Type 0 → Type 0
 AfterReply (reply.Refused refusal) ends goes = ends refusal
 AfterReply _ ends goes = goes
 
--- the records of a text, as the csv reader reads them
+-- the records of a text for the csv reader
 abbrev pub records_of : List ℕ → List (List (List ℕ))
 records_of text = records default_config (strip_bom text)
 
 module _ {S K : Type 0} (tickets : Tickets S K) where
-  -- a step is taken, and the text is its reply
+  -- a step is served, and the text is its reply
   abbrev pub Takes : World K → Step → List ℕ → World K → Type 0
   Takes old s text new = (given : Reply) × IsStep tickets.content tickets.number_of old s given new × (text ≡ reply_text (done_text s) given)
 
-  -- the records of a load are inserted in order, up to the first that is refused, after as many as count
+  -- the records of a load are inserted in order, up to the first that is refused. `count` were inserted before
   abbrev pub Loads : ℕ → World K → List (List (List ℕ)) → List ℕ → World K → Type 0
   Loads count old [] text new = (new ≡ old) × (text ≡ numbered_text (codes "loaded") count)
   Loads count old (fields ∷ more) text new =
       (given : Reply) × (mid : World K) × IsStep tickets.content tickets.number_of old (insert_of_record old.state.table.schema fields) given mid
       × AfterReply given (λ refusal. (new ≡ mid) × (text ≡ numbered_text (codes "loaded") count ++ refusal_text refusal)) (Loads (count + 1) mid more text new)
 
-  -- a command is served, and the text is its reply. The rows are the bytes after its line that belong to it
+  -- a command is served, and the text is its reply. `rows` are the bytes of its load, and empty for any other command
   abbrev pub Serves : World K → Command → List ℕ → List ℕ → World K → Type 0
   Serves old (command.Step s) rows text new = (rows ≡ []) × Takes old s text new
   Serves old (command.Load count) rows text new = (length rows ≡ count) × IsUtf8 rows × Loads 0 old (records_of rows) text new
@@ -74,12 +74,13 @@ module _ {S K : Type 0} (tickets : Tickets S K) where
   Serves old (command.Renew capacity) rows text new = (rows ≡ []) × Renews tickets capacity old text new
   Serves old (command.Recount a) rows text new = (rows ≡ []) × Recounts old.state.table a text × (new ≡ old)
 
-  -- a line is served, and the text is its reply. A line that spells no command changes nothing
+  -- a line is served, and the text is its reply. If it spells no command, the world does not change
   abbrev pub ServesLine : ℕ → World K → Option Command → List ℕ → List ℕ → World K → Type 0
   ServesLine number old None rows text new = (rows ≡ []) × (text ≡ numbered_text (codes "syntax command") number) × (new ≡ old)
   ServesLine number old (Some asked) rows text new = Serves old asked rows text new
 
-  -- an empty line is no command; any other is text, and the next command
+  -- a line is answered. An empty line has no reply and is no command. Any other is valid UTF-8 and counts as the next
+  -- command
   abbrev pub AnswersLine : At K → List ℕ → List ℕ → List ℕ → At K → Type 0
   AnswersLine old [] rows text new = (rows ≡ []) × (text ≡ []) × (new ≡ old)
   AnswersLine old (c ∷ cs) rows text new =

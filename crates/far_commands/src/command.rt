@@ -1,4 +1,4 @@
-// Lines as commands.
+// Parses lines as commands.
 ghost use Rattle.std.specs.Prelude.{◌≡◌, IfOk, IfErr, option_map};
 ghost use Rattle.far_commands.specs.Commands.{lend_of, object_in, compact_of, movement_of, offload_of, command_of, insert_of, set_of, numbered, scan_of, command_by};
 ghost use Rattle.far_script.specs.Watches.{spec_of};
@@ -15,23 +15,23 @@ use std::alloc::Global;
 /// A command of a script, after the line that opens the table.
 #[derive(Drop, Debug)]
 pub enum Command {
-    /// `insert CSV`, `set PLACE COLUMN CSV`, `remove PLACE`,
+    /// A step of the table: `insert CSV`, `set PLACE COLUMN CSV`, `remove PLACE`,
     /// `watch FOLD COLUMN [by COLUMN] [if COLUMN OPERATOR CONSTANT]..`, `unwatch AGGREGATE`, `scan AGGREGATE GROUP`,
     /// `ask AGGREGATE`, `lend COLUMN FROM TO`, `pin COLUMN GROUP`, `unpin COLUMN GROUP`, `evac COLUMN GROUP`,
     /// `fetch COLUMN GROUP`, `carry JOB`, `commit JOB`, `install JOB`, `compact KIND SEGMENT`, `prefetch COLUMN`,
-    /// `offload AGGREGATE GROUP`, `merge JOB`: a step of the table
+    /// `offload AGGREGATE GROUP`, `merge JOB`
     Step(Step),
-    /// `load BYTES`: the bytes after the line are rows
+    /// `load BYTES`: inserts the rows in the bytes after the line
     Load(u32),
     /// `dump`
     Dump,
-    /// `renew CAPACITY`: the table goes on with a new store
+    /// `renew CAPACITY`: moves the far copies to a new store
     Renew(u32),
-    /// `recount AGGREGATE`: the answer of an aggregate, computed from scratch
+    /// `recount AGGREGATE`: computes the answer of an aggregate from scratch
     Recount(u32),
 }
 
-/// Reads `CSV`: exactly one record.
+/// Reads `CSV`, which must be exactly one record.
 fn insert(
     alloc: Global,
     spare: Vec<Cell>,
@@ -50,7 +50,7 @@ fn insert(
     }
 }
 
-/// Reads `PLACE COLUMN CSV`: exactly one record of one field.
+/// Reads `PLACE COLUMN CSV`, where `CSV` must be exactly one record of one field.
 fn set(alloc: Global, kinds: &[Kind], mut words: Words) -> Result<Option<Command>, Refusal>
     ensures command { IfOk result (λ command. command ≡ set_of kinds.now words.entry) }
     ensures memory { IfErr result (λ e. e ≡ Refusal.NoMemory) }
@@ -120,7 +120,7 @@ fn offload(mut words: Words) -> Option<Step>
     Some(Step::BeginOffload { aggregate, group })
 }
 
-/// Reads the rest of the line of a word about objects or jobs.
+/// Returns the step that a word about objects or jobs spells with the rest of its line.
 fn movement_step(verb: Movement, words: Words) -> Option<Step>
     ensures { result ≡ movement_of verb words.entry }
 {
@@ -187,7 +187,7 @@ fn watch(alloc: Global, kinds: &[Kind], words: Words) -> Result<Option<Command>,
     }
 }
 
-/// Returns the step of a word about objects or jobs, if the line spells one.
+/// Returns the command that a word about objects or jobs spells with the rest of its line.
 fn movement(verb: Movement, words: Words) -> Option<Command>
     ensures { result ≡ option_map Command.Step (movement_of verb words.entry) }
 {
@@ -195,7 +195,7 @@ fn movement(verb: Movement, words: Words) -> Option<Command>
     Some(Command::Step(step))
 }
 
-/// Reads the rest of the line of a verb.
+/// Returns the command that a verb spells with the rest of its line.
 fn complete(
     alloc: Global,
     spare: Vec<Cell>,
@@ -235,8 +235,8 @@ fn complete(
     }
 }
 
-/// Returns the command that a line spells over a table of these columns, or `None` if it spells none. A row is made in the memory of cells that
-/// are no longer needed. Refused with `NoMemory` (1) alone.
+/// Parses a line as a command over a table of these columns; `None` if it spells none. A row reuses the memory of cells
+/// that are no longer needed. Refused only with `NoMemory` (1).
 pub fn parse(
     alloc: Global,
     spare: Vec<Cell>,

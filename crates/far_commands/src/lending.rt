@@ -1,4 +1,4 @@
-// Parts of columns, printed in place.
+// Prints parts of columns without copying a value.
 ghost use Rattle.std.specs.Prelude.{◌≡◌, [], ◌∷◌, ◌++◌, true, false, map, slice_range, OnOk, IfOk, IfErr};
 ghost use Rattle.csv.specs.Writing.{default_writer, fields_text};
 ghost use Rattle.far_types.specs.Lent.{lent_cell, text_cell};
@@ -16,7 +16,7 @@ use far_store::FarTickets;
 use far_texts::TextCells;
 use far_types::{CellRef, Kind, Refusal};
 
-/// Prints the pieces of a part of a column of numbers. Returns false if it cannot be lent.
+/// Prints the pieces of a part of a column of numbers. Returns false if the part cannot be lent.
 fn lent_ints<S: FarTickets>(
     page: &mut Page,
     view: &View<'_, S>,
@@ -36,7 +36,7 @@ fn lent_ints<S: FarTickets>(
     Ok(true)
 }
 
-/// Prints the marks of the places `from` up to `to`.
+/// Prints the marks of the places `from` to `to`, not including `to`.
 fn marks_at<S: FarTickets>(
     page: &mut Page,
     view: &View<'_, S>,
@@ -55,7 +55,7 @@ fn marks_at<S: FarTickets>(
     Ok(())
 }
 
-/// Prints the other texts of a row, after the first two.
+/// Prints the texts of a row after the first two.
 fn more_texts<S: FarTickets>(page: &mut Page, texts: &mut TextCells<'_, S>) -> Result<(), Refusal>
     ensures ok { OnOk result (page.new ≡ page.old ++ fields_text default_writer (map cell_text (map (λ it. text_cell it.0) texts.old))) }
     ensures memory { IfErr result (λ e. e ≡ Refusal.NoMemory) }
@@ -67,7 +67,7 @@ fn more_texts<S: FarTickets>(page: &mut Page, texts: &mut TextCells<'_, S>) -> R
     Ok(())
 }
 
-/// Prints the first two fields of a row of several. It is inlined, since the caller knows the cells' kind.
+/// Prints the first two fields of a row. Inlined, since the caller knows the kind of the cells.
 #[inline(always)]
 fn two_fields(page: &mut Page, first: CellRef, second: CellRef) -> Result<(), Refusal>
     ensures ok { OnOk result (page.new ≡ ((page.old ++ field_in_record false (cell_text (lent_cell first.entry))) ++ 44 ∷ []) ++ field_in_record false (cell_text (lent_cell second.entry))) }
@@ -78,7 +78,7 @@ fn two_fields(page: &mut Page, first: CellRef, second: CellRef) -> Result<(), Re
     cell(page, false, second)
 }
 
-/// Prints texts as a row, with the end of its line.
+/// Prints texts as a row, with its line feed.
 fn text_row<S: FarTickets>(page: &mut Page, texts: &mut TextCells<'_, S>) -> Result<(), Refusal>
     ensures ok { OnOk result (page.new ≡ page.old ++ row_line (map (λ it. text_cell it.0) texts.old)) }
     ensures memory { IfErr result (λ e. e ≡ Refusal.NoMemory) }
@@ -99,7 +99,7 @@ fn text_row<S: FarTickets>(page: &mut Page, texts: &mut TextCells<'_, S>) -> Res
     page.text("\n")
 }
 
-/// Prints `piece FLAGS VALUES` of a part of a column of texts, as one piece. Returns false if it cannot be lent.
+/// Prints a part of a column of texts as one piece, `piece FLAGS VALUES`. Returns false if the part cannot be lent.
 fn text_piece<S: FarTickets>(
     page: &mut Page,
     view: &View<'_, S>,
@@ -120,7 +120,7 @@ fn text_piece<S: FarTickets>(
     Ok(true)
 }
 
-/// Prints the pieces of a part of a column of texts, row group by row group. Returns false if one cannot be lent.
+/// Prints the pieces of a part of a column of texts, one for each row group. Returns false if one cannot be lent.
 fn lent_texts<S: FarTickets>(
     page: &mut Page,
     view: &View<'_, S>,
@@ -143,7 +143,8 @@ fn lent_texts<S: FarTickets>(
     Ok(true)
 }
 
-/// Makes the current reply a part of a column: its pieces, or `empty`, each value read in place. Returns false if the part cannot be lent.
+/// Makes the reply the pieces of a part of a column, or `empty`. Reads each value in place. Returns false if the part
+/// cannot be lent.
 #[inline(never)]
 pub fn lent<S: FarTickets>(
     reply: &mut Page,
@@ -156,7 +157,7 @@ pub fn lent<S: FarTickets>(
     ensures memory { IfErr result (λ e. e ≡ Refusal.NoMemory) }
 {
     let view = frame.scope();
-    // For the proof: gives that a row group has a place.
+    // For the proof: shows that row groups are not empty.
     let _size = view.size();
     reply.truncate(0);
     if from >= to {

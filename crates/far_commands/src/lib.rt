@@ -1,5 +1,5 @@
 #![tactic(auto)]
-//! The commands of the script language over a table: each line is read as a command and answered.
+//! The commands of the script language over a table: parses each line as a command, carries it out and prints the reply.
 
 mod command;
 mod lending;

@@ -1,4 +1,4 @@
-// The rows of a table as text.
+// Prints the rows of a table.
 ghost use Rattle.std.specs.Prelude.{◌≡◌, ◌≢◌, ℕ, List, map, drop, length, ◌++◌, true, OnOk, IfErr};
 ghost use Rattle.std.specs.Fmt.{signed_decimal};
 ghost use Rattle.far_types.specs.Lent.{lent_cell};
@@ -16,10 +16,10 @@ use far_script::{Output, Page, ShellFault, Sink};
 use far_store::FarTickets;
 use far_types::{CellRef, Refusal};
 
-/// How many bytes of rows are gathered before they are added to the output.
+/// How many bytes of rows are printed before they are added to the output.
 const GATHERED: usize = 4_096;
 
-/// Prints a field of a record of one field, or of several.
+/// Prints a field, alone in its record or as one of several.
 fn field(page: &mut Page, is_lone: bool, text: &[u8]) -> Result<(), Refusal>
     ensures ok { OnOk result (page.new ≡ page.old ++ field_in_record is_lone text.now) }
     ensures memory { IfErr result (λ e. e ≡ Refusal.NoMemory) }
@@ -31,7 +31,7 @@ fn field(page: &mut Page, is_lone: bool, text: &[u8]) -> Result<(), Refusal>
     }
 }
 
-/// Prints a number as a field: it needs no quotes, alone in its record or not.
+/// Prints a number as a field. A number needs no quotes.
 #[inline(always)]
 fn number(page: &mut Page, _is_lone: bool, value: i64) -> Result<(), Refusal>
     ensures ok { OnOk result (page.new ≡ page.old ++ field_in_record _is_lone (signed_decimal value)) }
@@ -40,7 +40,7 @@ fn number(page: &mut Page, _is_lone: bool, value: i64) -> Result<(), Refusal>
     page.signed(value)
 }
 
-/// Prints a cell as a field. It is inlined, since the callers know the cell's kind.
+/// Prints a cell as a field. Inlined, since the callers know the kind of the cell.
 #[inline(always)]
 pub fn cell(page: &mut Page, is_lone: bool, cell: CellRef) -> Result<(), Refusal>
     ensures ok { OnOk result (page.new ≡ page.old ++ field_in_record is_lone (cell_text (lent_cell cell.entry))) }
@@ -53,7 +53,7 @@ pub fn cell(page: &mut Page, is_lone: bool, cell: CellRef) -> Result<(), Refusal
     }
 }
 
-/// Prints the other fields of a row, after the first.
+/// Prints the fields of a row after the first.
 fn more_fields<S: FarTickets>(page: &mut Page, row: &RowRef<'_, S>) -> Result<(), Refusal>
     ensures ok { OnOk result (page.new ≡ page.old ++ fields_text default_writer (map cell_text (drop 1 row.now))) }
     ensures memory { IfErr result (λ e. e ≡ Refusal.NoMemory) }
@@ -84,7 +84,7 @@ fn print_row<S: FarTickets>(page: &mut Page, row: &RowRef<'_, S>) -> Result<(), 
     Ok(())
 }
 
-/// Prints the row of a place as a line. A row that is here is refused with `NoMemory` (1) alone.
+/// Prints the row of a place as a line. Refused only with `NoMemory` (1), if no object of the row group is away.
 fn print_place<S: FarTickets>(
     page: &mut Page,
     view: &View<'_, S>,
@@ -97,7 +97,7 @@ fn print_place<S: FarTickets>(
     print_row(page, &cells)
 }
 
-/// Returns whether there is a row at a place.
+/// Returns whether the row of a place is alive.
 fn is_live<S: FarTickets>(view: &View<'_, S>, place: u32) -> bool
     ensures { result ≡ is_live place view.now.table.places }
 {
@@ -121,7 +121,7 @@ fn live_rows<S: FarTickets>(frame: &Frame<S>) -> u64
     count
 }
 
-/// Adds the current reply to the output if it is long, and makes it empty.
+/// Adds the current reply to the output if it is long, and then clears it.
 fn add_if_long<W: Sink>(output: &mut Output<W>, writer: &mut W) -> Result<(), ShellFault>
     ensures ok { OnOk result ((text : List ℕ) × Prints (W.contents writer.old) output.old.page text (W.contents writer.new) output.new.page × (output.old.reply ≡ text ++ output.new.reply)) }
     ensures err { IfErr result (λ fault. PrintsCut fault (λ said. said ≡ output.old.reply) (W.contents writer.old) output.old.page (W.contents writer.new) output.new.page) }
@@ -137,8 +137,8 @@ fn add_if_long<W: Sink>(output: &mut Output<W>, writer: &mut W) -> Result<(), Sh
     Ok(())
 }
 
-/// Prints `rows COUNT`, and the live rows in the order of their places, as the csv writer writes them. If an object of any row group is
-/// away, prints that refusal in place of all of this, also if no row of the group is alive.
+/// Prints `rows COUNT`, and then each row that is alive, by place, as the csv writer writes it. If any object is away, even
+/// one of a row group without live rows, prints only that refusal.
 #[inline(never)]
 pub fn dump<S: FarTickets, W: Sink>(
     frame: &Frame<S>,

@@ -1,4 +1,4 @@
-// The rows of a load.
+// Inserts the rows of a load.
 ghost use Rattle.std.specs.Prelude.{◌≡◌, ℕ, List, [], ◌∷◌, true, false, OnOk, IfErr, IfOk};
 ghost use Rattle.std.specs.List.{slice_split};
 ghost use Rattle.csv.specs.Records.{fields_of};
@@ -20,14 +20,15 @@ use far_types::{Edit, Refusal, Row};
 use std::alloc::Global;
 use std::io::Read;
 
-/// How a load ended: how many rows were inserted, and the refusal of the next one, if there was one.
+/// The result of a load: how many rows were inserted, and the refusal of the next row, if it was refused.
 #[derive(Drop)]
 struct Loaded {
     count: u64,
     refusal: Option<Refusal>,
 }
 
-/// Inserts the fields of a record as a row. Refused with `NoMemory` (1) alone; then nothing was inserted.
+/// Inserts the fields of a record as a row. Fails only with `NoMemory` (1), if there is no memory for its cells; the table
+/// then never got the row.
 fn insert_record<S: FarStore>(
     alloc: Global,
     world: &mut World<S>,
@@ -41,7 +42,7 @@ fn insert_record<S: FarStore>(
     Ok(world.edit(Edit::Insert(Row::new(cells))))
 }
 
-/// Inserts what stands between the commas of a line as a row. Refused with `NoMemory` (1) alone; then nothing was inserted.
+/// Inserts the fields between the commas of a line as a row. Fails as `insert_record` does.
 fn insert_line<S: FarStore>(
     alloc: Global,
     world: &mut World<S>,
@@ -56,8 +57,8 @@ fn insert_line<S: FarStore>(
     Ok(world.edit(Edit::Insert(Row::new(cells))))
 }
 
-/// Inserts the lines of a text that are not empty, up to the first that is refused. Refused with `NoMemory` (1) alone. It is not inlined,
-/// so that its loop has the registers for itself.
+/// Inserts the lines of a text that are not empty, up to the first that is refused. Fails as `insert_record` does. Not
+/// inlined, so that its loop has all registers.
 #[inline(never)]
 fn load_lines<S: FarStore>(
     alloc: Global,
@@ -90,7 +91,7 @@ fn load_lines<S: FarStore>(
     })
 }
 
-/// Reads the next record of a reader. Returns whether there was one. Refused with `NoMemory` (1) alone.
+/// Reads the next record, and returns whether there was one. Refused only with `NoMemory` (1).
 fn read_next<R: Read>(reader: &mut Reader<R>, fields: &mut StringRecord) -> Result<bool, Refusal>
     ensures none { IfOk result (λ found. found ≡ false → (rows : List (List (List ℕ))) → Remains R.remaining reader.old rows → rows ≡ []) }
     ensures some { IfOk result (λ found. found ≡ true → (rows : List (List (List ℕ))) → Remains R.remaining reader.old rows → (more : List (List (List ℕ))) × (rows ≡ fields_of fields.new ∷ more) × Remains R.remaining reader.new more) }
@@ -102,7 +103,7 @@ fn read_next<R: Read>(reader: &mut Reader<R>, fields: &mut StringRecord) -> Resu
     Ok(found)
 }
 
-/// Inserts the records that a reader still has, up to the first that is refused. Refused with `NoMemory` (1) alone.
+/// Inserts the remaining records of a reader, up to the first that is refused. Fails as `insert_record` does.
 ///
 /// The reader is borrowed, so that no early return drops it.
 fn insert_records<S: FarStore, R: Read>(
@@ -132,8 +133,8 @@ fn insert_records<S: FarStore, R: Read>(
     Err(Refusal::NoMemory)
 }
 
-/// Inserts the records of a text by the csv reader. It is not inlined: the reader has a large stack frame, which each command would pay
-/// for.
+/// Inserts the records of a text with the csv reader. Not inlined: the reader has a large stack frame, for which each
+/// command would pay.
 #[inline(never)]
 fn load_records<S: FarStore>(
     alloc: Global,
@@ -152,7 +153,7 @@ fn load_records<S: FarStore>(
     insert_records(alloc, world, &mut reader, &mut fields)
 }
 
-/// Inserts the records of a text in order, up to the first that is refused. Refused with `NoMemory` (1) alone.
+/// Inserts the records of a text in order, up to the first that is refused. Fails as `insert_record` does.
 fn insert_all<S: FarStore>(
     alloc: Global,
     world: &mut World<S>,
@@ -169,7 +170,7 @@ fn insert_all<S: FarStore>(
     }
 }
 
-/// Makes a page `loaded COUNT` and the refusal, if there is one.
+/// Writes `loaded COUNT`, and the refusal if there is one, to an empty page.
 fn print_loaded(reply: &mut Page, loaded: &Loaded) -> Result<(), Refusal>
     ensures ok { OnOk result (reply.new ≡ loaded_text loaded.now.count loaded.now.refusal) }
     ensures memory { IfErr result (λ e. e ≡ Refusal.NoMemory) }
@@ -182,8 +183,8 @@ fn print_loaded(reply: &mut Page, loaded: &Loaded) -> Result<(), Refusal>
     }
 }
 
-/// Inserts the records of a text in order, up to the first that is refused. Prints `loaded COUNT` and the refusal, if there is one. Refused
-/// with `NoMemory` (1) alone, if the shell itself runs out of memory.
+/// Inserts the records of a text in order, up to the first that is refused. Prints `loaded COUNT`, and the refusal if there
+/// is one. Fails only with `NoMemory` (1), if the shell itself runs out of memory.
 pub fn load<S: FarStore>(
     alloc: Global,
     world: &mut World<S>,

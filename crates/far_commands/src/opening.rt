@@ -1,4 +1,4 @@
-// The table that a line opens.
+// Opens the table of a first line.
 ghost use Rattle.std.specs.Prelude.{◌≡◌, ◌⊎◌, IfOk, IfErr};
 ghost use Rattle.far_types.specs.Bounds.{IsSchema, AreLimits};
 ghost use Rattle.far_commands.specs.Tables.{IsEmpty};
@@ -9,8 +9,8 @@ use far_store::FarStore;
 use far_types::{Refusal, Schema};
 use std::alloc::Global;
 
-/// Opens the table that a line asks for, over a store. Refused with `BadSchema` (2) exactly if its columns or its limits are not what a
-/// table may have, else with `NoMemory` (1) alone.
+/// Opens a table over a store. Refused with `BadSchema` (2) exactly if the columns or the limits are not valid, else only
+/// with `NoMemory` (1).
 pub fn open_table<S: FarStore>(
     alloc: Global,
     store: S,

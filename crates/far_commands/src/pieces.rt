@@ -1,4 +1,4 @@
-// Lent parts of columns, and row groups to fetch next, as lines.
+// Prints lent parts of columns, and the row groups to fetch next.
 ghost use Rattle.std.specs.Prelude.{◌≡◌, ◌++◌, ◌∷◌, [], map, OnOk, IfErr};
 ghost use Rattle.csv.specs.Writing.{default_writer, fields_text};
 ghost use Rattle.far_types.specs.declared.cell.Cell.{Cell};
@@ -13,12 +13,12 @@ use far_frame::{IntPiece, TextPiece};
 use far_script::Page;
 use far_types::{CellRef, Refusal, Text};
 
-/// A value of a piece, which may be missing.
+/// A value of a piece: a number or a text, or none.
 pub trait Value {
     /// The cell of the value.
     ghost cell: { Self → Cell };
 
-    /// Returns the value as a cell, borrowed in place.
+    /// Borrows the value as a cell.
     fn lend(&self) -> CellRef<'_>
         ensures { lent_cell result ≡ cell self.now };
 }
@@ -42,7 +42,7 @@ impl Value for Option<Text> {
     }
 }
 
-/// Returns the mark of a place that is alive, or of one that is not.
+/// Returns the mark that says whether a place is alive.
 pub fn mark(alive: bool) -> u8
     ensures { result ∷ [] ≡ flag_text alive }
 {
@@ -60,7 +60,7 @@ fn marks(page: &mut Page, flags: &[bool]) -> Result<(), Refusal>
     Ok(())
 }
 
-/// Prints the other fields of a row, after the first.
+/// Prints the values of a row after the first.
 fn more_values<V: Value>(page: &mut Page, values: &[V]) -> Result<(), Refusal>
     ensures ok { OnOk result (page.new ≡ page.old ++ fields_text default_writer (map cell_text (map V.cell values.now))) }
     ensures memory { IfErr result (λ e. e ≡ Refusal.NoMemory) }
@@ -72,7 +72,7 @@ fn more_values<V: Value>(page: &mut Page, values: &[V]) -> Result<(), Refusal>
     Ok(())
 }
 
-/// Prints values as a row, with the end of its line.
+/// Prints values as a row, with its line feed.
 fn row<V: Value>(page: &mut Page, values: &[V]) -> Result<(), Refusal>
     ensures ok { OnOk result (page.new ≡ page.old ++ row_line (map V.cell values.now)) }
     ensures memory { IfErr result (λ e. e ≡ Refusal.NoMemory) }
@@ -98,7 +98,7 @@ pub fn piece<V: Value>(page: &mut Page, values: &[V], flags: &[bool]) -> Result<
     row(page, values)
 }
 
-/// Prints the lines of pieces of numbers, or `empty`.
+/// Prints pieces of numbers, one a line, or `empty` if there are none.
 pub fn ints(page: &mut Page, pieces: &[IntPiece]) -> Result<(), Refusal>
     ensures ok { OnOk result (page.new ≡ page.old ++ pieces_text (map int_piece pieces.now)) }
     ensures memory { IfErr result (λ e. e ≡ Refusal.NoMemory) }
@@ -112,7 +112,7 @@ pub fn ints(page: &mut Page, pieces: &[IntPiece]) -> Result<(), Refusal>
     Ok(())
 }
 
-/// Prints the lines of pieces of texts, or `empty`.
+/// Prints pieces of texts, one a line, or `empty` if there are none.
 pub fn texts(page: &mut Page, pieces: &[TextPiece]) -> Result<(), Refusal>
     ensures ok { OnOk result (page.new ≡ page.old ++ pieces_text (map text_piece pieces.now)) }
     ensures memory { IfErr result (λ e. e ≡ Refusal.NoMemory) }
@@ -126,7 +126,7 @@ pub fn texts(page: &mut Page, pieces: &[TextPiece]) -> Result<(), Refusal>
     Ok(())
 }
 
-/// Prints `next` and the row groups, or `next none`.
+/// Prints `next` and the row groups, or `next none` if there are none.
 pub fn next(page: &mut Page, groups: &[u32]) -> Result<(), Refusal>
     ensures ok { OnOk result (page.new ≡ page.old ++ next_text groups.now) }
     ensures memory { IfErr result (λ e. e ≡ Refusal.NoMemory) }

@@ -1,12 +1,11 @@
-// The table of a script, and how many commands it had.
+// The table of a script, with the number of commands so far.
 ghost use Rattle.std.specs.Prelude.{◌≡◌, ◌≤◌};
 
 use far_frame::World;
 use far_store::FarStore;
 use std::marker::Model;
 
-/// The state of a script. Contracts see the world of its table, and the number of the last command. A command meets at most one fault of
-/// the store.
+/// The table of a script, with the number of commands so far. A command meets at most one fault of the store.
 ///
 /// The lines after a first command are answered over it:
 #[derive(Drop)]
@@ -27,7 +26,7 @@ impl<S: FarStore> Model for Progress<S> {
 }
 
 impl<S: FarStore> Progress<S> {
-    /// Returns a script past its first command, which opened this table.
+    /// Returns the state of a script whose first command opened this table.
     pub fn new(world: World<S>) -> Progress<S>
         requires few { world.faults ≤ 1 }
         ensures { result ≡ record { world = world; number = 1 } }

@@ -1,4 +1,4 @@
-// Aggregates that are computed from scratch.
+// Computes the answers of aggregates from scratch.
 ghost use Rattle.std.specs.Prelude.{◌≡◌, IfErr, IfOk, OnOk};
 ghost use Rattle.far_table.specs.Recounting.{IsAnswerNow};
 ghost use Rattle.far_commands.specs.Recounts.{IsNotRecounted, Recounts, recount_workers};
@@ -10,15 +10,15 @@ use far_script::print::{answer, refused};
 use far_store::{FarStore, Meter};
 use far_types::{Answer, Refusal};
 
-/// Returns how many threads fold the rows of a recount at most.
+/// Returns the number of threads for a recount.
 fn workers() -> u32
     ensures { result ≡ recount_workers }
 {
     4
 }
 
-/// Returns the answer of an aggregate, computed from scratch over the rows as they are. Refused with `NoAggregate` (12); else with
-/// `FarFault` (21) if the store fails, or `NoMemory` (1). The world does not count the faults of a recount.
+/// Computes the answer of an aggregate from scratch, from the rows that the table has now. Refused with `NoAggregate` (12),
+/// or with `FarFault` (21) if a store fails, or with `NoMemory` (1). The world does not count the faults of a recount.
 fn from_scratch<S: FarStore, A: Resources<S>>(
     resources: &A,
     world: &World<S>,
@@ -34,7 +34,7 @@ fn from_scratch<S: FarStore, A: Resources<S>>(
         .recount(rt, world.store(), &mut meter, aggregate, workers())
 }
 
-/// Computes the answer of an aggregate from scratch, and prints it, or the refusal.
+/// Recounts an aggregate, and prints the answer or the refusal.
 pub fn recount<S: FarStore, A: Resources<S>>(
     resources: &A,
     world: &World<S>,

@@ -1,4 +1,4 @@
-// A table that goes on with a new store.
+// Moves the far copies of a table to a new store.
 ghost use Rattle.std.specs.Prelude.{◌≡◌, ◌+◌, ◌≤◌, ◌<◌, ◌^◌, OnOk, IfErr, IsErrAnd, IsOkAnd};
 ghost use Rattle.far_frame.specs.Renewing.{IsMigratedTo};
 ghost use Rattle.far_commands.specs.Renewals.{IsRenewed, IsNotRenewed, Renews};
@@ -23,7 +23,7 @@ const SMALLEST: Limits = Limits {
     text_size: 64,
 };
 
-/// Returns an empty table, which stands in for another while that moves. Refused with `NoMemory` (1) alone.
+/// Returns an empty table, which takes the place of the script's table during the move. Refused only with `NoMemory` (1).
 fn stand_in<S: FarStore, A: Resources<S>>(resources: &A) -> Result<World<S>, Refusal>
     ensures memory { IfErr result (λ e. e ≡ Refusal.NoMemory) }
 {
@@ -40,7 +40,7 @@ fn stand_in<S: FarStore, A: Resources<S>>(resources: &A) -> Result<World<S>, Ref
     }
 }
 
-/// Stores the moved value, or the returned one if the move was refused.
+/// Puts the table back: the moved one, or the old one if the move was refused.
 ///
 /// Generic, since a proof over the table's own type takes minutes.
 fn put_back<T: Drop>(place: &mut T, moved: Result<T, (Refusal, T)>) -> Result<(), Refusal>
@@ -59,7 +59,8 @@ fn put_back<T: Drop>(place: &mut T, moved: Result<T, (Refusal, T)>) -> Result<()
     }
 }
 
-/// Moves a table to a store. Refused as `World::migrate` is; then the table is moved back, jobs included, but for its count of faults.
+/// Moves the far copies of a table to a store. Refused as `World::migrate` is. A refused call changes only the count of
+/// faults: jobs stay valid.
 fn migrate<S: FarStore>(world: &mut World<S>, empty: World<S>, store: S) -> Result<(), Refusal>
     requires few { world.old.faults < 2 ^ 62 }
     ensures renewed { OnOk result (IsMigratedTo S.content S.content (S.store_id store) world.old world.new) }
@@ -69,8 +70,8 @@ fn migrate<S: FarStore>(world: &mut World<S>, empty: World<S>, store: S) -> Resu
     put_back(world, old.migrate(store))
 }
 
-/// Moves the far copies of the table to a new store of this capacity. Refused as `World::migrate` is, and with `NoMemory` (1) if the store
-/// cannot be allocated. Then the table is as it was, jobs included, but for its count of faults.
+/// Moves the far copies of the table to a new store of this capacity. Refused as `World::migrate` is, and with `NoMemory`
+/// (1) if the store cannot be allocated. A refused call changes only the count of faults: jobs stay valid.
 fn go_on<S: FarStore, A: Resources<S>>(
     resources: &A,
     world: &mut World<S>,
@@ -85,8 +86,8 @@ fn go_on<S: FarStore, A: Resources<S>>(
     migrate(world, empty, store)
 }
 
-/// Goes on with a new store of this capacity, and prints `renewed`, or the refusal. It is not inlined: the tables that move have a large
-/// stack frame, which each command would pay for.
+/// Moves the far copies to a new store of this capacity, and prints `renewed` or the refusal. Not inlined: the tables have
+/// a large stack frame, for which each command would pay.
 #[inline(never)]
 pub fn renew<S: FarStore, A: Resources<S>>(
     resources: &A,

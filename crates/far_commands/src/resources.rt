@@ -1,4 +1,4 @@
-// The resources of a script.
+// What a script needs from its environment.
 ghost use Rattle.std.specs.Prelude.{◌≡◌, IfOk, IfErr};
 
 use far_store::{AgentStore, FarTickets};
@@ -6,7 +6,7 @@ use far_types::Refusal;
 use std::alloc::Global;
 use std::thread::Threads;
 
-/// The resources of a script: its allocator, the runtime that makes its threads, and what makes the stores of its table.
+/// What a script needs from its environment: an allocator, a runtime that makes threads, and empty stores.
 pub trait Resources<S: FarTickets> {
     /// The type of the runtime.
     type Runtime: Threads + Sync;
@@ -14,17 +14,17 @@ pub trait Resources<S: FarTickets> {
     /// Returns the allocator.
     fn alloc(&self) -> Global;
 
-    /// Borrows the runtime that makes the threads of a recount. A method of this trait cannot make them, since it does not know that its
-    /// type is `Sync`.
+    /// Borrows the runtime. It, and not a method of this trait, makes the threads of a recount, since only its type is
+    /// known to be `Sync`.
     fn runtime(&self) -> &Self::Runtime;
 
-    /// Returns an empty store that gives out the numbers below `capacity`. Refused with `NoMemory` (1) alone.
+    /// Returns an empty store for `capacity` contents. Refused only with `NoMemory` (1).
     fn store(&self, capacity: u64) -> Result<S, Refusal>
         ensures capacity { IfOk result (λ store. S.capacity_of store ≡ capacity) }
         ensures memory { IfErr result (λ e. e ≡ Refusal.NoMemory) };
 }
 
-/// Stores in this process, whose puts wait by `rt`, and threads of `rt`.
+/// Resources in this process: stores that keep contents in memory and whose puts wait by `rt`, and threads of `rt`.
 #[derive(Drop)]
 pub struct Agents<R> {
     rt: R,
@@ -32,7 +32,7 @@ pub struct Agents<R> {
 }
 
 impl<R> Agents<R> {
-    /// Returns the resources of this runtime and this memory.
+    /// Returns resources of this runtime and this allocator.
     pub fn new(rt: R, alloc: Global) -> Agents<R>
         ensures runtime { result.rt ≡ rt }
         ensures memory { result.alloc ≡ alloc }

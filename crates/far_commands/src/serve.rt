@@ -1,4 +1,4 @@
-// Serves lines as commands.
+// Serves lines as commands and prints their replies.
 ghost use Rattle.std.specs.Prelude.{◌≡◌, ℕ, List, ◌++◌, ◌+◌, ◌≤◌, ◌<◌, ◌^◌, true, false, codes, IfOk, IfErr, OnOk, OnErr, Some};
 ghost use Rattle.far_frame.specs.State.{live};
 ghost use Rattle.far_commands.specs.Cuts.{Fails, FailsBy, IsListing, PrintsCut, TakesFor};
@@ -18,14 +18,15 @@ use super::progress::Progress;
 use super::recounting::recount;
 use super::renewing::renew;
 use super::resources::Resources;
+use far_aggregates::Line;
 use far_frame::{Reply, Step, World};
-use far_script::print::{answer, numbered, refused, total};
+use far_script::print::{answer, extrema, numbered, refused, total};
 use far_script::{ByteRange, Input, Output, Page, ShellFault, Sink, Source};
 use far_store::FarStore;
 use far_types::Refusal;
 use std::alloc::Global;
 
-/// Returns the text of the reply to a step that returns nothing.
+/// Returns the text for `Done` as the reply to a step.
 fn done(step: &Step) -> &'static str
     ensures { result.now ≡ done_text step.now }
 {
@@ -35,7 +36,7 @@ fn done(step: &Step) -> &'static str
     }
 }
 
-/// Prints a reply. `done` is the text for `Reply::Done`. It is not inlined, so that the calls it makes are inlined into it.
+/// Prints a reply, with `done` as the text for `Reply::Done`. Not inlined, so that the calls in it are.
 #[inline(never)]
 fn print_reply(page: &mut Page, done: &str, reply: &Reply) -> Result<(), Refusal>
     ensures ok { OnOk result (page.new ≡ reply_text done.now reply.now) }
@@ -55,8 +56,8 @@ fn print_reply(page: &mut Page, done: &str, reply: &Reply) -> Result<(), Refusal
     }
 }
 
-/// Takes the step that lends a part of a column, and prints the part in place, so that no value is copied. Returns false if it cannot be
-/// lent; then the world is as it was.
+/// Serves `lend` without copying a value, and prints the pieces. Returns false, and changes nothing in the world, if the
+/// part cannot be lent.
 fn take_lending<S: FarStore>(
     world: &mut World<S>,
     column: u32,
@@ -78,7 +79,7 @@ fn take_lending<S: FarStore>(
     }
 }
 
-/// Takes the step that lends a part of a column, and prints its reply.
+/// Serves `lend`, and prints the pieces or the refusal.
 fn take_lend<S: FarStore>(
     world: &mut World<S>,
     column: u32,
@@ -94,13 +95,13 @@ fn take_lend<S: FarStore>(
     if take_lending(world, column, from, to, reply)? {
         return Ok(());
     }
-    // What cannot be lent is refused by the step itself.
+    // The part cannot be lent. The step itself says why.
     let given = world.serve(Step::Lend { column, from, to });
     print_reply(reply, "ok\n", &given)
 }
 
-/// Answers an ask of totals without key column as they are kept, so that no lines are made. Returns false if there are no such totals, or row
-/// groups are still pending.
+/// Answers an `ask` of totals without key column directly, without making lines. Returns false if the aggregate is of
+/// another form or has pending row groups.
 fn answer_plain<S: FarStore>(world: &World<S>, a: u32, reply: &mut Page) -> Result<bool, Refusal>
     ensures plain { IfOk result (λ plain. plain ≡ true → Takes S.FarTickets world.now (Step.Ask a) reply.new world.now) }
     ensures memory { IfErr result (λ e. e ≡ Refusal.NoMemory) }
@@ -113,21 +114,42 @@ fn answer_plain<S: FarStore>(world: &World<S>, a: u32, reply: &mut Page) -> Resu
     Ok(true)
 }
 
-/// Takes the step that asks an aggregate, and prints its reply.
+/// Answers an ask of extrema without key column by their one line, and makes no list. Returns false if there are no such extrema, they have
+/// no line, or row groups are still pending.
+fn answer_extrema<S: FarStore>(world: &World<S>, a: u32, reply: &mut Page) -> Result<bool, Refusal>
+    ensures plain { IfOk result (λ plain. plain ≡ true → Takes S.FarTickets world.now (Step.Ask a) reply.new world.now) }
+    ensures memory { IfErr result (λ e. e ≡ Refusal.NoMemory) }
+{
+    let frame = world.frame();
+    let Some(spec) = frame.spec(a) else {
+        return Ok(false);
+    };
+    if spec.key.is_some() {
+        return Ok(false);
+    }
+    let Ok(Some(Line::Extrema { min, max })) = frame.line(a, &None) else {
+        return Ok(false);
+    };
+    reply.truncate(0);
+    extrema(reply, &(None, min, max))?;
+    Ok(true)
+}
+
+/// Serves `ask`, and prints the answer or the refusal.
 fn take_ask<S: FarStore>(world: &mut World<S>, a: u32, reply: &mut Page) -> Result<(), Refusal>
     requires few { world.old.faults < 2 ^ 62 }
     ensures ok { OnOk result (Takes S.FarTickets world.old (Step.Ask a) reply.new world.new) }
     ensures faults { world.new.faults ≤ world.old.faults + 1 }
     ensures memory { IfErr result (λ e. e ≡ Refusal.NoMemory) }
 {
-    if answer_plain(world, a, reply)? {
+    if answer_plain(world, a, reply)? || answer_extrema(world, a, reply)? {
         return Ok(());
     }
     let given = world.serve(Step::Ask(a));
     print_reply(reply, "ok\n", &given)
 }
 
-/// Takes a step, and prints its reply. An edit, which most steps are, takes the shorter way to the table.
+/// Serves a step, and prints its reply. Edits, which most steps are, go to the table on a shorter path.
 fn take_step<S: FarStore>(world: &mut World<S>, step: Step, reply: &mut Page) -> Result<(), Refusal>
     requires few { world.old.faults < 2 ^ 62 }
     ensures ok { OnOk result (Takes S.FarTickets world.old step reply.new world.new) }
@@ -149,7 +171,7 @@ fn take_step<S: FarStore>(world: &mut World<S>, step: Step, reply: &mut Page) ->
     }
 }
 
-/// Loads the rows after a line, which have this many bytes, and prints the reply.
+/// Serves `load`: takes this many bytes after the line, inserts their rows, and prints the reply.
 fn serve_load<S: FarStore, R: Source + Drop, W: Sink>(
     alloc: Global,
     world: &mut World<S>,
@@ -171,7 +193,7 @@ fn serve_load<S: FarStore, R: Source + Drop, W: Sink>(
     output.add_printed(printed)
 }
 
-/// Serves a command, with the bytes after its line that belong to it, and prints its reply.
+/// Serves a command, taking the bytes of a load from the input, and prints its reply.
 fn serve_command<S: FarStore, A: Resources<S>, R: Source + Drop, W: Sink>(
     resources: &A,
     world: &mut World<S>,
@@ -207,7 +229,7 @@ fn serve_command<S: FarStore, A: Resources<S>, R: Source + Drop, W: Sink>(
     }
 }
 
-/// Prints `syntax command NUMBER`, the reply to a line that is no command.
+/// Prints `syntax command NUMBER`, the reply to a line that spells no command.
 fn print_syntax<W: Sink>(output: &mut Output<W>, number: u32) -> Result<(), ShellFault>
     ensures ok { OnOk result (output.new.page ≡ output.old.page ++ numbered_text (codes "syntax command") number) }
     ensures err { OnErr result (output.new.page ≡ output.old.page) }
@@ -218,7 +240,8 @@ fn print_syntax<W: Sink>(output: &mut Output<W>, number: u32) -> Result<(), Shel
     output.add_printed(printed)
 }
 
-/// Returns the command that a line spells over a world's table, or `None` if it spells none. A row is made in the memory of the row before.
+/// Parses a line as a command over the world's table; `None` if it spells none. A row reuses the memory of the row before
+/// it.
 fn parse_line<S: FarStore>(
     alloc: Global,
     world: &mut World<S>,
@@ -232,7 +255,7 @@ fn parse_line<S: FarStore>(
     parse(alloc, spare, world.frame().schema().as_slice(), line)
 }
 
-/// Answers a line: an empty one is no command, and any other the next one.
+/// Answers a line. An empty line gets no reply and is not counted; any other is the next command.
 pub fn answer_line<S: FarStore, A: Resources<S>, R: Source + Drop, W: Sink>(
     resources: &A,
     progress: &mut Progress<S>,
