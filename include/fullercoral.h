@@ -230,8 +230,9 @@ uint32_t fc_last_refusal(fc_table *table, fc_details *details);
 uint32_t fc_insert(fc_table *table, const fc_cell *cells, size_t cells_len, uint32_t *place);
 
 /* Appends `rows` rows that are given column by column, in order, until one is refused. Writes how many were appended, also if it is
- * refused; the code is then the refusal of the next row, as fc_insert has it. Refused with FC_BAD_ARGUMENT before any row if the
- * columns are not as many as the table's, or one has another kind or length than it should, or offsets that descend or leave `bytes`. */
+ * refused; the code is then the refusal of the next row, as fc_insert has it (FC_NO_UTF8: a text of that row). Refused with
+ * FC_BAD_ARGUMENT before any row if the columns are not as many as the table's, or one has another kind or length than it should, too
+ * few bits in `valid`, or offsets that descend or leave `bytes`. */
 uint32_t fc_insert_columns(fc_table *table, const fc_column *columns, size_t columns_len, size_t rows, size_t *inserted);
 
 /* Puts a cell into a column of a place. Refused with FC_NO_COLUMN, FC_WRONG_KIND, FC_TEXT_TOO_LONG, FC_NO_ROW, FC_REMOVED_ROW, FC_ABSENT
@@ -241,8 +242,8 @@ uint32_t fc_set(fc_table *table, uint32_t column, uint32_t place, const fc_cell 
 
 /* Puts a cell into a column of each of `places`, in order, until one is refused. `values` has a row for each of them. Writes how many
  * were set, also if it is refused; the code is then the refusal of the next one, as fc_set has it. A place may stand there more than
- * once. Refused with FC_BAD_ARGUMENT before any cell if `values` has no kind that there is or another length than it should, or offsets
- * that descend or leave `bytes`; FC_NO_COLUMN and FC_WRONG_KIND come with the first cell. */
+ * once. Refused with FC_BAD_ARGUMENT before any cell if `values` has no kind that there is or another length than it should, too few
+ * bits in `valid`, or offsets that descend or leave `bytes`; FC_NO_COLUMN and FC_WRONG_KIND come with the first cell. */
 uint32_t fc_set_column(fc_table *table, uint32_t column, const uint32_t *places, size_t places_len, const fc_column *values, size_t *set);
 
 /* Removes the row of a place. Refused with FC_NO_ROW, FC_REMOVED_ROW, FC_ABSENT, FC_EDITS_USED_UP, FC_NO_MEMORY. */

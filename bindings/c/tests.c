@@ -161,6 +161,72 @@ static void many_rows(void) {
     OK(fc_close(&table));
 }
 
+/* Rows by columns that do not fit, for each reason there is, and a text among them that is no UTF-8: the rows before it are appended. */
+static void refused_rows(void) {
+    fc_table table;
+    const int64_t numbers[3] = {5, 0, -2};
+    const uint64_t offsets[4] = {0, 3, 3, 7}, descending[4] = {0, 3, 2, 7};
+    const uint8_t valid[1] = {255};
+    const fc_column texts = {numbers, 0, offsets, 4, (const uint8_t *)"ryeoats", 7, valid, 0, FC_TEXT};
+    const fc_column ints = {numbers, 3, offsets, 0, (const uint8_t *)"", 0, valid, 1, FC_INT};
+    fc_column columns[2], wrong[9];
+    fc_details why;
+    size_t inserted = 99;
+    uint32_t places;
+    for (int i = 0; i < 9; i++) wrong[i] = i < 5 ? texts : ints;
+    wrong[0].numbers_len = 1;    /* texts with a number */
+    wrong[1].offsets_len = 3;    /* two texts */
+    wrong[2].offsets = descending;
+    wrong[3].bytes_len = 6;      /* the last text ends behind the bytes */
+    wrong[4].kind = FC_INT;      /* texts as numbers */
+    wrong[5].numbers_len = 2;    /* two numbers */
+    wrong[6].offsets_len = 1;    /* numbers with an offset */
+    wrong[7].kind = FC_MISSING;  /* of no kind that there is */
+    wrong[8] = texts;            /* texts for a column of numbers */
+    open_bakery(&table);
+    CODE(fc_remove(&table, 9), FC_NO_ROW);
+    for (int i = 0; i < 9; i++) {
+        columns[0] = i < 5 ? wrong[i] : texts;
+        columns[1] = i < 5 ? ints : wrong[i];
+        inserted = 99;
+        CODE(fc_insert_columns(&table, columns, 2, 3, &inserted), FC_BAD_ARGUMENT);
+        CHECK(inserted == 0);
+    }
+    columns[0] = texts;
+    columns[1] = ints;
+    columns[0].bytes = (const uint8_t *)"ryeoat\xff";
+    CODE(fc_insert_columns(&table, columns, 2, 3, &inserted), FC_NO_UTF8);
+    CHECK(inserted == 2);
+    OK(fc_last_refusal(&table, &why));
+    CHECK(why.code == FC_NO_ROW);
+    OK(fc_places(&table, &places));
+    CHECK(places == 5);
+    OK(fc_close(&table));
+}
+
+/* A mask that has no bit for the last of nine rows. */
+static void short_masks(void) {
+    fc_table table;
+    const int64_t numbers[9] = {0};
+    const uint64_t offsets[10] = {0};
+    const uint8_t valid[2] = {255, 255};
+    const uint32_t places[9] = {0};
+    fc_column columns[2] = {
+        {numbers, 0, offsets, 10, (const uint8_t *)"", 0, valid, 0, FC_TEXT},
+        {numbers, 9, offsets, 0, (const uint8_t *)"", 0, valid, 1, FC_INT},
+    };
+    size_t count = 99;
+    open_bakery(&table);
+    CODE(fc_insert_columns(&table, columns, 2, 9, &count), FC_BAD_ARGUMENT);
+    CODE(fc_set_column(&table, 1, places, 9, &columns[1], &count), FC_BAD_ARGUMENT);
+    CHECK(count == 0);
+    columns[1].valid_len = 2;
+    OK(fc_insert_columns(&table, columns, 2, 9, &count));
+    OK(fc_set_column(&table, 1, places, 9, &columns[1], &count));
+    CHECK(count == 9);
+    OK(fc_close(&table));
+}
+
 /* Whether the cell of column 1 of a place is this number, or missing if there is none. */
 static bool has_number(fc_table *table, uint32_t place, const int64_t *number) {
     fc_cell row[2] = {{0, fc_no_bytes, 0}, {0, fc_no_bytes, 0}};
@@ -440,6 +506,53 @@ static void reading(void) {
     OK(fc_close(&table));
 }
 
+/* What is lent, twice over, and refused between: nothing but the last refusal changes. */
+static void lending(void) {
+    fc_table table;
+    fc_line line = {.key_text = fc_no_bytes};
+    fc_cell row[2] = {{0, fc_no_bytes, 0}, {0, fc_no_bytes, 0}};
+    fc_bytes name = fc_no_bytes, out = fc_no_bytes;
+    fc_object before, after;
+    fc_details why;
+    uint64_t job, number = 999, begun, waiting;
+    uint32_t by_name, places;
+    size_t lines;
+    bool valid;
+    open_bakery(&table);
+    OK(fc_watch(&table, &BY_NAME, &by_name));
+    OK(fc_scan(&table, by_name, 0));
+    OK(fc_ask(&table, by_name, &lines));
+    OK(fc_begin_evict(&table, 1, 0, &job));
+    OK(fc_carry(&table, job));
+    memset(&before, 0, sizeof before);
+    memset(&after, 0, sizeof after);
+    OK(fc_object_of(&table, 1, 0, &before));
+    for (int i = 0; i < 2; i++) {
+        name = out = line.key_text = row[0].text = fc_no_bytes;
+        OK(fc_line_at(&table, 0, &line));
+        CHECK(line.key_text.len == 5 && line.count == 2 && line.sum_low == 7);
+        OK(fc_row(&table, 1, row, 2));
+        CHECK(row[0].text.len == 3 && row[1].number == 3);
+        OK(fc_text(&table, 0, 2, &name, &valid));
+        CHECK(valid && name.len == 5);
+        OK(fc_outgoing(&table, job, &number, &out));
+        CHECK(number == 0 && out.len > 0);
+        CODE(fc_line_at(&table, 2, &line), FC_NOTHING);
+        CODE(fc_row(&table, 3, row, 2), FC_NO_ROW);
+        CODE(fc_text(&table, 1, 0, &name, &valid), FC_WRONG_KIND);
+        CODE(fc_outgoing(&table, 77, &number, &out), FC_STALE_JOB);
+        OK(fc_last_refusal(&table, &why));
+        CHECK(why.code == FC_STALE_JOB);
+    }
+    OK(fc_object_of(&table, 1, 0, &after));
+    CHECK(memcmp(&before, &after, sizeof before) == 0 && before.version == after.version);
+    OK(fc_jobs(&table, &begun, &waiting));
+    OK(fc_places(&table, &places));
+    CHECK(begun == 1 && waiting == 1 && places == 3 && is_found(&table, text_cell("rye"), 1));
+    OK(fc_commit(&table, job));
+    OK(fc_close(&table));
+}
+
 static void moving(void) {
     fc_table table;
     fc_object object;
@@ -509,6 +622,124 @@ static void moving(void) {
     OK(fc_jobs(&table, &begun, &waiting));
     CHECK(begun > 0);
     OK(fc_close(&table));
+}
+
+static void refused_jobs(void) {
+    fc_table table;
+    uint64_t job = 99, number = 99;
+    fc_bytes bytes = fc_no_bytes;
+    open_bakery(&table);
+    CODE(fc_begin_evict(&table, 2, 0, &job), FC_NO_COLUMN);
+    CODE(fc_begin_evict(&table, 1, 1, &job), FC_OUT_OF_RANGE);
+    CODE(fc_begin_fetch(&table, 1, 0, &job), FC_STALE_JOB);
+    CODE(fc_begin_offload(&table, 0, 0, &job), FC_NO_AGGREGATE);
+    CODE(fc_merge(&table, 0), FC_STALE_JOB);
+    CODE(fc_outgoing(&table, 0, &number, &bytes), FC_STALE_JOB);
+    CODE(fc_wanted(&table, 0, 0, &number), FC_STALE_JOB);
+    CODE(fc_deliver_copy(&table, 1, 0, bytes.at, 0), FC_NOTHING);
+    OK(fc_pin(&table, 0, 0));
+    OK(fc_pin(&table, 1, 0));
+    CODE(fc_begin_coldest(&table, &job), FC_NOTHING);
+    CHECK(job == 99);
+    OK(fc_begin_evict(&table, 1, 0, &job));
+    CODE(fc_outgoing(&table, job, &number, &bytes), FC_NOTHING);
+    CODE(fc_merge(&table, job), FC_STALE_JOB);
+    CHECK(number == 99 && bytes.len == 0);
+    OK(fc_close(&table));
+}
+
+/* --- Each call with a closed handle ------------------------------------------------------------------------------------------------ */
+
+static void closed_edits(void) {
+    fc_table table = {NULL};
+    const fc_cell cell = {0, fc_no_bytes, FC_MISSING};
+    const fc_column column = {(const int64_t[1]){0}, 0, (const uint64_t[1]){0}, 0, fc_no_bytes.at, 0, fc_no_bytes.at, 0, FC_INT};
+    uint32_t n = 99, first = 99;
+    size_t count = 99;
+    fc_sum sum;
+    fc_line line = {.key_text = fc_no_bytes};
+    CODE(fc_insert(&table, &cell, 1, &n), FC_CLOSED);
+    CODE(fc_insert_columns(&table, &column, 1, 0, &count), FC_CLOSED);
+    CODE(fc_set(&table, 0, 0, &cell), FC_CLOSED);
+    CODE(fc_set_column(&table, 0, &n, 0, &column, &count), FC_CLOSED);
+    CODE(fc_remove(&table, 0), FC_CLOSED);
+    CODE(fc_watch(&table, &TOTAL, &n), FC_CLOSED);
+    CODE(fc_unwatch(&table, 0), FC_CLOSED);
+    CODE(fc_scan(&table, 0, 0), FC_CLOSED);
+    CODE(fc_pending(&table, 0, &n, &first), FC_CLOSED);
+    CODE(fc_ask(&table, 0, &count), FC_CLOSED);
+    CODE(fc_recount(&table, 0, &count), FC_CLOSED);
+    CODE(fc_line_at(&table, 0, &line), FC_CLOSED);
+    CODE(fc_find(&table, &cell, &count), FC_CLOSED);
+    CODE(fc_ask_key(&table, 0, &cell, &line), FC_CLOSED);
+    CODE(fc_plain(&table, 0, &sum), FC_CLOSED);
+    CODE(fc_spec_of(&table, 0, &(fc_aggregate){0, 0, 0, 0, false}), FC_CLOSED);
+    CHECK(n == 99 && first == 99 && count == 99);
+}
+
+static void closed_readers(void) {
+    fc_table table = {NULL};
+    fc_cell cell = {0, fc_no_bytes, FC_MISSING};
+    fc_bytes lent = fc_no_bytes;
+    fc_limits limits = LIMITS;
+    fc_details why = {99, 0, 0, 0};
+    fc_object object;
+    fc_space space;
+    int64_t value = 99;
+    uint64_t offsets[2] = {99, 99}, waiting = 99;
+    uint8_t byte = 99;
+    bool valid = false, alive = false;
+    uint32_t n = 99;
+    size_t size = 99;
+    CODE(fc_row(&table, 0, &cell, 1), FC_CLOSED);
+    CODE(fc_is_alive(&table, 0, &alive), FC_CLOSED);
+    CODE(fc_numbers(&table, 0, 0, 1, &value, 1, &valid, 1, &alive, 1), FC_CLOSED);
+    CODE(fc_text(&table, 0, 0, &lent, &valid), FC_CLOSED);
+    CODE(fc_texts_size(&table, 0, 0, 1, &size), FC_CLOSED);
+    CODE(fc_texts(&table, 0, 0, 1, offsets, 2, &byte, 1, &valid, 1, &alive, 1), FC_CLOSED);
+    CODE(fc_places(&table, &n), FC_CLOSED);
+    CODE(fc_columns(&table, &n), FC_CLOSED);
+    CODE(fc_kind_of(&table, 0, &n), FC_CLOSED);
+    CODE(fc_limits_of(&table, &limits), FC_CLOSED);
+    CODE(fc_object_of(&table, 0, 0, &object), FC_CLOSED);
+    CODE(fc_space_of(&table, FC_INT, &space), FC_CLOSED);
+    CODE(fc_faults(&table, &offsets[0]), FC_CLOSED);
+    CODE(fc_jobs(&table, &offsets[0], &waiting), FC_CLOSED);
+    CODE(fc_last_refusal(&table, &why), FC_CLOSED);
+    CHECK(value == 99 && offsets[0] == 99 && waiting == 99 && byte == 99 && n == 99 && size == 99 && !valid && !alive);
+    CHECK(memcmp(&limits, &LIMITS, sizeof limits) == 0 && why.code == 99);
+}
+
+static void closed_jobs(void) {
+    fc_table table = {NULL};
+    fc_bytes bytes = fc_no_bytes;
+    fc_job about;
+    uint64_t n = 99;
+    uint32_t groups[2] = {99, 99};
+    size_t count = 99;
+    CODE(fc_pin(&table, 0, 0), FC_CLOSED);
+    CODE(fc_unpin(&table, 0, 0), FC_CLOSED);
+    CODE(fc_compact(&table, FC_INT, 0), FC_CLOSED);
+    CODE(fc_saw(&table, 0, 0), FC_CLOSED);
+    CODE(fc_proposals(&table, 0, groups, 2, &count), FC_CLOSED);
+    CODE(fc_begin_evict(&table, 0, 0, &n), FC_CLOSED);
+    CODE(fc_begin_coldest(&table, &n), FC_CLOSED);
+    CODE(fc_begin_fetch(&table, 0, 0, &n), FC_CLOSED);
+    CODE(fc_begin_offload(&table, 0, 0, &n), FC_CLOSED);
+    CODE(fc_job_of(&table, 0, &about), FC_CLOSED);
+    CODE(fc_wanted(&table, 0, 0, &n), FC_CLOSED);
+    CODE(fc_deliver(&table, 0, 0, bytes.at, 0), FC_CLOSED);
+    CODE(fc_carry(&table, 0), FC_CLOSED);
+    CODE(fc_outgoing(&table, 0, &n, &bytes), FC_CLOSED);
+    CODE(fc_commit(&table, 0), FC_CLOSED);
+    CODE(fc_install(&table, 0), FC_CLOSED);
+    CODE(fc_merge(&table, 0), FC_CLOSED);
+    CODE(fc_give_up(&table, 0), FC_CLOSED);
+    CODE(fc_fault(&table, 0), FC_CLOSED);
+    CODE(fc_deliver_copy(&table, 0, 0, bytes.at, 0), FC_CLOSED);
+    CODE(fc_migrate(&table, 10), FC_CLOSED);
+    CODE(fc_close(&table), FC_CLOSED);
+    CHECK(n == 99 && groups[0] == 99 && count == 99 && bytes.len == 0);
 }
 
 static void going_on(void) {
@@ -650,12 +881,19 @@ int main(void) {
     opening();
     edits();
     many_rows();
+    refused_rows();
+    short_masks();
     many_cells();
     finding();
     one_key();
     aggregates();
     reading();
+    lending();
     moving();
+    refused_jobs();
+    closed_edits();
+    closed_readers();
+    closed_jobs();
     going_on();
     lies();
     a_day_without_memory(0);

@@ -13,3 +13,4 @@ pub mod Proposed
 pub mod RowRefusals
 pub mod FirstFaults
 pub mod TurnedAway
+pub mod ColumnsFit

@@ -8,6 +8,7 @@ pub mod Carrying
 pub mod Cells
 pub mod Unreadable
 pub mod Columns
+pub mod ColumnFaults
 pub mod Opening
 pub mod Specs
 pub mod Sums

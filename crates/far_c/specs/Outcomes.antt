@@ -84,6 +84,14 @@ abbrev pub IsRejectedFor : (TableState → ℕ → Type 0) → ℕ → Option Ta
 IsRejectedFor why code old new = (new ≡ old)
     × MatchOption old (code ≡ 100) (λ table. why table code)
 
+-- the handle is closed, or a call of many steps is rejected with a code for which this holds. No
+-- step is refused, so the last refusal stays
+abbrev pub IsStoppedFor : (TableState → ℕ → Type 0) → ℕ → Option TableState → Option TableState
+    → Type 0
+IsStoppedFor why code old new = (option_map (λ table. table.refusal) new
+    ≡ option_map (λ table. table.refusal) old)
+    × MatchOption old (code ≡ 100) (λ table. why table code)
+
 -- what C passes does not fit
 abbrev pub IsUnfit : Type 0 → TableState → ℕ → Type 0
 IsUnfit fits table code = (code ≡ 103) × ¬ fits

@@ -1,9 +1,10 @@
 // Rows that are given column by column, and cells of one column.
-ghost use Rattle.std.specs.Prelude.{◌≡◌, ◌≤◌, ◌<◌, ◌+◌, ◌^◌, [], ◌∷◌, IfOk, IfSome, IsSomeAnd, length, slice_range};
-ghost use Rattle.std.specs.Option.{MatchOption};
+ghost use Rattle.std.specs.Prelude.{◌≡◌, ◌≤◌, ◌<◌, ◌+◌, ◌↔◌, IfErr, IfNone, IfOk, IfSome, IsSomeAnd, IsTrue, OnOk, length, slice_range};
 ghost use Rattle.far_types.specs.Lent.{lent_cell};
+ghost use Rattle.far_c.specs.ColumnFaults.{AreColumnsOf, AreFirstRead, AreNumbers, AreOffsets, AreTexts, CellFaultIn, HasText, IsColumn, IsColumnOf, IsMask, IsNotAppended, IsNotSet, IsReadIn, IsRowRead, RowFaultIn};
 ghost use Rattle.far_c.specs.Columns.{AreAppended, AreSet, IsNextRefused, column_cell, column_row, has_value, insert_of, offset_at, set_of};
-ghost use Rattle.far_c.specs.Outcomes.{IsOneOf, IsRefusal};
+ghost use Rattle.far_c.specs.Outcomes.{IsRefusal, IsStoppedFor};
+ghost use Rattle.far_c.specs.Unreadable.{IsUnreadable};
 
 use crate::cell::{INT, TEXT, copy_cell, write_cell};
 use crate::code::{BAD_ARGUMENT, CLOSED, OK};
@@ -40,7 +41,14 @@ pub extern "C" fn fc_insert_columns(
     ensures next { IsRefusal result
         → IsSomeAnd handle.new.table (IsNextRefused (insert_of columns.now inserted.new) result) }
     ensures rejected { 100 ≤ result
-        → MatchOption handle.old.table (result ≡ 100) (λ _. IsOneOf (102 ∷ 103 ∷ []) result) }
+        → IsStoppedFor (IsNotAppended columns.now rows inserted.new) result
+        handle.old.table handle.new.table }
+    ensures fit { result < 100
+        → IsSomeAnd handle.old.table
+        (λ old. AreColumnsOf old.world.state.table.schema rows columns.now) }
+    ensures read { IfSome handle.old.table
+        (λ _. AreFirstRead (IsRowRead columns.now) inserted.new) }
+    ensures closed { result ≡ 100 → inserted.new ≡ inserted.old }
 {
     let Some(table) = handle.table() else {
         return CLOSED;
@@ -53,12 +61,18 @@ pub extern "C" fn fc_insert_columns(
 }
 
 // Whether there is a column of the right kind and length for each of the table's.
-fn fit(columns: &[FcColumn<'_>], kinds: &[Kind], rows: usize) -> bool {
-    columns.len() == kinds.len()
-        && columns
-            .iter()
-            .zip(kinds)
-            .all(|(column, kind)| column.fits(*kind, rows))
+fn fit(columns: &[FcColumn<'_>], kinds: &[Kind], rows: usize) -> bool
+    ensures { IsTrue result ↔ AreColumnsOf kinds.now rows columns.now }
+{
+    if columns.len() != kinds.len() {
+        return false;
+    }
+    for column in 0..columns.len() {
+        if !columns[column].fits(kinds[column], rows) {
+            return false;
+        }
+    }
+    true
 }
 
 // Appends rows that fit, one after the other.
@@ -73,7 +87,10 @@ fn insert_rows(
     ensures all { result ≡ 0 → inserted.new ≡ rows }
     ensures next { IsRefusal result
         → IsNextRefused (insert_of columns.now inserted.new) result table.new }
-    ensures codes { 100 ≤ result → IsOneOf (102 ∷ 103 ∷ []) result }
+    ensures unread { 100 ≤ result
+        → (inserted.new < rows) × IsUnreadable (RowFaultIn columns.now inserted.new) result }
+    ensures kept { 100 ≤ result → table.new.refusal ≡ table.old.refusal }
+    ensures read { AreFirstRead (IsRowRead columns.now) inserted.new }
 {
     for row in 0..rows {
         let cells = match read_column_row(alloc, table.spare_cells(), columns, row) {
@@ -100,7 +117,9 @@ fn read_column_row(
     columns: &[FcColumn<'_>],
     row: usize,
 ) -> Result<Row, Unread>
-    ensures { IfOk result (λ made. made ≡ column_row columns.now row) }
+    ensures ok { IfOk result (λ made. made ≡ column_row columns.now row) }
+    ensures read { OnOk result (IsRowRead columns.now row) }
+    ensures fault { IfErr result (RowFaultIn columns.now row) }
 {
     let mut made = spare;
     for column in 0..columns.len() {
@@ -128,7 +147,12 @@ pub extern "C" fn fc_set_column(
         → IsSomeAnd handle.new.table
         (IsNextRefused (set_of column places.now values.now set.new) result) }
     ensures rejected { 100 ≤ result
-        → MatchOption handle.old.table (result ≡ 100) (λ _. IsOneOf (102 ∷ 103 ∷ []) result) }
+        → IsStoppedFor (IsNotSet values.now (length places.now) set.new) result
+        handle.old.table handle.new.table }
+    ensures fit { result < 100 → IsColumn (length places.now) values.now }
+    ensures read { IfSome handle.old.table
+        (λ _. AreFirstRead (λ index. IsReadIn index values.now) set.new) }
+    ensures closed { result ≡ 100 → set.new ≡ set.old }
 {
     let Some(table) = handle.table() else {
         return CLOSED;
@@ -154,7 +178,10 @@ fn set_cells(
     ensures all { result ≡ 0 → set.new ≡ length places.now }
     ensures next { IsRefusal result
         → IsNextRefused (set_of column places.now values.now set.new) result table.new }
-    ensures codes { 100 ≤ result → IsOneOf (102 ∷ 103 ∷ []) result }
+    ensures unread { 100 ≤ result
+        → (set.new < length places.now) × IsUnreadable (CellFaultIn set.new values.now) result }
+    ensures kept { 100 ≤ result → table.new.refusal ≡ table.old.refusal }
+    ensures read { AreFirstRead (λ index. IsReadIn index values.now) set.new }
 {
     for index in 0..places.len() {
         let place = places[index];
@@ -180,34 +207,48 @@ fn set_cells(
 
 impl<'a> FcColumn<'a> {
     // Whether the column is of a kind that there is, and has so many rows.
-    fn has_rows(&self, rows: usize) -> bool {
-        self.fits(Kind::Int, rows) || self.fits(Kind::Text, rows)
+    fn has_rows(&self, rows: usize) -> bool
+        ensures { IsTrue result ↔ IsColumn rows self.now }
+    {
+        self.has_numbers(rows) || self.has_texts(rows)
     }
 
     // Whether the column is of this kind, and has so many rows.
-    fn fits(&self, kind: Kind, rows: usize) -> bool {
-        let of_kind = match kind {
-            Kind::Int => self.kind == INT && self.numbers.len() == rows && self.offsets.is_empty(),
-            Kind::Text => self.kind == TEXT && self.numbers.is_empty() && self.has_texts(rows),
-        };
-        of_kind && (self.valid.is_empty() || self.valid.len() >= rows.div_ceil(8))
+    fn fits(&self, kind: Kind, rows: usize) -> bool
+        ensures { IsTrue result ↔ IsColumnOf kind rows self.now }
+    {
+        match kind {
+            Kind::Int => self.has_numbers(rows),
+            Kind::Text => self.has_texts(rows),
+        }
     }
 
-    // Whether there are offsets for so many texts, which ascend and stay within the bytes.
-    fn has_texts(&self, rows: usize) -> bool {
-        let [_, ends @ ..] = self.offsets else {
-            return false;
-        };
-        let Some(last) = self.offsets.last() else {
-            return false;
-        };
-        ends.len() == rows && self.offsets.is_sorted() && *last <= self.bytes.len() as u64
+    // Whether the column has so many numbers.
+    fn has_numbers(&self, rows: usize) -> bool
+        ensures { IsTrue result ↔ AreNumbers rows self.now }
+    {
+        self.kind == INT
+            && self.numbers.len() == rows
+            && self.offsets.is_empty()
+            && is_mask(rows, self.valid)
+    }
+
+    // Whether the column has so many texts.
+    fn has_texts(&self, rows: usize) -> bool
+        ensures { IsTrue result ↔ AreTexts rows self.now }
+    {
+        self.kind == TEXT
+            && self.numbers.is_empty()
+            && are_offsets(self.offsets, rows, self.bytes.len())
+            && is_mask(rows, self.valid)
     }
 
     // The cell of a row, borrowed.
     #[inline(always)]
     fn cell(&self, row: usize) -> Result<CellRef<'_>, Unread>
-        ensures { IfOk result (λ cell. lent_cell cell ≡ column_cell self.now row) }
+        ensures cell { IfOk result (λ cell. lent_cell cell ≡ column_cell self.now row) }
+        ensures read { OnOk result (IsReadIn row self.now) }
+        ensures fault { IfErr result (CellFaultIn row self.now) }
     {
         if !has_value(self.valid, row) {
             return Ok(CellRef::Missing);
@@ -230,7 +271,9 @@ impl<'a> FcColumn<'a> {
     // The cell of a row, copied for a table.
     #[inline(always)]
     fn read(&self, alloc: Global, row: usize) -> Result<Cell, Unread>
-        ensures { IfOk result (λ cell. cell ≡ column_cell self.now row) }
+        ensures ok { IfOk result (λ cell. cell ≡ column_cell self.now row) }
+        ensures read { OnOk result (IsReadIn row self.now) }
+        ensures fault { IfErr result (CellFaultIn row self.now) }
     {
         copy_cell(alloc, self.cell(row)?)
     }
@@ -238,15 +281,36 @@ impl<'a> FcColumn<'a> {
     // The bytes of a row's text.
     #[inline(always)]
     fn text(&self, row: usize) -> Option<&[u8]>
-        ensures { IfSome result
+        ensures bytes { IfSome result
             (λ bytes. bytes.now
             ≡ slice_range self.now.bytes.now (offset_at self.now.offsets.now row)
             (offset_at self.now.offsets.now (row + 1))) }
+        ensures none { IfNone result (¬ (HasText row self.now)) }
     {
         let from = *self.offsets.get(row)?;
         let to = *self.offsets.get(row.checked_add(1)?)?;
         self.bytes.get(from as usize..to as usize)
     }
+}
+
+// Whether there are offsets for so many texts, which ascend and stay within so many bytes.
+fn are_offsets(offsets: &[u64], rows: usize, len: usize) -> bool
+    ensures { IsTrue result ↔ AreOffsets rows len offsets.now }
+{
+    let Some(last) = offsets.last() else {
+        return false;
+    };
+    if offsets.len() - 1 != rows || *last > len as u64 {
+        return false;
+    }
+    offsets.is_sorted()
+}
+
+// Whether a mask has a bit for each of so many rows, or is left out.
+fn is_mask(rows: usize, valid: &[u8]) -> bool
+    ensures { IsTrue result ↔ IsMask rows valid.now }
+{
+    valid.is_empty() || rows.div_ceil(8) <= valid.len()
 }
 
 // Whether a row has a value: its bit is set, or it has no bit.

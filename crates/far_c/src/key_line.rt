@@ -1,15 +1,12 @@
 // The line of one key, without the other lines of an answer.
-ghost use Rattle.std.specs.Prelude.{◌≡◌, ◌≢◌, ◌≤◌, [], ◌∷◌, None, true, IfOk, IfErr, IsSomeAnd};
+ghost use Rattle.std.specs.Prelude.{◌≡◌, ◌≢◌, ◌<◌, ◌≤◌, IfOk, IfErr, IsSomeAnd};
 ghost use Rattle.far_types.specs.Lent.{lent_cell};
-ghost use Rattle.far_types.specs.MayRefuse.{MayRefuse};
-ghost use Rattle.far_aggregates.specs.Aggregates.{ask_refusal};
-ghost use Rattle.far_aggregates.specs.Lines.{AnswersKey};
-ghost use Rattle.far_table.specs.Watching.{aggregate_at};
 ghost use Rattle.far_c.specs.Answering.{IsKey};
 ghost use Rattle.far_c.specs.Cells.{cell_of};
-ghost use Rattle.far_c.specs.KeyLines.{HasLine, IsLine, IsNotAnswered};
+ghost use Rattle.far_c.specs.KeyLines.{AnswersCell, HasLine, HasNoLine, IsLine, IsNotAnswered, MayRefuseKey};
 ghost use Rattle.far_c.specs.Keys.{key_of};
-ghost use Rattle.far_c.specs.Outcomes.{Behind, IsRefusal, IsRejected};
+ghost use Rattle.far_c.specs.Outcomes.{Behind, IsRefusal, IsRejectedFor};
+ghost use Rattle.far_c.specs.Unreadable.{IsReadable};
 
 use crate::answer::FcLine;
 use crate::cell::{FcCell, INT, MISSING, TEXT};
@@ -31,10 +28,14 @@ pub extern "C" fn fc_ask_key<'a>(
     key: &'a FcCell<'a>,
     line: &mut FcLine<'a>,
 ) -> u32
-    ensures line { result ≡ 0 → IsSomeAnd handle.old.table (λ old. HasLine old.world.state.table aggregate (key_of (cell_of key.now)) line.new) }
-    ensures none { result ≡ 104 → IsSomeAnd handle.old.table (λ old. AnswersKey old.world.state.table.places (aggregate_at old.world.state.table aggregate) (key_of (cell_of key.now)) None) }
-    ensures refused { IsRefusal result → Behind (IsNotAnswered result aggregate) handle.old.table handle.new.table }
-    ensures rejected { 100 ≤ result → IsRejected (102 ∷ 103 ∷ 104 ∷ []) result handle.old.table handle.new.table }
+    ensures line { result ≡ 0
+        → IsSomeAnd handle.old.table
+        (λ old. HasLine old.world.state.table aggregate (cell_of key.now) line.new) }
+    ensures refused { IsRefusal result
+        → Behind (IsNotAnswered result aggregate) handle.old.table handle.new.table }
+    ensures rejected { 100 ≤ result
+        → IsRejectedFor (HasNoLine aggregate key.now) result handle.old.table handle.new.table }
+    ensures read { result < 100 → IsReadable key.now }
     ensures kept { result ≡ 0 → handle.new.table ≡ handle.old.table }
     ensures unwritten { result ≢ 0 → line.new ≡ line.old }
 {
@@ -62,8 +63,9 @@ fn found_under(
     aggregate: u32,
     key: CellRef<'_>,
 ) -> Result<Option<Line>, Refusal>
-    ensures ok { IfOk result (AnswersKey table.now.world.state.table.places (aggregate_at table.now.world.state.table aggregate) (key_of (lent_cell key.entry))) }
-    ensures err { IfErr result (MayRefuse (ask_refusal (aggregate_at table.now.world.state.table aggregate)) true) }
+    ensures ok { IfOk result
+        (AnswersCell table.now.world.state.table aggregate (lent_cell key.entry)) }
+    ensures err { IfErr result (MayRefuseKey table.now.world.state.table aggregate) }
 {
     let frame = table.world().frame();
     match key.key(alloc, None) {
