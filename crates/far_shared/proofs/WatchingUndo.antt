@@ -16,7 +16,7 @@ use Rattle.far_frame.specs.declared.step.Step.TheVariants as step
 use Rattle.far_history.specs.Histories.{Planned}
 use Rattle.far_history.specs.declared.view.Entry.{Entry}
 use Rattle.far_shared.specs.Stripes.{StripeState, IsStripe}
-use Rattle.far_shared.specs.Watching.{after_register, uncounted, after_unregister}
+use Rattle.far_shared.specs.Watching.{IsAsBefore, after_register, after_unregister, uncounted}
 use Rattle.far_shared.proofs.StripesRegistry.{free-within, number-free}
 
 -- a reader finds nothing if nothing is
@@ -91,9 +91,18 @@ module _ {K : Type 0} where
       ap (λ (all : List (Option Registered)). uncounted (record h { state = record h.state { table = record h.state.table { aggregates = all } } }))
       (set-undone 0 a h.state.table.aggregates a (Some (registered_now spec h.state.table)) free (omega arith))
 
-  -- the same of a stripe in which it was made and undone
-  pub register-undone : (a : ℕ) (spec : Spec) (old made new : StripeState K) → lowest_free old.state.table ≡ Some a → made ≡ after_register a spec old → new ≡ after_unregister a made → uncounted new ≡ uncounted old
-  register-undone a spec old made new free is back = ap uncounted (back ∙ ap (after_unregister a) is) ∙ undone a spec old free
+  -- a stripe that stays the same is as before
+  pub unchanged : {old new : StripeState K} → new ≡ old → IsAsBefore old new
+  unchanged {old} {new} same =
+      let count : new.state.table.registrations ≡ old.state.table.registrations = ap (λ (h : StripeState K). h.state.table.registrations) same in
+      record { same = ap uncounted same; counted = omega (arith, count); once = omega (arith, count) }
+
+  -- the same of a stripe in which a registration was made and undone
+  pub register-undone : (a : ℕ) (spec : Spec) (old made new : StripeState K) → lowest_free old.state.table ≡ Some a → made ≡ after_register a spec old → new ≡ after_unregister a made → IsAsBefore old new
+  register-undone a spec old made new free is back =
+      let left : new ≡ after_unregister a (after_register a spec old) = back ∙ ap (after_unregister a) is in
+      let count : new.state.table.registrations ≡ old.state.table.registrations + 1 = ap (λ (h : StripeState K). h.state.table.registrations) left in
+      record { same = ap uncounted left ∙ undone a spec old free; counted = omega (arith, count); once = omega (arith, count) }
 
   -- a registration of a copy, under the number that was found beforehand
   pub at-number : (a b : ℕ) (copy spec : Spec) (old new : StripeState K) → copy ≡ spec → lowest_free old.state.table ≡ Some a → (lowest_free old.state.table ≡ Some b) × (new ≡ after_register b copy old) → new ≡ after_register a spec old

@@ -2,6 +2,7 @@ pub mod Applying
 pub mod Asking
 pub mod Closing
 pub mod Fours
+pub mod Guards
 pub mod Lines
 pub mod Opening
 pub mod Plans

@@ -1,5 +1,5 @@
 -- How an aggregate is registered in four stripes, and why it is not.
-use Rattle.std.specs.Prelude.{◌≡◌, ◌⊎◌, ℕ, List, None, Some}
+use Rattle.std.specs.Prelude.{◌≡◌, ◌⊎◌, ℕ, ◌+◌, ◌≤◌, List, None, Some}
 use Rattle.far_types.specs.declared.cell.Kind.{Kind}
 use Rattle.far_types.specs.declared.refusal.Refusal.{Refusal}
 use Rattle.far_types.specs.declared.refusal.Refusal.TheVariants as refusal
@@ -25,3 +25,9 @@ module _ {K : Type 0} where
   -- a stripe but for how many registrations were made: its history, rows, objects, pins and aggregates
   abbrev pub uncounted : StripeState K → StripeState K
   uncounted h = record h { state = record h.state { table = record h.state.table { registrations = 0 } } }
+
+  -- a stripe is as it was. It may count one registration more, which was made and taken back
+  pub record IsAsBefore (old new : StripeState K) : Type 0 where
+    pub same : uncounted new ≡ uncounted old
+    pub counted : old.state.table.registrations ≤ new.state.table.registrations
+    pub once : new.state.table.registrations ≤ old.state.table.registrations + 1

@@ -1,6 +1,8 @@
 // What the four stripes are asked together, and how one is read.
-ghost use Rattle.std.specs.Prelude.{◌≡◌, ◌<◌, ◌≤◌, IfOk, IfErr, OnOk};
+ghost use Rattle.std.specs.Prelude.{◌≡◌, ◌<◌, ◌≤◌, IfOk, IfErr};
+ghost use Rattle.far_frame.specs.State.{live};
 ghost use Rattle.far_shared.specs.Asking.{IsAnswer, IsAsked, IsLeft};
+ghost use Rattle.far_shared.specs.Guards.{number_of, stripe_under};
 
 use crate::four::answer_four;
 use crate::shared::Shared;
@@ -10,7 +12,7 @@ use far_history::PlanTag;
 use far_store::FarTickets;
 use far_types::{Answer, Refusal};
 use std::alloc::Global;
-use std::sync::{RwLock, RwLockReadGuard, Wait};
+use std::sync::{RwLockReadGuard, Wait};
 
 /// A stripe under its read lock. While it is held, no edit is made there and no object moves.
 #[derive(Drop)]
@@ -28,7 +30,8 @@ pub enum StripeGuard<'a, N: PlanTag, B: TableTag, S: FarTickets> {
 impl<N: PlanTag, B: TableTag, S: FarTickets, const I: usize> Stripe<N, B, S, I> {
     /// Returns a view of the rows. They are what a legal history leaves.
     fn view(&self) -> View<'_, S>
-        ensures { IsLeft N.plan result.table }
+        ensures same { result ≡ live self.now.state }
+        ensures left { IsLeft N.plan result.table }
     {
         self.keeper.known();
         self.frame.scope()
@@ -36,9 +39,10 @@ impl<N: PlanTag, B: TableTag, S: FarTickets, const I: usize> Stripe<N, B, S, I> 
 }
 
 impl<'a, N: PlanTag, B: TableTag, S: FarTickets> StripeGuard<'a, N, B, S> {
-    /// Returns a view of the rows of the stripe. They are what a legal history leaves.
+    /// Returns a view of the rows of the stripe. They are what a legal history leaves, and the same in each view of a guard.
     pub fn view(&self) -> View<'_, S>
-        ensures { IsLeft N.plan result.table }
+        ensures same { result ≡ live (stripe_under self.now).state }
+        ensures left { IsLeft N.plan result.table }
     {
         match self {
             StripeGuard::Zero(stripe) => stripe.view(),
@@ -69,31 +73,18 @@ fn answer_stripes<N: PlanTag, B: TableTag, S: FarTickets>(
     answer_four(alloc, &zero.frame, &one.frame, &two.frame, &three.frame, a)
 }
 
-/// Returns the stripe of this number under its read lock.
-fn read_under<'a, N: PlanTag, B: TableTag, S: FarTickets, const I: usize, R: Wait>(
-    rt: &R,
-    lock: &'a RwLock<Stripe<N, B, S, I>>,
-    stripe: u32,
-) -> RwLockReadGuard<'a, Stripe<N, B, S, I>>
-    requires own { stripe ≡ I }
-{
-    // For the proof: gives which stripe the lock is of.
-    let _own = stripe;
-    lock.read(rt)
-}
-
 impl<N: PlanTag, B: TableTag, S: FarTickets> Shared<N, B, S> {
     /// Returns the stripe of this number under its read lock. Refused with `OutOfRange` (14) exactly if there is no such
     /// stripe.
     pub fn scope<R: Wait>(&self, rt: &R, stripe: u32) -> Result<StripeGuard<'_, N, B, S>, Refusal>
-        ensures ok { OnOk result (stripe < 4) }
+        ensures ok { IfOk result (λ guard. (number_of guard ≡ stripe) × (stripe < 4)) }
         ensures refused { IfErr result (λ e. (e ≡ Refusal.OutOfRange) × (4 ≤ stripe)) }
     {
         match stripe {
-            0 => Ok(StripeGuard::Zero(read_under(rt, &self.zero, stripe))),
-            1 => Ok(StripeGuard::One(read_under(rt, &self.one, stripe))),
-            2 => Ok(StripeGuard::Two(read_under(rt, &self.two, stripe))),
-            3 => Ok(StripeGuard::Three(read_under(rt, &self.three, stripe))),
+            0 => Ok(StripeGuard::Zero(self.zero.read(rt))),
+            1 => Ok(StripeGuard::One(self.one.read(rt))),
+            2 => Ok(StripeGuard::Two(self.two.read(rt))),
+            3 => Ok(StripeGuard::Three(self.three.read(rt))),
             _ => Err(Refusal::OutOfRange),
         }
     }

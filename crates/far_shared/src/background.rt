@@ -92,7 +92,7 @@ fn sum_of(reports: &[Report]) -> Report
     sum
 }
 
-// Does works on at most `workers` threads, each of which gets consecutive ones.
+// Does works on at most `workers` threads, each of which gets consecutive ones. Returns the report of each.
 fn serve_chunks<
     N: PlanTag + Send + Sync,
     B: TableTag + Send + Sync,
@@ -104,10 +104,11 @@ fn serve_chunks<
     store: &S,
     workers: u32,
     works: &[Work],
-) -> Result<Report, AllocError>
+) -> Result<Vec<Report>, AllocError>
     requires store { S.store_id store.now ≡ B.store }
     requires some { 0 < workers }
-    ensures all { IfOk result (λ report. works_in report ≡ length works.now) }
+    ensures few { IfOk result (λ reports. vec_len reports ≤ workers) }
+    ensures all { IfOk result (λ reports. sum_by works_in reports.items ≡ length works.now) }
 {
     let size = chunk_for(works.len(), workers);
     let serve_some = |_: usize, chunk: &[Work]| -> Report
@@ -115,7 +116,7 @@ fn serve_chunks<
         ensures { works_in result ≡ length chunk.now }
     { serve_all(rt, shared, store, chunk) };
     let reports = thread::map_chunks(rt, shared.alloc, works, size, &serve_some)?;
-    Ok(sum_of(&reports))
+    Ok(reports)
 }
 
 /// Threads that do work in the background.
@@ -168,7 +169,7 @@ impl Background {
         if workers < 1 || workers > 8 {
             return Err(Refusal::OutOfRange);
         }
-        let report = serve_chunks(rt, shared, store, workers, &works)?;
-        Ok(report)
+        let reports = serve_chunks(rt, shared, store, workers, &works)?;
+        Ok(sum_of(&reports))
     }
 }

@@ -3,10 +3,10 @@ ghost use Rattle.std.specs.Prelude.{◌≡◌, ◌+◌, ◌<◌, ◌^◌, ℕ, L
 ghost use Rattle.far_types.specs.Edits.{after_edit, edit_refusal};
 ghost use Rattle.far_rows.specs.Jobs.{AreAt};
 ghost use Rattle.far_table.specs.Watching.{aggregate_at};
-ghost use Rattle.far_frame.specs.Effects.{Accepts, edit_reply};
+ghost use Rattle.far_frame.specs.Effects.{Accepts, Refuses, edit_reply};
 ghost use Rattle.far_frame.specs.declared.step.Step.TheVariants as step;
 ghost use Rattle.far_history.specs.Histories.{folded};
-ghost use Rattle.far_shared.specs.Applying.{place_of, WhyNot};
+ghost use Rattle.far_shared.specs.Applying.{place_of};
 ghost use Rattle.far_shared.specs.Plans.{IsPlan};
 ghost use Rattle.far_shared.specs.Stripes.{KeepsColumns, first_registered};
 
@@ -30,7 +30,7 @@ fn make<S: FarTickets>(frame: &mut Frame<S>, edit: Edit) -> Result<u32, Refusal>
     ensures made { OnOk result (frame.new.table ≡ after_edit edit frame.old.table) }
     ensures accepted { OnOk result (Accepts S.content frame.old (step.Edit edit) (edit_reply frame.old.table edit) frame.new) }
     ensures place { IfOk result (λ place. place ≡ place_of frame.old.table edit) }
-    ensures refused { IfErr result (WhyNot frame.old.table edit) }
+    ensures due { IfErr result (λ e. Refuses frame.old (step.Edit edit) e frame.new) }
     ensures err { OnErr result (frame.new ≡ frame.old) }
     ensures here { (id : List ℕ) → AreAt S.is_of id frame.old.rows → AreAt S.is_of id frame.new.rows }
     ensures columns { KeepsColumns frame.old.rows frame.new.rows }
@@ -79,7 +79,7 @@ pub(crate) fn change<N: PlanTag, S: FarTickets>(
     ensures accepted { OnOk result (Accepts S.content frame.old (step.Edit edit) (edit_reply frame.old.table edit) frame.new) }
     ensures place { IfOk result (λ changed. changed.place ≡ place_of frame.old.table edit) }
     ensures after { IfOk result (λ changed. changed.after ≡ record { edits = edits + 1; count = (folded N.plan.gauge frame.new.table.places).0; sum = (folded N.plan.gauge frame.new.table.places).1 }) }
-    ensures refused { IfErr result (WhyNot frame.old.table edit) }
+    ensures due { IfErr result (λ e. Refuses frame.old (step.Edit edit) e frame.new) }
     ensures err { OnErr result (frame.new ≡ frame.old) }
     ensures here { (id : List ℕ) → AreAt S.is_of id frame.old.rows → AreAt S.is_of id frame.new.rows }
     ensures columns { KeepsColumns frame.old.rows frame.new.rows }

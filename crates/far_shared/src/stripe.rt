@@ -1,7 +1,7 @@
 // What lies under the lock of a stripe.
 ghost use Rattle.std.specs.Prelude.{◌≡◌, ◌++◌, ◌∷◌, [], length, IfOk, IfErr, OnOk, OnErr};
 ghost use mathlib.Core.List.{IsPrefix};
-ghost use Rattle.far_frame.specs.Effects.{Accepts, edit_reply};
+ghost use Rattle.far_frame.specs.Effects.{Accepts, WhyRefused, edit_reply};
 ghost use Rattle.far_frame.specs.declared.step.Step.TheVariants as step;
 ghost use Rattle.far_history.specs.Histories.{replay, by_session, IsLegal};
 ghost use Rattle.far_history.specs.Rule.{entry};
@@ -82,6 +82,7 @@ impl<N: PlanTag, B: TableTag, S: FarTickets, const I: usize> Stripe<N, B, S, I> 
         ensures place { IfOk result (λ applied. applied.place ≡ place_of (replay N.plan self.old.log) edit) }
         ensures refused { OnErr result ((self.new ≡ self.old) × (me.new.mine ≡ me.old.mine)) }
         ensures why { IfErr result (WhyNot (replay N.plan self.old.log) edit) }
+        ensures due { IfErr result (WhyRefused self.old.state (step.Edit edit)) }
     {
         let before = self.keeper.look(rt, stripe_cell, me);
         let copy = Snapshot::of(&edit);

@@ -2,7 +2,7 @@
 ghost use Rattle.std.specs.Prelude.{◌≡◌, ◌≢◌, ◌<◌, length, is_none, Some, None, IfOk, IfErr, IfSome, IsTrue, OnOk, OnErr};
 ghost use Rattle.far_types.specs.Bounds.{spec_refusal};
 ghost use Rattle.far_table.specs.Watching.{aggregate_at, lowest_free};
-ghost use Rattle.far_shared.specs.Watching.{WatchRefusal, after_register, uncounted, after_unregister};
+ghost use Rattle.far_shared.specs.Watching.{IsAsBefore, WatchRefusal, after_register, after_unregister};
 
 use crate::shared::Shared;
 use crate::stripe::{Stripe, TableTag};
@@ -91,7 +91,7 @@ fn watch_two<N: PlanTag, B: TableTag, S: FarTickets, const I: usize, const J: us
     requires one { lowest_free one.old.state.table ≡ Some a }
     requires other { lowest_free other.old.state.table ≡ Some a }
     ensures both { OnOk result ((one.new ≡ after_register a spec.now one.old) × (other.new ≡ after_register a spec.now other.old)) }
-    ensures none { OnErr result ((uncounted one.new ≡ uncounted one.old) × (uncounted other.new ≡ uncounted other.old)) }
+    ensures none { OnErr result (IsAsBefore one.old one.new × (other.new ≡ other.old)) }
     ensures refused { IfErr result (WatchRefusal N.plan.schema spec.now) }
 {
     let first = spec.clone()?;
@@ -129,9 +129,15 @@ fn common_number<N: PlanTag, B: TableTag, S: FarTickets>(
     None
 }
 
-/// Registers an aggregate in four stripes under one number, or in none. If it is refused, the four are as before, but for how
-/// many registrations were made.
-fn watch_four<N: PlanTag, B: TableTag, S: FarTickets>(
+/// Registers an aggregate in four stripes under one number, or in none: what `Shared::watch_all` does under its four locks.
+/// Each registration counts. If it is refused, the four are as before, but that a registration that was taken back counts too.
+///
+/// Refused with the first of these that applies:
+///
+/// - `BadSpec` (3), `NoColumn` (4) or `WrongKind` (5), exactly as `Spec::check` says.
+/// - `TooManyAggregates` (13): a stripe has 32, or the lowest free numbers differ.
+/// - `NoMemory` (1) if an allocation fails, or `TooManyAggregates` (13) if a stripe registered 2^32.
+pub fn watch_four<N: PlanTag, B: TableTag, S: FarTickets>(
     zero: &mut Stripe<N, B, S, 0>,
     one: &mut Stripe<N, B, S, 1>,
     two: &mut Stripe<N, B, S, 2>,
@@ -141,7 +147,7 @@ fn watch_four<N: PlanTag, B: TableTag, S: FarTickets>(
     ensures number { IfOk result (λ a. (a ≢ 0) × (a < 32)) }
     ensures allowed { OnOk result (spec_refusal N.plan.schema spec.now ≡ None) }
     ensures all { IfOk result (λ a. (zero.new ≡ after_register a spec.now zero.old) × (one.new ≡ after_register a spec.now one.old) × (two.new ≡ after_register a spec.now two.old) × (three.new ≡ after_register a spec.now three.old)) }
-    ensures none { OnErr result ((uncounted zero.new ≡ uncounted zero.old) × (uncounted one.new ≡ uncounted one.old) × (uncounted two.new ≡ uncounted two.old) × (uncounted three.new ≡ uncounted three.old)) }
+    ensures none { OnErr result (IsAsBefore zero.old zero.new × IsAsBefore one.old one.new × IsAsBefore two.old two.new × (three.new ≡ three.old)) }
     ensures refused { IfErr result (WatchRefusal N.plan.schema spec.now) }
 {
     // Both come before any allocation, so that a failed one hides neither.
@@ -164,13 +170,7 @@ impl<N: PlanTag, B: TableTag, S: FarTickets> Shared<N, B, S> {
     /// Registers an aggregate in all four stripes under one number, which is below 32, or in none. Holds all four write locks.
     /// All row groups that hold a place are pending in it.
     ///
-    /// Refused with the first of these that applies:
-    ///
-    /// - `BadSpec` (3), `NoColumn` (4) or `WrongKind` (5), exactly as `Spec::check` says.
-    /// - `TooManyAggregates` (13): a stripe has 32, or the lowest free numbers differ.
-    /// - `NoMemory` (1) if an allocation fails, or `TooManyAggregates` (13) if a stripe registered 2^32.
-    ///
-    /// The four stripes then keep the rows, objects and aggregates that they had.
+    /// Refused as `watch_four` is. The four stripes then keep the rows, objects and aggregates that they had.
     pub fn watch_all<R: Wait>(&self, rt: &R, spec: Spec) -> Result<u32, Refusal>
         ensures number { IfOk result (λ a. (a ≢ 0) × (a < 32)) }
         ensures allowed { OnOk result (spec_refusal N.plan.schema spec ≡ None) }

@@ -15,23 +15,42 @@ use std::sync::Wait;
 pub struct Finale<P> {
     sessions: Vec<P>,
     last: P,
+    due: Due,
+}
+
+// What the four stripes are to have, and how many aggregates each.
+#[derive(Clone, Copy)]
+struct Due {
     left: [Left; 4],
+    aggregates: u32,
 }
 
 // What `close` returns if a session is missing.
 type Refused<N, B, S> = (Refusal, Shared<N, B, S>, Vec<Session<B>>);
 
-// Returns whether a table has these rows.
-fn has_left<S: FarTickets>(frame: &Frame<S>, left: Left) -> bool {
-    frame.places() == left.places && frame.plain(0) == Some((left.count, left.sum))
+// Returns whether a table has so many aggregates, which have the first numbers.
+fn has_aggregates<S: FarTickets>(frame: &Frame<S>, aggregates: u32) -> bool {
+    for a in 0..aggregates {
+        if frame.spec(a).is_none() {
+            return false;
+        }
+    }
+    true
 }
 
-// Returns whether four tables have these rows.
-fn have_left<S: FarTickets>(frames: &Four<Frame<S>>, left: &[Left; 4]) -> bool {
-    has_left(&frames.zero, left[0])
-        && has_left(&frames.one, left[1])
-        && has_left(&frames.two, left[2])
-        && has_left(&frames.three, left[3])
+// Returns whether a table has these rows, and so many aggregates.
+fn has_left<S: FarTickets>(frame: &Frame<S>, left: Left, aggregates: u32) -> bool {
+    frame.places() == left.places
+        && frame.plain(0) == Some((left.count, left.sum))
+        && has_aggregates(frame, aggregates)
+}
+
+// Returns whether four tables have what is due.
+fn have_left<S: FarTickets>(frames: &Four<Frame<S>>, due: &Due) -> bool {
+    has_left(&frames.zero, due.left[0], due.aggregates)
+        && has_left(&frames.one, due.left[1], due.aggregates)
+        && has_left(&frames.two, due.left[2], due.aggregates)
+        && has_left(&frames.three, due.left[3], due.aggregates)
 }
 
 // Returns whether a result is `Ok` with a value that passes a test. The type of the value is a parameter: to take four tables out of a
@@ -56,16 +75,16 @@ fn error_of<T: Drop, E: Drop>(answer: Result<T, E>) -> Option<E> {
     }
 }
 
-// Returns whether a shared table is closed with these sessions, and leaves these rows.
+// Returns whether a shared table is closed with these sessions, and leaves what is due.
 fn closes<N: PlanTag, B: TableTag, S: FarTickets, R: Wait>(
     rt: &R,
     shared: Shared<N, B, S>,
     sessions: Vec<Session<B>>,
-    left: &[Left; 4],
+    due: &Due,
 ) -> bool {
     is_ok_and(
         close(rt, shared, sessions),
-        |frames: &Four<Frame<S>>| -> bool { have_left(frames, left) },
+        |frames: &Four<Frame<S>>| -> bool { have_left(frames, due) },
     )
 }
 
@@ -80,11 +99,11 @@ fn closes_again<N: PlanTag, B: TableTag, S: FarTickets, R: Wait>(
     rt: &R,
     refused: Refused<N, B, S>,
     last: Session<B>,
-    left: &[Left; 4],
+    due: &Due,
 ) -> bool {
     let (refusal, shared, sessions) = refused;
     match with_last(sessions, last) {
-        Ok(sessions) => closes(rt, shared, sessions, left) && refusal == Refusal::OutOfRange,
+        Ok(sessions) => closes(rt, shared, sessions, due) && refusal == Refusal::OutOfRange,
         Err(_) => {
             drop(shared);
             false
@@ -101,10 +120,10 @@ fn closes_with_all<N: PlanTag, B: TableTag, S: FarTickets, R: Wait>(
     let Finale {
         sessions,
         last,
-        left,
+        due,
     } = finale;
     match error_of(close(rt, shared, sessions)) {
-        Some(refused) => closes_again(rt, refused, last, &left),
+        Some(refused) => closes_again(rt, refused, last, &due),
         None => {
             drop(last);
             false
@@ -140,11 +159,21 @@ fn left_by<P>(played: &[Played<P>]) -> [Left; 4] {
     }
 }
 
-// Returns what the four stripes are to have.
-fn due_of<P>(played: &[Played<P>], end: End) -> [Left; 4] {
+// Returns what the four stripes are to have. Each has its gauge.
+fn due_of<P>(played: &[Played<P>], end: End) -> Due {
     match end {
-        End::Leaves(left) => *left,
-        End::LeavesReported => left_by(played),
+        End::Leaves(left) => Due {
+            left: *left,
+            aggregates: 1,
+        },
+        End::LeavesWatched(left, aggregates) => Due {
+            left: *left,
+            aggregates,
+        },
+        End::LeavesReported => Due {
+            left: left_by(played),
+            aggregates: 1,
+        },
     }
 }
 
@@ -172,12 +201,12 @@ fn sessions_of<P: Drop>(alloc: Global, played: Vec<Played<P>>) -> Result<Vec<P>,
 }
 
 // Separates the last of these sessions.
-fn parted<P: Drop>(mut sessions: Vec<P>, left: [Left; 4]) -> Result<Finale<P>, Refusal> {
+fn parted<P: Drop>(mut sessions: Vec<P>, due: Due) -> Result<Finale<P>, Refusal> {
     match sessions.pop() {
         Some(last) => Ok(Finale {
             sessions,
             last,
-            left,
+            due,
         }),
         None => Err(Refusal::OutOfRange),
     }
@@ -190,7 +219,7 @@ pub fn finale_of<P: Drop>(
     end: End,
 ) -> Result<Finale<P>, Refusal> {
     all_came_out(&played)?;
-    let left = due_of(&played, end);
+    let due = due_of(&played, end);
     let sessions = sessions_of(alloc, played)?;
-    parted(sessions, left)
+    parted(sessions, due)
 }

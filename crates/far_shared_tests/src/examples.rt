@@ -194,6 +194,86 @@ static EXAMPLES: &[Scene] = &[
         ],
         end: End::Leaves(&[ROW_OF_5, ROW_OF_7, NO_ROW, NO_ROW]),
     },
+    // The one session reads a stripe, and does not let go of it before the other has read it too.
+    Scene {
+        name: "readers_of_a_stripe_do_not_wait_for_each_other",
+        table: Table::Numbers,
+        gate: Gate::Open,
+        roles: &[
+            Role::Plays(&[
+                (Step::Insert(0, 5), Ok(Reply::Applied(1, 0))),
+                (Step::Hold(0, 2), Ok(Reply::Done)),
+            ]),
+            Role::Plays(&[
+                (Step::Await(1), Ok(Reply::Done)),
+                (Step::Ask(0), Ok(Reply::Totals(1, 5))),
+                (Step::Lend(0), Ok(Reply::Lent(5))),
+                (Step::InPhases(Work::Build(0)), Ok(Reply::Nothing)),
+                (Step::Signal, Ok(Reply::Done)),
+            ]),
+        ],
+        end: End::Leaves(&[ROW_OF_5, NO_ROW, NO_ROW, NO_ROW]),
+    },
+    // The one session reads a stripe, and does not let go of it before the other has moved and built what another stripe has.
+    Scene {
+        name: "work_on_a_stripe_waits_for_no_other_stripe",
+        table: Table::Numbers,
+        gate: Gate::Open,
+        roles: &[
+            Role::Plays(&[
+                (Step::Insert(0, 5), Ok(Reply::Applied(1, 0))),
+                (Step::Insert(1, 7), Ok(Reply::Applied(1, 0))),
+                (Step::Watch, Ok(Reply::Number(1))),
+                (Step::Hold(0, 2), Ok(Reply::Done)),
+            ]),
+            Role::Plays(&[
+                (Step::Await(1), Ok(Reply::Done)),
+                (Step::Build(1), Ok(Reply::Done)),
+                (Step::Evacuate(1), Ok(Reply::Object(FIRST))),
+                (Step::InPhases(Work::Fetch(1, FIRST)), Ok(Reply::Done)),
+                (Step::Signal, Ok(Reply::Done)),
+            ]),
+        ],
+        end: End::Leaves(&[ROW_OF_5, ROW_OF_7, NO_ROW, NO_ROW]),
+    },
+    // The one session reads a gauge before and after each edit of the other.
+    Scene {
+        name: "a_gauge_is_looked_at_each_time",
+        table: Table::Numbers,
+        gate: Gate::Open,
+        roles: &[
+            Role::Plays(&[
+                (Step::Gauge(1), Ok(Reply::Reading(0, 0, 0))),
+                (Step::Signal, Ok(Reply::Done)),
+                (Step::Await(2), Ok(Reply::Done)),
+                (Step::Gauge(1), Ok(Reply::Reading(1, 1, 5))),
+                (Step::Signal, Ok(Reply::Done)),
+                (Step::Await(4), Ok(Reply::Done)),
+                (Step::Gauge(1), Ok(Reply::Reading(2, 1, 7))),
+            ]),
+            Role::Plays(&[
+                (Step::Await(1), Ok(Reply::Done)),
+                (Step::Insert(1, 5), Ok(Reply::Applied(1, 0))),
+                (Step::Signal, Ok(Reply::Done)),
+                (Step::Await(3), Ok(Reply::Done)),
+                (Step::Set(1, 0, 7), Ok(Reply::Applied(2, 0))),
+                (Step::Signal, Ok(Reply::Done)),
+            ]),
+        ],
+        end: End::Leaves(&[NO_ROW, ROW_OF_7, NO_ROW, NO_ROW]),
+    },
+    // The four tables have the two besides their gauges.
+    Scene {
+        name: "a_closed_table_keeps_its_aggregates",
+        table: Table::Numbers,
+        gate: Gate::Open,
+        roles: &[Role::Plays(&[
+            (Step::Insert(0, 5), Ok(Reply::Applied(1, 0))),
+            (Step::Watch, Ok(Reply::Number(1))),
+            (Step::WatchTotals, Ok(Reply::Number(2))),
+        ])],
+        end: End::LeavesWatched(&[ROW_OF_5, NO_ROW, NO_ROW, NO_ROW], 3),
+    },
 ];
 
 #[test]

@@ -20,6 +20,8 @@ mod lines;
 #[cfg(test)]
 mod looking;
 #[cfg(test)]
+mod objects;
+#[cfg(test)]
 mod opening;
 #[cfg(test)]
 mod phases;

@@ -4,7 +4,7 @@ ghost use Rattle.far_shared.specs.Opening.{HaveNames};
 
 use crate::ending::ends;
 use crate::gates::{Gated, gate_of};
-use crate::plans::plan_of;
+use crate::plans::{capacity_of, plan_of};
 use crate::playing::play_to_end;
 use crate::scenes::Scene;
 use far_history::PlanTag;
@@ -15,9 +15,6 @@ use std::alloc::Global;
 use std::marker::Brand;
 use std::sync::Wait;
 use std::thread::Threads;
-
-// How many contents a store takes.
-const CAPACITY: u64 = 16_777_216;
 
 // Returns whether a scene comes out on a table whose cells and store have these names.
 fn opened<
@@ -82,7 +79,7 @@ fn on_agent<R: Threads + Wait + Sync>(
     alloc: Global,
     scene: &Scene,
 ) -> Result<bool, Refusal> {
-    match AgentStore::new(rt, alloc, CAPACITY) {
+    match AgentStore::new(rt, alloc, capacity_of(scene.table)) {
         Ok(store) => {
             let gated = gate_of(store, scene.gate);
             let answer = staged(rt, alloc, &gated, scene);

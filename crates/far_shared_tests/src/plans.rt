@@ -18,12 +18,40 @@ pub const LIMITS: Limits = Limits {
     text_size: 4_096,
 };
 
+// The same with space for two objects, each of one place.
+const NARROW: Limits = Limits {
+    group: 1,
+    places: 1_048_576,
+    edits: 1_099_511_627_776,
+    int_segments: 2,
+    int_size: 1,
+    text_segments: 64,
+    text_size: 4_096,
+};
+
+// Returns the limits of each stripe of a table.
+fn limits_of(table: Table) -> Limits {
+    match table {
+        Table::Narrow => NARROW,
+        _ => LIMITS,
+    }
+}
+
+// Returns how many contents the store of a table takes.
+pub fn capacity_of(table: Table) -> u64 {
+    match table {
+        Table::Narrow => 4,
+        _ => 16_777_216,
+    }
+}
+
 // Returns the kinds of the columns of a table.
 fn kinds_of(alloc: Global, table: Table) -> Result<Vec<Kind>, AllocError> {
     match table {
         Table::Numbers => Ok(Vec::from_array(alloc, [Kind::Int])?),
         Table::NumbersAboveZero => Ok(Vec::from_array(alloc, [Kind::Int])?),
         Table::NumbersWithTexts => Ok(Vec::from_array(alloc, [Kind::Int, Kind::Text])?),
+        Table::Narrow => Ok(Vec::from_array(alloc, [Kind::Int])?),
     }
 }
 
@@ -33,6 +61,7 @@ fn tests_of(alloc: Global, table: Table) -> Result<Vec<Test>, AllocError> {
         Table::Numbers => Ok(Vec::new(alloc)),
         Table::NumbersAboveZero => Ok(Vec::from_array(alloc, [above_zero()])?),
         Table::NumbersWithTexts => Ok(Vec::new(alloc)),
+        Table::Narrow => Ok(Vec::new(alloc)),
     }
 }
 
@@ -68,7 +97,7 @@ fn gauge_of(alloc: Global, table: Table) -> Result<Spec, AllocError> {
 // Returns the plan of a table for so many sessions.
 pub fn plan_of(alloc: Global, table: Table, sessions: u64) -> Result<Plan, Refusal> {
     let schema = Schema::new(kinds_of(alloc, table)?)?;
-    Plan::new(schema, LIMITS, gauge_of(alloc, table)?, sessions)
+    Plan::new(schema, limits_of(table), gauge_of(alloc, table)?, sessions)
 }
 
 // Returns why a plan of numbers is refused with such a gauge and so many sessions.

@@ -11,6 +11,8 @@ pub enum Table {
     NumbersAboveZero,
     // A column of numbers and one of texts. The gauge is the totals of the numbers.
     NumbersWithTexts,
+    // A column of numbers in row groups of one place. Each stripe has space for two objects, and the store for four contents.
+    Narrow,
 }
 
 // What is done about puts into the store of a scene.
@@ -54,6 +56,14 @@ pub enum Works {
     Build,
     // A fifth stripe, a column that is not there, and nothing to build.
     Refused,
+    // Two objects of each of the last two stripes.
+    Last,
+    // The second row group of stripe 3 is brought back.
+    FetchSecond,
+    // A row group of each of the last two stripes is scanned.
+    BuildLast,
+    // The texts of stripe 0 are brought back.
+    FetchTexts,
 }
 
 // One call of a session. It holds no reference: else what plays calls could not be kept apart from the table.
@@ -212,11 +222,25 @@ pub const AWAY: Refusal = Refusal::Absent {
     group: 0,
 };
 
+// The numbers of the second row group.
+pub const SECOND: Name = Name {
+    column: 0,
+    group: 1,
+};
+
+// The texts of the first row group.
+pub const TEXTS: Name = Name {
+    column: 1,
+    group: 0,
+};
+
 // What the four stripes have at the end of a scene.
 #[derive(Clone, Copy)]
 pub enum End {
     // These rows.
     Leaves(&'static [Left; 4]),
+    // These rows, and so many aggregates, which have the first numbers.
+    LeavesWatched(&'static [Left; 4], u32),
     // What the first four sessions report that they left, one stripe each.
     LeavesReported,
 }

@@ -4,12 +4,13 @@ ghost use Rattle.std.specs.Prelude.{◌≡◌};
 use crate::opening::first_wrong;
 use crate::replies::worked;
 use crate::scenes::{
-    AWAY, End, FIRST, Gate, NO_ROW, ROW_OF_5, Replied, Reply, Role, Scene, Step, Table, Works,
+    AWAY, End, FIRST, Gate, NO_ROW, ROW_OF_5, Replied, Reply, Role, SECOND, Scene, Step, TEXTS,
+    Table, Works,
 };
 use far_history::PlanTag;
 use far_shared::{Background, Shared, TableTag, Work};
 use far_store::FarStore;
-use far_types::{Name, Refusal};
+use far_types::Refusal;
 use std::alloc::{AllocError, Global};
 use std::sync::Wait;
 use std::thread::Threads;
@@ -30,19 +31,18 @@ fn works_in(list: Works) -> &'static [Work] {
         Works::Two => &[Work::Evacuate(0), Work::Evacuate(1)],
         Works::Fetch => &[Work::Fetch(1, FIRST)],
         Works::Build => &[Work::Build(1)],
-        Works::Refused => &[
-            Work::Evacuate(4),
-            Work::Fetch(0, SECOND_COLUMN),
-            Work::Build(3),
+        Works::Refused => &[Work::Evacuate(4), Work::Fetch(0, TEXTS), Work::Build(3)],
+        Works::Last => &[
+            Work::Evacuate(2),
+            Work::Evacuate(3),
+            Work::Evacuate(2),
+            Work::Evacuate(3),
         ],
+        Works::FetchSecond => &[Work::Fetch(3, SECOND)],
+        Works::BuildLast => &[Work::Build(2), Work::Build(3)],
+        Works::FetchTexts => &[Work::Fetch(0, TEXTS)],
     }
 }
-
-// The numbers of a second column.
-const SECOND_COLUMN: Name = Name {
-    column: 1,
-    group: 0,
-};
 
 // Returns a list of these works.
 fn list_of(alloc: Global, works: &[Work]) -> Result<Vec<Work>, AllocError> {

@@ -1,22 +1,15 @@
 use denote.Param.{param}
 use Rattle.far_shared.proofs.CrossingLaws.{shared_sync}
-use Rattle.std.proofs.Common.{◌≡◌, length, sum_by, arith, rules}
+use Rattle.std.proofs.Common.{sym, ◌∙◌, rules}
 use Rattle.far_shared.specs.Works.{works_in}
 use Rattle.far_shared.proofs.ReportLaws.{counts-all}
 use Rattle.far_shared.proofs.background.serve_chunks.Goals as goal
-use Rattle.far_shared.proofs.background.serve_chunks.Goals.{After-deref}
 
--- the reports of the chunks are of all works
-all-counted : (g : _) (c : After-deref g) → sum_by works_in c.deref.result.now ≡ length c.args.works.now
-all-counted g c =
-    counts-all works_in c.chunk_for-size.result c.args.works.now c.deref.result.now (record { done = 0; refused = 0 }) c.chunk_for-size.ensures.some (search rules)
-    (λ n lt. let k = (c.in_ok-reports.ensures.each n (record { done = 0; refused = 0 }) (omega (arith, lt, c.deref.ensures.len, c.deref.ensures.value))).1 in search rules)
-
-pub sum_of-requires : goal.sum_of-requires
-sum_of-requires g c = let e = all-counted g c in search rules
-
-pub returns : goal.returns
-returns g c = let e = all-counted g (goal.at.returns g c).After-deref in search rules
+pub returns-clause-all : goal.returns-clause-all
+returns-clause-all g c =
+    let made = c.in_ok-reports in
+    counts-all works_in c.chunk_for-size.result c.args.works.now made.reports.items (record { done = 0; refused = 0 }) c.chunk_for-size.ensures.some (sym made.reports.ok.0 ∙ made.ensures.len)
+    (λ n lt. let k = (made.ensures.each n (record { done = 0; refused = 0 }) lt).1 in search rules)
 
 -- the closure holds a `&` to the runtime, to the four tables and to the store
 pub map_chunks-requires-sync-F : goal.map_chunks-requires-sync-F

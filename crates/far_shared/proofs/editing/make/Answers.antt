@@ -1,11 +1,13 @@
-use Rattle.std.proofs.Common.{ap, rules}
+use Rattle.std.proofs.Common.{IfErr, ap, sym, subst, rules}
 use Rattle.std.proofs.lemmas.Result.{IfOk-weaker}
+use Rattle.far_types.specs.declared.edit.Edit.{Edit}
 use Rattle.far_types.specs.declared.edit.Edit.TheVariants as edit
+use Rattle.far_frame.specs.Effects.{Refuses}
 use Rattle.far_frame.specs.declared.step.Reply.TheVariants as reply
+use Rattle.far_frame.specs.declared.step.Step.TheVariants as step
 use Rattle.far_frame.specs.State.{State}
 use Rattle.far_shared.proofs.StripesColumns.{same-columns, edit-columns, either-columns}
-use Rattle.far_shared.proofs.ApplyingEdits.{made-accepted, made-free, made-table, made-place, made-refused}
-use Rattle.far_shared.proofs.JobsRefusals.{if-err}
+use Rattle.far_shared.proofs.ApplyingEdits.{made-accepted, made-free, made-table, made-place}
 use Rattle.far_shared.proofs.editing.make.Goals as goal
 
 pub returns-in-Insert-clause-may : goal.returns-in-Insert-clause-may
@@ -20,17 +22,15 @@ pub returns-in-Insert-clause-place : goal.returns-in-Insert-clause-place
 returns-in-Insert-clause-place g c =
     rw c.in-Insert.is (IfOk-weaker c.insert.result _ _ (λ place h. made-place g.S.FarTickets.content c.args.frame.now c.insert.new.self c.requires.column_indexes c.in-Insert.row place h) c.insert.ensures.ok)
 
-pub returns-in-Insert-clause-refused : goal.returns-in-Insert-clause-refused
-returns-in-Insert-clause-refused g c =
-    rw c.in-Insert.is (if-err c.insert.result _ _ (λ e h. made-refused g.S.FarTickets.content c.args.frame.now c.insert.new.self c.requires.column_indexes (edit.Insert c.in-Insert.row) e h) c.insert.ensures.err)
+pub returns-in-Insert-clause-due : goal.returns-in-Insert-clause-due
+returns-in-Insert-clause-due g c =
+    subst (λ (e : Edit). IfErr c.insert.result (λ r. Refuses c.args.frame.now (step.Edit e) r c.insert.new.self)) (sym c.in-Insert.is) c.insert.ensures.err
 
-pub returns-in_err-set-in-Set-clause-refused : goal.returns-in_err-set-in-Set-clause-refused
-returns-in_err-set-in-Set-clause-refused g c =
-    rw c.in-Set.is (let why = made-refused g.S.FarTickets.content c.args.frame.now c.set.new.self c.requires.column_indexes (edit.Set c.in-Set.place c.in-Set.column c.in-Set.cell) _ c.in_err-set-in-Set.ensures.err in search rules)
+pub returns-in_err-set-in-Set-clause-due : goal.returns-in_err-set-in-Set-clause-due
+returns-in_err-set-in-Set-clause-due g c = rw c.in-Set.is (let due = c.in_err-set-in-Set.ensures.err in search rules)
 
-pub returns-in_err-remove-in-Remove-clause-refused : goal.returns-in_err-remove-in-Remove-clause-refused
-returns-in_err-remove-in-Remove-clause-refused g c =
-    rw c.in-Remove.is (let why = made-refused g.S.FarTickets.content c.args.frame.now c.remove.new.self c.requires.column_indexes (edit.Remove c.in-Remove.place) _ c.in_err-remove-in-Remove.ensures.err in search rules)
+pub returns-in_err-remove-in-Remove-clause-due : goal.returns-in_err-remove-in-Remove-clause-due
+returns-in_err-remove-in-Remove-clause-due g c = rw c.in-Remove.is (let due = c.in_err-remove-in-Remove.ensures.err in search rules)
 
 pub returns-in_ok-set-in-Set-clause-may : goal.returns-in_ok-set-in-Set-clause-may
 returns-in_ok-set-in-Set-clause-may g c =

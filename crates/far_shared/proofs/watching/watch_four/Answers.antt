@@ -1,9 +1,9 @@
 use Rattle.std.proofs.Common.{refl}
-use Rattle.far_shared.proofs.WatchingUndo.{at-err, register-undone}
+use Rattle.far_shared.proofs.WatchingUndo.{at-err, register-undone, unchanged}
 use Rattle.far_shared.proofs.watching.watch_four.Goals as goal
 
 pub returns-in_err-watch_two-clause-none : goal.returns-in_err-watch_two-clause-none
-returns-in_err-watch_two-clause-none g c = at-err c.from_residual-in_err-watch_two.result (c.in_err-watch_two.ensures.none.0, c.in_err-watch_two.ensures.none.1, refl, refl)
+returns-in_err-watch_two-clause-none g c = at-err c.from_residual-in_err-watch_two.result (c.in_err-watch_two.ensures.none.0, unchanged c.in_err-watch_two.ensures.none.1, unchanged refl, refl)
 
 pub returns-in-Ok-clause-all : goal.returns-in-Ok-clause-all
 returns-in-Ok-clause-all g c = (c.in_ok-watch_two.ensures.both.0, c.in_ok-watch_two.ensures.both.1, c.in-Ok.ensures.both.0, c.in-Ok.ensures.both.1)

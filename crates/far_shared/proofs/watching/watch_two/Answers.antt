@@ -1,6 +1,4 @@
-use Rattle.std.proofs.Common.{ap}
 use Rattle.far_shared.proofs.WatchingUndo.{at-number, register-undone}
-use Rattle.far_shared.specs.Watching.{uncounted}
 use Rattle.far_shared.proofs.watching.watch_two.Goals as goal
 
 pub returns-in-Ok-clause-both : goal.returns-in-Ok-clause-both
@@ -12,4 +10,4 @@ returns-in-Ok-clause-both g c = (
 pub returns-in-Err-clause-none : goal.returns-in-Err-clause-none
 returns-in-Err-clause-none g c =
     let made = at-number c.args.a _ c.in_ok-first.first c.args.spec.now c.args.one.now c.watch.new.self c.in_ok-first.ensures.equal c.requires.one c.in_ok-watch.ensures.ok in
-    (register-undone c.args.a c.args.spec.now c.args.one.now c.watch.new.self c.unwatch.new.self c.requires.one made c.unwatch.ensures, ap uncounted c.in-Err.ensures.err)
+    (register-undone c.args.a c.args.spec.now c.args.one.now c.watch.new.self c.unwatch.new.self c.requires.one made c.unwatch.ensures, c.in-Err.ensures.err)

@@ -1,6 +1,7 @@
 use Rattle.std.proofs.Common.{◌<◌, ◌^◌, length, sym, ap, subst, ◌∙◌, arith, rules}
 use Rattle.far_history.specs.Histories.{IsLegal}
 use Rattle.far_history.specs.declared.reading.Reading.{Reading}
+use Rattle.far_shared.proofs.ApplyingEdits.{made-refused}
 use Rattle.far_shared.proofs.StripesColumns.{still-of}
 use Rattle.far_shared.proofs.StripesLaws.{few, reads-edited, same-refusal, same-why, stripe-made}
 use Rattle.far_shared.proofs.stripe.Stripe.apply.Goals as goal
@@ -37,7 +38,12 @@ add-requires g c =
 pub returns-in_err-changed-clause-why : goal.returns-in_err-changed-clause-why
 returns-in_err-changed-clause-why g c =
     let s = c.self.inside in
-    rw (← c.self.view_is) (let why = same-why g.N.PlanTag.plan s.keeper s.frame.table c.self.invariant.0 c.args.edit _ c.in_err-changed.ensures.refused in search rules)
+    let indexes = c.self.invariant.2.column_indexes ∙ sym (ap length c.self.invariant.0.schema) in
+    let refused = made-refused g.S.FarTickets.content s.frame _ indexes c.args.edit _ c.in_err-changed.ensures.due in
+    rw (← c.self.view_is) (let why = same-why g.N.PlanTag.plan s.keeper s.frame.table c.self.invariant.0 c.args.edit _ refused in search rules)
+
+pub returns-in_err-changed-clause-due : goal.returns-in_err-changed-clause-due
+returns-in_err-changed-clause-due g c = rw (← c.self.view_is) (let due = c.in_err-changed.ensures.due.1 in search rules)
 
 pub returns-clause-accepted : goal.returns-clause-accepted
 returns-clause-accepted g c = rw (← c.self.view_is) c.in_ok-changed.ensures.accepted

@@ -4,8 +4,11 @@ use Rattle.far_table.specs.State.{LiveState}
 use Rattle.far_shared.specs.Stripes.{IsStripe}
 use Rattle.far_shared.proofs.stripe.Stripe.view.Goals as goal
 
-pub returns : goal.returns
-returns g c =
+pub returns-clause-same : goal.returns-clause-same
+returns-clause-same g c = rw (← c.self.view_is) c.scope.ensures
+
+pub returns-clause-left : goal.returns-clause-left
+returns-clause-left g c =
     let s = c.self.inside in record {
       log = s.keeper;
       legal = c.known.ensures.legal;
