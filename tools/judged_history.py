@@ -3,17 +3,18 @@
 A history is what bindings/rust/examples/history prints. This file knows rows and answers alone: nothing of objects, jobs or storage.
 """
 import collections
-from dataclasses import dataclass, field
+import functools
+import operator
 
 from reference_aggregates import Aggregate, record
 
 # The aggregates that each history has from its beginning.
 WATCHED = {
-    "0": ("totals", 1, None, []),
-    "1": ("totals", 1, 0, []),
-    "2": ("extrema", 1, 0, []),
-    "3": ("totals", 1, 2, [(1, ">", 0)]),
-    "4": ("extrema", 1, 2, [(0, "!=", 1)]),
+    "0": ("totals", 1, None, ()),
+    "1": ("totals", 1, 0, ()),
+    "2": ("extrema", 1, 0, ()),
+    "3": ("totals", 1, 2, ((1, ">", 0),)),
+    "4": ("extrema", 1, 2, ((0, "!=", 1),)),
 }
 KINDS = (int, int, str)
 NO_ROW, REMOVED_ROW, BUILDING, ABSENT, REGION_FULL = (f"refused {it}" for it in (8, 9, 15, 16, 17))
@@ -38,39 +39,8 @@ class Wrong(Exception):
     """What is wrong with a history."""
 
 
-@dataclass
-class Answer:
-    """An aggregate, with how often each value stands under each key."""
-
-    about: Aggregate
-    values: dict = field(default_factory=dict)
-
-    def count(self, cells, by):
-        """Takes note that there is a row more, or less."""
-        if not self.about.keeps(cells):
-            return
-        value, key = cells[self.about.value], None if self.about.key is None else cells[self.about.key]
-        under = self.values.get(key)
-        if under is None:
-            under = self.values[key] = {}
-        under[value] = under.get(value, 0) + by
-        if not under[value]:
-            del under[value]
-            if not under:
-                del self.values[key]
-
-    def told(self):
-        """The lines of the answer as a history has them."""
-        if self.about.key is None and self.about.fold == "totals":
-            return self.line(None, self.values.get(None, {}))
-        return "; ".join(self.line(key, self.values[key]) for key in sorted(self.values)) or "none"
-
-    def line(self, key, under):
-        """The line of a key."""
-        first = "" if key is None else record([key]) + " "
-        if self.about.fold == "extrema":
-            return f"{first}min {min(under)} max {max(under)}"
-        return f"{first}count {sum(under.values())} sum {sum(value * count for value, count in under.items())}"
+# A row as a history has it, and the cells that a record stands for. There are few different rows, so each is worked out once.
+row_told = functools.cache(record)
 
 
 def cell(text, column):
@@ -78,25 +48,89 @@ def cell(text, column):
     return None if text == "\\N" else KINDS[column](text)
 
 
+@functools.cache
+def cells_of(text):
+    """The cells that a record stands for."""
+    return tuple(cell(it, column) for column, it in enumerate(text.split(",")))
+
+
+class Parts(dict):
+    """By the cells of a row, under which key an aggregate counts which value, or None if it does not keep the row."""
+
+    def __init__(self, about):
+        super().__init__()
+        self.about = about
+
+    def __missing__(self, cells):
+        about = self.about
+        key = None if about.key is None else cells[about.key]
+        part = self[cells] = (key, cells[about.value]) if about.keeps(cells) else None
+        return part
+
+
+@functools.cache
+def parts_of(*about):
+    """What all aggregates that are alike count of rows: each row is looked at once."""
+    return Parts(Aggregate(*about, set()))
+
+
+class Answer:
+    """An aggregate, with how often each value stands under each key."""
+
+    def __init__(self, *about):
+        self.parts = parts_of(*about)
+        self.about, self.values, self.seen = self.parts.about, collections.defaultdict(collections.Counter), 0
+
+    def take(self, changes):
+        """Takes note of rows that there are so often more, or less."""
+        parts, values = self.parts, self.values
+        for cells, by in changes:
+            part = parts[cells]
+            if part is not None:
+                key, value = part
+                values[key][value] += by
+
+    def told(self):
+        """The lines of the answer as a history has them."""
+        if self.about.key is None and self.about.fold == "totals":
+            return self.line(None)
+        return "; ".join(self.line(key) for key in sorted(self.values) if any(self.values[key].values())) or "none"
+
+    def line(self, key):
+        """The line of a key."""
+        first, under = "" if key is None else record([key]) + " ", self.values[key]
+        if self.about.fold == "extrema":
+            there = [value for value, count in under.items() if count]
+            return f"{first}min {min(there)} max {max(there)}"
+        return f"{first}count {sum(under.values())} sum {sum(map(operator.mul, under, under.values()))}"
+
+
 class PlainTable:
-    """Rows as lists, and answers that are counted along."""
+    """Rows as tuples, how often each is there, and all changes: an answer takes note of those that it has not seen when it is asked."""
 
     def __init__(self):
-        self.rows, self.removed, self.answers = [], set(), {}
+        self.rows, self.removed, self.alive, self.changes = [], set(), collections.Counter(), []
+        self.answers = {}
         for name, about in WATCHED.items():
             self.watch(name, *about)
 
-    def watch(self, name, fold, value, key, tests):
+    def watch(self, name, *about):
         """Registers an aggregate over the rows that are there."""
-        self.answers[name] = Answer(Aggregate(fold, value, key, tests, set()))
-        for place, cells in enumerate(self.rows):
-            if place not in self.removed:
-                self.answers[name].count(cells, 1)
+        self.answers[name] = answer = Answer(*about)
+        answer.take(self.alive.items())
+        answer.seen = len(self.changes)
 
     def count(self, cells, by):
-        """Takes note of a row more, or less, in all answers."""
-        for it in self.answers.values():
-            it.count(cells, by)
+        """Takes note of a row more, or less."""
+        self.alive[cells] += by
+        self.changes.append((cells, by))
+
+    def told(self, name):
+        """An answer as a history has it."""
+        answer = self.answers[name]
+        answer.take(self.changes[answer.seen :])
+        answer.seen = len(self.changes)
+        return answer.told()
 
     def refusal(self, place):
         """Why the row of a place is not edited, if it is not."""
@@ -109,31 +143,31 @@ class PlainTable:
         if verb == "row":
             return self.row(int(words[0]))
         if verb in ("ask", "recount"):
-            return self.answers[words[0]].told()
+            return self.told(words[0])
         return (self.refusal(int(words[0])) if verb in ("set", "remove") else None) or "ok"
 
     def row(self, place):
         """A row as a history has it, with a mark."""
         if place >= len(self.rows):
             return NO_ROW
-        return ("-" if place in self.removed else "+") + " " + record(self.rows[place])
+        return ("- " if place in self.removed else "+ ") + row_told(self.rows[place])
 
     def apply(self, verb, words):
         """Does what a call does that is not refused."""
         if verb == "insert":
-            fields = " ".join(words).split(",")
-            self.rows.append([cell(it, column) for column, it in enumerate(fields)])
+            self.rows.append(cells_of(" ".join(words)))
             self.count(self.rows[-1], 1)
         elif verb == "set":
             place, column = int(words[0]), int(words[1])
-            self.count(self.rows[place], -1)
-            self.rows[place][column] = cell(" ".join(words[2:]), column)
-            self.count(self.rows[place], 1)
+            old = self.rows[place]
+            self.rows[place] = new = (*old[:column], cell(" ".join(words[2:]), column), *old[column + 1 :])
+            self.count(old, -1)
+            self.count(new, 1)
         elif verb == "remove":
             self.count(self.rows[int(words[0])], -1)
             self.removed.add(int(words[0]))
         elif verb == "watch":
-            self.watch(words[0], words[1], int(words[2]), int(words[4]), [])
+            self.watch(words[0], words[1], int(words[2]), int(words[4]), ())
         elif verb == "unwatch":
             del self.answers[words[0]]
 
@@ -159,25 +193,28 @@ def judge_moves(lines, is_by_hand, may_fail):
             raise Wrong(f"a mover got '{reply}' to '{what}'")
 
 
-def judge_clocks(events):
-    """Raises where a call was not between its begin and its end, or a session made two calls at once. The order in which calls had the
-    table is then one by which real time allows to explain them."""
+def clocked(lines):
+    """Yields the session, the clock, the call and the reply of each line. Raises where a call was not between its begin and its end, or a
+    session made two calls at once. The order in which calls had the table is then one by which real time allows to explain them."""
     last, ends = -1, {}
-    for session, begun, at, ended, *_ in events:
-        if not (last < int(at) and ends.get(session, -1) < int(begun) < int(at) < int(ended)):
+    for line in lines:
+        session, begun, at, ended, call, reply = line.split("\t")
+        begun, at, ended = int(begun), int(at), int(ended)
+        if not (last < at and ends.get(session, -1) < begun < at < ended):
             raise Wrong(f"the clock of session {session} at {at}")
-        last, ends[session] = int(at), int(ended)
+        last, ends[session] = at, ended
+        yield session, at, call, reply
 
 
 def judge(text, sessions, edits):
     """Raises what is wrong with a history of so many sessions of so many edits each. Returns how many calls it has."""
-    lines = [line.split("\t") for line in text.splitlines()]
-    (_, policy, far, _), events = lines[0], [it for it in lines[1:] if it[0] != "moved"]
+    setup, *lines = text.splitlines()
+    _, policy, far, _ = setup.split("\t")
     is_by_hand, may_fail = policy == "Manual", far == "faulty"
-    judge_moves([it for it in lines[1:] if it[0] == "moved"], is_by_hand, may_fail)
-    judge_clocks(events)
+    moves, calls = [it for it in lines if it.startswith("moved")], [it for it in lines if not it.startswith("moved")]
+    judge_moves([it.split("\t") for it in moves], is_by_hand, may_fail)
     table, made, looked = PlainTable(), collections.Counter(), 0
-    for session, _, at, _, call, reply in events:
+    for session, at, call, reply in clocked(calls):
         verb, *words = call.split(" ")
         due = table.due(verb, words)
         if reply != due:
@@ -193,12 +230,12 @@ def judge(text, sessions, edits):
     if +made != {str(session): edits for session in range(sessions)}:
         raise Wrong(f"sessions made {dict(made)} edits")
     judge_answers(table)
-    return len(events)
+    return len(calls)
 
 
 def judge_answers(table):
     """Raises where an answer that was counted along is another than one that is folded anew from all rows."""
     rows = [cells for place, cells in enumerate(table.rows) if place not in table.removed]
     for name, it in table.answers.items():
-        if it.told() != it.about.answer(rows).replace("\n", "; "):
+        if table.told(name) != it.about.answer(rows).replace("\n", "; "):
             raise Wrong(f"aggregate {name} is folded otherwise")

@@ -22,6 +22,8 @@ const WORDS: [&str; 8] = [
 ];
 /// How often a call is tried.
 const MOST_TRIES: u32 = 10_000;
+/// How many objects a session evicts where the local region is full.
+const EVICTED_AT_ONCE: u32 = 8;
 
 /// A cell as a script has it.
 fn cell_told(cell: Cell<'_>) -> String {
@@ -174,10 +176,13 @@ impl<'t> Session<'t> {
         panic!("session {} does not get through: {last:?}", self.number);
     }
 
-    // By `Policy::Manual` nobody else closes the gaps that evicted objects leave.
+    // By `Policy::Manual` nobody else closes the gaps that evicted objects leave. To close them costs as
+    // much for one as for many.
     fn make_space(&mut self) {
-        let evicted = self.shared.evict(None);
-        self.log.moved("evict the coldest", &evicted);
+        for _ in 0..EVICTED_AT_ONCE {
+            let evicted = self.shared.evict(None);
+            self.log.moved("evict the coldest", &evicted);
+        }
         self.shared.table().compact();
     }
 
