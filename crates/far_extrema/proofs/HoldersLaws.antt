@@ -241,12 +241,23 @@ lines_tops (e ∷ es) = elim e.1.top as (λ o. map {B = Option Key × ℤ × ℤ
 ]
 
 -- the lines of the min-maxes that are kept are those of all row groups joined
-pub lines-all : (es : Entries) (count : ℕ) → AreReserved count (holders_of es) → AllByRecursion IsTopped es → IsStrictlySortedBy line_cmp (map (λ (e : Option Key × Holding). e.0) es)
+lines-all : (es : Entries) (count : ℕ) → AreReserved count (holders_of es) → AllByRecursion IsTopped es → IsStrictlySortedBy line_cmp (map (λ (e : Option Key × Holding). e.0) es)
     → filter_map line_of es ≡ extrema_lines (all_groups (groups_in (holders_of es) count))
 lines-all es count kept topped sorted =
     sym (lines_tops es)
     ∙ ap (map {B = Option Key × ℤ × ℤ} (λ (e : Option Key × (ℤ × ℤ)). (e.0, e.1.0, e.1.1))) (sym (entries-by_key (tops es) (sorted_tops es sorted)))
     ∙ ap extrema_lines (same (by_key (tops es)) (all_groups (groups_in (holders_of es) count)) (λ q. get_at (tops es) q ∙ tops_at es q (sorted_distinct es sorted) ∙ ap top_in (sym (get_at es q)) ∙ sym (get-tops es count q kept topped)))
+
+-- the entries of a map make it
+made_of_own : (m : Holders) → holders_of (fin.entries m) ≡ m
+made_of_own m = same _ _ (λ q. fin.get-from_entries line_total (fin.entries m) q ∙ sym (fin.get-entries m q))
+
+-- so it is of what is held of keys
+pub lines-held : (m : Holders) (count : ℕ) → AreReserved count m → AllByRecursion IsTopped (fin.entries m) → IsStrictlySortedBy line_cmp (fin.keys m)
+    → filter_map line_of (fin.entries m) ≡ extrema_lines (all_groups (groups_in m count))
+lines-held m count kept topped sorted =
+    lines-all (fin.entries m) count (subst (AreReserved count) (sym (made_of_own m)) kept) topped sorted
+    ∙ ap (λ n. extrema_lines (all_groups (groups_in n count))) (made_of_own m)
 
 -- a min-max that is put in a reserved row group leaves none in the others
 pub reserved-put : (m m' : Holders) (count g : ℕ) (k : Option Key) (o : Option (ℤ × ℤ)) → AreReserved count m → g < count → IsPut m g k o m' → AreReserved count m'

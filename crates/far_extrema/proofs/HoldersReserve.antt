@@ -1,5 +1,5 @@
 -- Reserved keys: how what stands by key changes if one key's entry is written, and if a whole row group is.
-use Rattle.std.proofs.Common.{◌≡◌, ◌≢◌, ℕ, ◌<◌, ◌==◌, ◌&&◌, true, false, Bool, cond, List, [], ◌∷◌, refl, sym, ap, ◌∙◌, arith, Option, None, Some, subst, Result, Ok, Err, OnOk, OnErr}
+use Rattle.std.proofs.Common.{◌≡◌, ◌≢◌, ℕ, ◌<◌, ◌==◌, ◌&&◌, true, false, Bool, cond, List, [], ◌∷◌, map, refl, sym, ap, ◌∙◌, arith, Option, None, Some, subst, Result, Ok, Err, OnOk, OnErr}
 use Rattle.std.specs.Prelude.{ℤ}
 use Rattle.std.specs.Ordering.{eq_by_cmp}
 use Rattle.std.specs.BTreeMap.{is_at}
@@ -14,7 +14,7 @@ use Rattle.far_types.proofs.AnswersGrouping.{same_key, own_key}
 use Rattle.far_types.proofs.AnswersByKeyMaps.{get_at, HaveDistinctKeys}
 use Rattle.far_types.proofs.AnswersByKeyMaps as map_in
 use Rattle.far_extrema.specs.Spreads.{MinMaxes, at, IsSet}
-use Rattle.far_extrema.specs.Holders.{Holding, Holders, min_max_in, min_max_at, reserved_in, reserved_at, AreReserved, IsPut, IsGroup, IsCleared, HaveSameMinMaxes, HaveSameReserved, KeepsReserved, AreReservedFor}
+use Rattle.far_extrema.specs.Holders.{Holding, Holders, min_max_in, min_max_at, reserved_in, reserved_at, AreReserved, IsPut, IsGroup, IsCleared, AreCleared, AreAllCleared, HaveSameMinMaxes, HaveSameReserved, KeepsReserved, AreReservedFor, AreAlike}
 use Rattle.far_extrema.proofs.SpreadsLaws.{off, here}
 use Rattle.far_extrema.proofs.HoldersLaws.{put-set}
 
@@ -219,40 +219,66 @@ filled-all old now g es f h q = elim (h == g) as (λ b. (h == g) ≡ b → min_m
   differ : h ≡ g → (h == g) ≡ false → ⊥
   differ s e = grind (arith, nat_tests)
 
-abbrev Entries : Type 0
-Entries = List (Option Key × Holding)
-
 abbrev absent : Option Holding
 absent = None
 
-abbrev AreCleared : ℕ → Option Holding → Option Holding → Type 0
-AreCleared g old new = ((h : ℕ) → min_max_in new h ≡ cond (h == g) None (min_max_in old h)) × (reserved_in new ≡ reserved_in old)
-
-nothing_cleared : (g : ℕ) → AreCleared g None None
+-- nothing is left of nothing
+pub nothing_cleared : (g : ℕ) → AreCleared g None None
 nothing_cleared g = (λ h. elim (h == g) as (λ b. None ≡ cond b None (min_max_in None h)) [ true ↦ refl | false ↦ refl ], refl)
 
+-- what is left of a holder that lost a row group, if it stays or goes
+pub cleared-holder : (g : ℕ) (old : Holding) (b : Bool) (new : Holding) → IsCleared g old b new → AreCleared g (Some old) (cond b (Some new) None)
+cleared-holder g old true new c = (c.0, ap (λ reserved. cond reserved (Some true) None) c.1)
+cleared-holder g old false new c =
+    let vacant = c.2 refl in
+    ((λ h. sym (ap (λ s. at s h) vacant.0) ∙ c.0 h), sym (ap (λ reserved. cond reserved (Some true) None) (sym c.1 ∙ vacant.1)))
+
 -- what `retain` leaves of each key, if its closure clears a row group and stays as it was
-pub cleared-at : {F : Type 0} (T : F → Option Key → Holding → Bool → Holding → F → Type 0) (g : ℕ) (f : F)
-    → ((k : Option Key) (v : Holding) (b : Bool) (w : Holding) (f' : F) → T f k v b w f' → IsCleared g v b w × (f' ≡ f)) → (es retained : Entries) → HaveDistinctKeys es → RetainsPairs T f es retained
-    → (q : Option Key) → AreCleared g (map_in.at es q) (map_in.at retained q) × (map_in.at es q ≡ None → map_in.at retained q ≡ None)
-cleared-at T g f says [] retained distinct r q = subst (λ (ks : Entries). AreCleared g absent (map_in.at ks q) × (absent ≡ None → map_in.at ks q ≡ None)) (sym r) (nothing_cleared g, λ e. e)
-cleared-at {F} T g f says (e ∷ es) retained distinct (b, w, f', rest, t, r, is) q =
-    let step = says e.0 e.1 b w f' t in
-    let others = cleared-at T g f says es rest distinct.1 (subst (λ h. RetainsPairs T h es rest) step.1 r) in
-    subst (λ (ks : Entries). AreCleared g (map_in.at (e ∷ es) q) (map_in.at ks q) × (map_in.at (e ∷ es) q ≡ None → map_in.at ks q ≡ None)) (sym is) (one b w step.0 others) where
-      one : (b : Bool) (w : Holding) → IsCleared g e.1 b w → ((q : Option Key) → AreCleared g (map_in.at es q) (map_in.at rest q) × (map_in.at es q ≡ None → map_in.at rest q ≡ None))
-          → AreCleared g (map_in.at (e ∷ es) q) (map_in.at (cond b ((e.0, w) ∷ rest) rest) q) × (map_in.at (e ∷ es) q ≡ None → map_in.at (cond b ((e.0, w) ∷ rest) rest) q ≡ None)
-      one true w c others = elim (is_at (line_cmp q) e.0) as (λ a. AreCleared g (cond a (Some e.1) (map_in.at es q)) (cond a (Some w) (map_in.at rest q)) × (cond a (Some e.1) (map_in.at es q) ≡ None → cond a (Some w) (map_in.at rest q) ≡ None)) [
-        | true ↦ ((c.0, ap (λ reserved. cond reserved (Some true) None) c.1), λ n. absurd (some_none e.1 n))
-        | false ↦ others q
-      ] where
-        some_none : (x : Holding) → Some x ≡ None → ⊥
-        some_none x h = cc
-      one false w c others = elim (is_at (line_cmp q) e.0) as (λ a. is_at (line_cmp q) e.0 ≡ a → AreCleared g (cond a (Some e.1) (map_in.at es q)) (map_in.at rest q) × (cond a (Some e.1) (map_in.at es q) ≡ None → map_in.at rest q ≡ None)) [
-        | true ↦ λ s.
-            let gone : map_in.at rest q ≡ None = (others q).1 (ap (map_in.at es) (same_key q e.0 s) ∙ distinct.0) in
-            let vacant = c.2 refl in
-            subst (λ (o : Option Holding). AreCleared g (Some e.1) o × (Some e.1 ≡ absent → o ≡ None)) (sym gone)
-            ((λ h. sym (ap (λ s. at s h) vacant.0) ∙ c.0 h, sym (ap (λ reserved. cond reserved (Some true) None) (sym c.1 ∙ vacant.1))), λ n. refl)
-        | false ↦ λ s. others q
-      ] refl
+module _ {K F : Type 0} (key : K → Option Key) (T : F → K → Holding → Bool → Holding → F → Type 0) (g : ℕ) where
+  abbrev keyed : List (K × Holding) → List (Option Key × Holding)
+  keyed es = map (λ (e : K × Holding). (key e.0, e.1)) es
+
+  abbrev IsSo : List (K × Holding) → List (K × Holding) → Option Key → Type 0
+  IsSo es retained q = AreCleared g (map_in.at (keyed es) q) (map_in.at (keyed retained) q) × (map_in.at (keyed es) q ≡ None → map_in.at (keyed retained) q ≡ None)
+
+  one-cleared : (e : K × Holding) (es rest : List (K × Holding)) (b : Bool) (w : Holding) → HaveDistinctKeys (keyed (e ∷ es)) → IsCleared g e.1 b w → ((q : Option Key) → IsSo es rest q) → (q : Option Key) → IsSo (e ∷ es) (cond b ((e.0, w) ∷ rest) rest) q
+  one-cleared e es rest true w distinct c others q = elim (is_at (line_cmp q) (key e.0)) as (λ a. AreCleared g (cond a (Some e.1) (map_in.at (keyed es) q)) (cond a (Some w) (map_in.at (keyed rest) q)) × (cond a (Some e.1) (map_in.at (keyed es) q) ≡ None → cond a (Some w) (map_in.at (keyed rest) q) ≡ None)) [
+    | true ↦ (cleared-holder g e.1 true w c, λ n. absurd (some_none e.1 n))
+    | false ↦ others q
+  ] where
+    some_none : (x : Holding) → Some x ≡ None → ⊥
+    some_none x h = cc
+  one-cleared e es rest false w distinct c others q = elim (is_at (line_cmp q) (key e.0)) as (λ a. is_at (line_cmp q) (key e.0) ≡ a → AreCleared g (cond a (Some e.1) (map_in.at (keyed es) q)) (map_in.at (keyed rest) q) × (cond a (Some e.1) (map_in.at (keyed es) q) ≡ None → map_in.at (keyed rest) q ≡ None)) [
+    | true ↦ λ s.
+        let gone : map_in.at (keyed rest) q ≡ None = (others q).1 (ap (map_in.at (keyed es)) (same_key q (key e.0) s) ∙ distinct.0) in
+        subst (λ (o : Option Holding). AreCleared g (Some e.1) o × (Some e.1 ≡ absent → o ≡ None)) (sym gone) (cleared-holder g e.1 false w c, λ n. refl)
+    | false ↦ λ s. others q
+  ] refl
+
+  cleared-each : (f : F) → ((k : K) (v : Holding) (b : Bool) (w : Holding) (f' : F) → T f k v b w f' → IsCleared g v b w × (f' ≡ f))
+      → (es retained : List (K × Holding)) → HaveDistinctKeys (keyed es) → RetainsPairs T f es retained → (q : Option Key) → IsSo es retained q
+  cleared-each f says [] retained distinct r q = subst (λ (ks : List (K × Holding)). IsSo [] ks q) (sym r) (nothing_cleared g, λ e. e)
+  cleared-each f says (e ∷ es) retained distinct (b, w, f', rest, t, r, is) q =
+      let step = says e.0 e.1 b w f' t in
+      let others = cleared-each f says es rest distinct.1 (subst (λ h. RetainsPairs T h es rest) step.1 r) in
+      subst (λ (ks : List (K × Holding)). IsSo (e ∷ es) ks q) (sym is) (one-cleared e es rest b w distinct step.0 others q)
+
+  pub cleared-all : (f : F) → ((k : K) (v : Holding) (b : Bool) (w : Holding) (f' : F) → T f k v b w f' → IsCleared g v b w × (f' ≡ f))
+      → (es retained : List (K × Holding)) → HaveDistinctKeys (keyed es) → RetainsPairs T f es retained → AreAllCleared g (map_in.by_key (keyed es)) (map_in.by_key (keyed retained))
+  cleared-all f says es retained distinct r q = subst (λ (o : Option Holding × Option Holding). AreCleared g o.0 o.1) (λ i. (sym (get_at (keyed es) q) i, sym (get_at (keyed retained) q) i)) (cleared-each f says es retained distinct r q).0
+
+-- what is alike has the same min-maxes and the same reserved keys
+pub put-alike : (m n o : Holders) (g : ℕ) (k : Option Key) (x : Option (ℤ × ℤ)) → IsPut m g k x n → AreAlike n o → IsPut m g k x o
+put-alike m n o g k x put alike h q = alike.0 h q ∙ put h q
+
+pub reserved-alike : (m n o : Holders) → HaveSameReserved m n → AreAlike n o → HaveSameReserved m o
+reserved-alike m n o own alike q = alike.1 q ∙ own q
+
+pub min_maxes-alike : (m n o : Holders) → HaveSameMinMaxes m n → AreAlike n o → HaveSameMinMaxes m o
+min_maxes-alike m n o own alike g q = alike.0 g q ∙ own g q
+
+pub keeps-alike : (m n o : Holders) → KeepsReserved m n → AreAlike n o → KeepsReserved m o
+keeps-alike m n o own alike q had none = own q had (sym (alike.1 q) ∙ none)
+
+pub had-alike : (n o : Holders) (k : Option Key) → reserved_at n k ≢ None → AreAlike n o → reserved_at o k ≢ None
+had-alike n o k had alike none = had (sym (alike.1 k) ∙ none)

@@ -1,5 +1,8 @@
 pub mod MinMaxesRemoval
 pub mod LiveGroups
+pub mod NumbersLaws
+pub mod NumbersLines
+pub mod EntriesLaws
 pub mod HoldersLaws
 pub mod HoldersReserve
 pub mod SpreadsLaws

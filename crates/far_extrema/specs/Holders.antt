@@ -1,11 +1,15 @@
 -- For each key the min-maxes of the row groups in which it occurs, and the extrema of row groups that they make.
-use Rattle.std.specs.Prelude.{◌≡◌, ◌≢◌, ◌==◌, ◌≤◌, ◌&&◌, ℕ, zero, suc, ℤ, Bool, true, false, cond, List, [], ◌∷◌, ◌++◌, Option, None, Some, option_map}
+-- Internal: no public contract cites it.
+use Rattle.std.specs.Prelude.{◌≡◌, ◌≢◌, ◌==◌, ◌≤◌, ◌&&◌, ℕ, zero, suc, ℤ, Bool, true, false, cond, List, [], ◌∷◌, ◌++◌, Option, None, Some, option_map, refl}
+use Rattle.std.specs.Coded.{Coded, code_by, coded×, coded_ℕ, coded_ℤ, coded_list, coded_option, coded_bool}
 use Rattle.std.specs.List.{filter_map}
 use Rattle.std.specs.Ordering.{eq_by_cmp}
 use Rattle.std.specs.FinMap as fin
 use Rattle.far_types.specs.declared.key.Key.{Key}
 use Rattle.far_types.specs.Keys.{line_cmp}
+use Rattle.far_types.specs.Codes.{coded_key}
 use Rattle.far_types.specs.Answers.{ByKey, Extrema}
+use Rattle.far_types.specs.Effects.{min_max_with}
 use Rattle.far_extrema.specs.Spreads.{MinMaxes, at, joined_to, IsTopOf, IsSet}
 
 -- the min-maxes of the row groups in which a key occurs, their joined min-max, and whether the key is reserved for one more
@@ -17,6 +21,20 @@ pub record Holding : Type 0 where
 -- for each key the row groups in which it occurs
 abbrev pub Holders : Type 0
 Holders = ByKey Holding
+
+-- the code of what is held of a key
+abbrev pub coded_holding : Coded Holding
+coded_holding =
+    code_by (MinMaxes × (Option (ℤ × ℤ) × Bool))
+    (coded× (coded_list (coded× coded_ℕ (coded× coded_ℤ coded_ℤ)))
+    (coded× (coded_option (coded× coded_ℤ coded_ℤ)) coded_bool))
+    (λ holding. (holding.min_maxes, (holding.top, holding.reserved)))
+    (λ p. record { min_maxes = p.0; top = p.1.0; reserved = p.1.1 })
+    (λ _. refl)
+
+-- the code of what is held of all keys, which tells one value from another
+abbrev pub coded_holders : Coded Holders
+coded_holders = fin.code (coded_option coded_key) coded_holding
 
 -- the row groups by key, of entries
 abbrev pub holders_of : List (Option Key × Holding) → Holders
@@ -42,7 +60,8 @@ reserved_at holders key = reserved_in (fin.get holders key)
 
 -- the value of each of these keys that has one
 abbrev pub picked : {V : Type 0} → (Option Key → Option V) → List (Option Key) → ByKey V
-picked f keys = fin.from_entries (filter_map (λ key. option_map (λ value. (key, value)) (f key)) keys)
+picked f keys = fin.from_entries
+    (filter_map (λ key. option_map (λ value. (key, value)) (f key)) keys)
 
 -- the extrema of a row group
 abbrev pub group_in : Holders → ℕ → Extrema
@@ -59,7 +78,8 @@ reserved_keys holders = picked (reserved_at holders) (fin.keys holders)
 
 -- no key occurs in a row group from this number on
 abbrev pub AreReserved : ℕ → Holders → Type 0
-AreReserved count holders = (g : ℕ) → (key : Option Key) → count ≤ g → min_max_at holders g key ≡ None
+AreReserved count holders = (g : ℕ) → (key : Option Key) → count ≤ g
+    → min_max_at holders g key ≡ None
 
 -- the kept min-max is the joined one of all row groups
 abbrev pub IsTopped : Option Key × Holding → Type 0
@@ -67,7 +87,8 @@ IsTopped entry = IsTopOf entry.1.min_maxes entry.1.top
 
 -- this is the joined min-max of a key over all row groups, or none if it occurs in none
 abbrev pub IsTopUnder : Holders → Option Key → Option (ℤ × ℤ) → Type 0
-IsTopUnder holders key top = (count : ℕ) → AreReserved count holders → joined_to count (λ g. min_max_at holders g key) ≡ top
+IsTopUnder holders key top = (count : ℕ) → AreReserved count holders
+    → joined_to count (λ g. min_max_at holders g key) ≡ top
 
 -- the line of a key that occurs in a row group
 abbrev pub line_of : Option Key × Holding → Option (Option Key × ℤ × ℤ)
@@ -75,11 +96,23 @@ line_of entry = option_map (λ (top : ℤ × ℤ). (entry.0, top.0, top.1)) entr
 
 -- a key has this min-max in a row group, or none there, and all else is as it was
 abbrev pub IsPut : Holders → ℕ → Option Key → Option (ℤ × ℤ) → Holders → Type 0
-IsPut old group key min_max new = (g : ℕ) → (q : Option Key) → min_max_at new g q ≡ cond (g == group && eq_by_cmp line_cmp q key) min_max (min_max_at old g q)
+IsPut old group key min_max new = (g : ℕ) → (q : Option Key)
+    → min_max_at new g q
+    ≡ cond (g == group && eq_by_cmp line_cmp q key) min_max (min_max_at old g q)
+
+-- a value is observed under a key in a row group, and all else is as it was
+abbrev pub IsObserved : Holders → ℕ → Option Key → ℤ → Holders → Type 0
+IsObserved old group key value new = IsPut old group key
+    (Some (min_max_with value (min_max_at old group key))) new
+
+-- a key has this value in a row group, and beside it values with this min-max, or none
+abbrev pub HasWith : Holders → ℕ → Option Key → ℤ → Option (ℤ × ℤ) → Type 0
+HasWith holders group key value left = min_max_at holders group key ≡ Some (min_max_with value left)
 
 -- these are the min-maxes of a row group, and those of the others are as they were
 abbrev pub IsGroup : Holders → ℕ → Extrema → Holders → Type 0
-IsGroup old group extrema new = (g : ℕ) → (q : Option Key) → min_max_at new g q ≡ cond (g == group) (fin.get extrema q) (min_max_at old g q)
+IsGroup old group extrema new = (g : ℕ) → (q : Option Key)
+    → min_max_at new g q ≡ cond (g == group) (fin.get extrema q) (min_max_at old g q)
 
 -- all min-maxes are as they were
 abbrev pub HaveSameMinMaxes : Holders → Holders → Type 0
@@ -89,14 +122,46 @@ HaveSameMinMaxes old new = (g : ℕ) → (q : Option Key) → min_max_at new g q
 abbrev pub HaveSameReserved : Holders → Holders → Type 0
 HaveSameReserved old new = (q : Option Key) → reserved_at new q ≡ reserved_at old q
 
+-- other keys are reserved as they were
+abbrev pub HaveSameOtherReserved : Holders → Option Key → Holders → Type 0
+HaveSameOtherReserved old key new = (q : Option Key) → eq_by_cmp line_cmp q key ≡ false
+    → reserved_at new q ≡ reserved_at old q
+
 -- a reserved key stays reserved
 abbrev pub KeepsReserved : Holders → Holders → Type 0
 KeepsReserved old new = (q : Option Key) → reserved_at old q ≢ None → reserved_at new q ≢ None
 
 -- each key of these extrema is reserved
 abbrev pub AreReservedFor : Extrema → Holders → Type 0
-AreReservedFor extrema holders = (q : Option Key) → fin.get extrema q ≢ None → reserved_at holders q ≢ None
+AreReservedFor extrema holders = (q : Option Key) → fin.get extrema q ≢ None
+    → reserved_at holders q ≢ None
 
 -- a row group is removed from an entry; the entry is kept if it has a row group left, or is reserved
 abbrev pub IsCleared : ℕ → Holding → Bool → Holding → Type 0
-IsCleared group old kept new = IsSet old.min_maxes group None new.min_maxes × (new.reserved ≡ old.reserved) × (kept ≡ false → (new.min_maxes ≡ []) × (new.reserved ≡ false))
+IsCleared group old kept new = IsSet old.min_maxes group None new.min_maxes
+    × (new.reserved ≡ old.reserved)
+    × (kept ≡ false → (new.min_maxes ≡ []) × (new.reserved ≡ false))
+
+-- a row group is removed from what is held of a key; a key goes with its last one, unless it is reserved
+abbrev pub AreCleared : ℕ → Option Holding → Option Holding → Type 0
+AreCleared group old new = ((g : ℕ) → min_max_in new g ≡ cond (g == group) None (min_max_in old g))
+    × (reserved_in new ≡ reserved_in old)
+
+-- so it is of all keys
+abbrev pub AreAllCleared : ℕ → Holders → Holders → Type 0
+AreAllCleared group old new = (key : Option Key)
+    → AreCleared group (fin.get old key) (fin.get new key)
+
+-- two holders, or none, have the same min-maxes, and are reserved alike; so a vacant holder is like none
+abbrev pub AreLike : Option Holding → Option Holding → Type 0
+AreLike old new = ((g : ℕ) → min_max_in new g ≡ min_max_in old g)
+    × (reserved_in new ≡ reserved_in old)
+
+-- so it is of all keys
+abbrev pub AreAlike : Holders → Holders → Type 0
+AreAlike old new = HaveSameMinMaxes old new × HaveSameReserved old new
+
+-- a holder, if there is one, has no row group and is not reserved
+abbrev pub IsVacant : Option Holding → Type 0
+IsVacant None = Unit {0}
+IsVacant (Some holding) = (holding.min_maxes ≡ []) × (holding.reserved ≡ false)

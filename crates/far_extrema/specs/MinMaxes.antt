@@ -12,7 +12,8 @@ extrema_of entries = fin.from_entries entries
 
 -- extrema with one more min-max under a key
 abbrev pub with_min_max : Extrema → Option Key → ℤ × ℤ → Extrema
-with_min_max extrema key more = fin.insert extrema key (option_map_or (λ min_max. join_min_maxes min_max more) (fin.get extrema key) more)
+with_min_max extrema key more = fin.insert extrema key
+    (option_map_or (λ min_max. join_min_maxes min_max more) (fin.get extrema key) more)
 
 -- extrema with this min-max under a key: None removes the key
 abbrev pub put_min_max : Extrema → Option Key → Option (ℤ × ℤ) → Extrema

@@ -38,7 +38,9 @@ joined_values (x ∷ xs) = merge_two join_min_maxes (joined_values xs) (Some x)
 
 -- whatever the others are, the joined min-max needs only to be joined with what stands in place of one of them
 abbrev pub IsKept : Option (ℤ × ℤ) → ℤ × ℤ → Option (ℤ × ℤ) → Type 0
-IsKept top previous now = (rest : Option (ℤ × ℤ)) → merge_two join_min_maxes rest (Some previous) ≡ top → merge_two join_min_maxes rest now ≡ merge_two join_min_maxes top now
+IsKept top previous now = (rest : Option (ℤ × ℤ))
+    → merge_two join_min_maxes rest (Some previous) ≡ top
+    → merge_two join_min_maxes rest now ≡ merge_two join_min_maxes top now
 
 -- what a run has: the min-maxes of row groups, and the joined one
 pub record RunState : Type 0 where
@@ -90,7 +92,9 @@ abbrev pub AreParts : List ℕ → List RunState → Type 0
 AreParts [] [] = Unit {0}
 AreParts [] (run ∷ runs) = ⊥
 AreParts (first ∷ firsts) [] = ⊥
-AreParts (first ∷ firsts) (run ∷ runs) = IsFrom first run.min_maxes × IsBeforeNext firsts run.min_maxes × AreParts firsts runs
+AreParts (first ∷ firsts) (run ∷ runs) = IsFrom first run.min_maxes
+    × IsBeforeNext firsts run.min_maxes
+    × AreParts firsts runs
 
 -- the run in which a row group would be
 pub record IsPart (firsts : List ℕ) (g i : ℕ) : Type 0 where
@@ -115,7 +119,9 @@ IsReached (first ∷ firsts) g = first ≤ g
 
 -- whatever stands in place of one run, all are joined to this min-max and its own
 abbrev pub JoinsOthers : List ℕ → List RunState → ℕ → Option (ℤ × ℤ) → Type 0
-JoinsOthers firsts runs place others = (run : RunState) → AreParts firsts (slice_set runs place run) → IsTopOf run.min_maxes run.top → IsTopOf (whole (slice_set runs place run)) (merge_two join_min_maxes others run.top)
+JoinsOthers firsts runs place others = (run : RunState) → AreParts firsts (slice_set runs place run)
+    → IsTopOf run.min_maxes run.top
+    → IsTopOf (whole (slice_set runs place run)) (merge_two join_min_maxes others run.top)
 
 -- so it is for the run that stands apart, if one does
 abbrev pub IsApartFrom : List ℕ → List RunState → Option (ℕ × Option (ℤ × ℤ)) → Type 0

@@ -1,4 +1,5 @@
 -- The min-maxes of the row groups in which a key occurs.
+-- Internal: no public contract cites it.
 use Rattle.std.specs.Prelude.{◌≡◌, ◌<◌, ◌≤◌, ◌==◌, ℕ, zero, suc, ℤ, cond, List, [], ◌∷◌, Option, None, Some}
 use Rattle.far_types.specs.Effects.{join_min_maxes, merge_two}
 

@@ -3,6 +3,7 @@ ghost use Rattle.std.specs.Prelude.{◌≡◌, ◌≢◌, ◌∷◌, [], None, S
 ghost use Rattle.far_types.specs.Effects.{min_max_with};
 ghost use Rattle.far_extrema.specs.Spreads.{at, IsSet, AreSame, IsTopOf};
 ghost use Rattle.far_extrema.specs.Runs.{with_last, min_maxes_of, top_of, is_of, IsApart};
+ghost use Rattle.far_extrema.specs.Holders.{IsCleared};
 
 use super::min_max::{MinMax, either};
 use super::rows_left::RowsLeft;
@@ -29,9 +30,14 @@ impl Model for Holder {
 
     ghost Value = { Holding };
 
-    ghost view = { λ holder. record { min_maxes = with_last holder.last (min_maxes_of holder.others); top = merge_two join_min_maxes (top_of holder.others) (value_of holder.last); reserved = holder.reserved } };
+    ghost view = { λ holder. record {
+      min_maxes = with_last holder.last (min_maxes_of holder.others);
+      top = merge_two join_min_maxes (top_of holder.others) (value_of holder.last);
+      reserved = holder.reserved;
+    } };
 
-    ghost invariant = { λ holder. IsApart holder.last (min_maxes_of holder.others) × (holder.reserved ≡ true → holder.last ≡ None) };
+    ghost invariant = { λ holder. IsApart holder.last (min_maxes_of holder.others)
+        × (holder.reserved ≡ true → holder.last ≡ None) };
 }
 
 /// Returns whether it is this row group.
@@ -52,7 +58,8 @@ fn add_to(
     min_max: MinMax,
 ) -> Result<(), Refusal>
     requires { at (min_maxes_of others.old) group ≡ None }
-    ensures ok { OnOk result (IsSet (min_maxes_of others.old) group (Some min_max) (min_maxes_of others.new)) }
+    ensures ok { OnOk result
+        (IsSet (min_maxes_of others.old) group (Some min_max) (min_maxes_of others.new)) }
     ensures err { OnErr result (others.new ≡ others.old) }
     ensures memory { IfErr result (λ e. e ≡ Refusal.NoMemory) }
 {
@@ -74,7 +81,8 @@ fn settle(
     alloc: Global,
 ) -> Result<(), Refusal>
     requires { IsApart last.now (min_maxes_of others.old) }
-    ensures ok { OnOk result (AreSame (with_last last.now (min_maxes_of others.old)) (min_maxes_of others.new)) }
+    ensures ok { OnOk result
+        (AreSame (with_last last.now (min_maxes_of others.old)) (min_maxes_of others.new)) }
     ensures err { OnErr result (others.new ≡ others.old) }
     ensures memory { IfErr result (λ e. e ≡ Refusal.NoMemory) }
 {
@@ -136,16 +144,32 @@ impl Holder {
         }
     }
 
+    /// Makes a holder without a row group. Allocates nothing.
+    fn empty(reserved: bool) -> Holder
+        ensures min_maxes { result.min_maxes ≡ [] }
+        ensures reserved { result.reserved ≡ reserved }
+    {
+        Holder {
+            last: None,
+            reserved,
+            others: None,
+        }
+    }
+
     /// Makes a holder without a row group, with memory for one. Allocates nothing.
     pub fn with_place() -> Holder
         ensures min_maxes { result.min_maxes ≡ [] }
         ensures reserved { result.reserved ≡ true }
     {
-        Holder {
-            last: None,
-            reserved: true,
-            others: None,
-        }
+        Holder::empty(true)
+    }
+
+    /// Makes a holder that has neither a row group nor memory for one. Allocates nothing.
+    pub fn vacant() -> Holder
+        ensures min_maxes { result.min_maxes ≡ [] }
+        ensures reserved { result.reserved ≡ false }
+    {
+        Holder::empty(false)
     }
 
     /// Returns the min-max of a row group, or `None` if the key does not occur in it.
@@ -198,7 +222,8 @@ impl Holder {
     /// Adds a row group, and leaves the reserved memory as it is. Refused with `NoMemory` (1) alone. Then nothing is changed.
     fn add(&mut self, alloc: Global, group: u32, min_max: MinMax) -> Result<(), Refusal>
         requires { at self.old.min_maxes group ≡ None }
-        ensures ok { OnOk result (IsSet self.old.min_maxes group (Some min_max) self.new.min_maxes) }
+        ensures ok { OnOk result
+            (IsSet self.old.min_maxes group (Some min_max) self.new.min_maxes) }
         ensures reserved { self.new.reserved ≡ self.old.reserved }
         ensures err { OnErr result (self.new ≡ self.old) }
         ensures memory { IfErr result (λ e. e ≡ Refusal.NoMemory) }
@@ -214,7 +239,8 @@ impl Holder {
     /// Observes a value in a row group whose min-max is known. A value within it changes nothing. Allocates nothing.
     fn widen(&mut self, group: u32, previous: MinMax, value: i64)
         requires { at self.old.min_maxes group ≡ Some previous }
-        ensures min_maxes { IsSet self.old.min_maxes group (Some (min_max_with value (Some previous))) self.new.min_maxes }
+        ensures min_maxes { IsSet self.old.min_maxes group
+            (Some (min_max_with value (Some previous))) self.new.min_maxes }
         ensures reserved { self.new.reserved ≡ self.old.reserved }
     {
         if previous.is_within(value) {
@@ -234,7 +260,9 @@ impl Holder {
         value: i64,
     ) -> Result<Option<MinMax>, Refusal>
         ensures previous { IfOk result (λ previous. previous ≡ at self.old.min_maxes group) }
-        ensures ok { OnOk result (IsSet self.old.min_maxes group (Some (min_max_with value (at self.old.min_maxes group))) self.new.min_maxes) }
+        ensures ok { OnOk result
+            (IsSet self.old.min_maxes group
+            (Some (min_max_with value (at self.old.min_maxes group))) self.new.min_maxes) }
         ensures reserved { self.new.reserved ≡ self.old.reserved }
         ensures err { OnErr result (self.new ≡ self.old) }
         ensures only_new { OnErr result (at self.old.min_maxes group ≡ None) }
@@ -292,9 +320,11 @@ impl Holder {
     /// Returns the min-max that is left, or `None` if the key no longer occurs there. Allocates nothing.
     pub fn shrink<R: RowsLeft>(&mut self, group: u32, value: i64, rows: &R) -> Option<MinMax>
         requires at_hand { R.at_hand rows.now }
-        requires previous { at self.old.min_maxes group ≡ Some (min_max_with value (R.extremes rows.now)) }
+        requires previous { at self.old.min_maxes group
+            ≡ Some (min_max_with value (R.extremes rows.now)) }
         ensures left { result ≡ R.extremes rows.now }
-        ensures min_maxes { IsSet self.old.min_maxes group (R.extremes rows.now) self.new.min_maxes }
+        ensures min_maxes { IsSet self.old.min_maxes group (R.extremes rows.now)
+            self.new.min_maxes }
         ensures reserved { self.new.reserved ≡ self.old.reserved }
     {
         if let Some(min_max) = self.min_max(group) {
@@ -323,4 +353,12 @@ impl Holder {
             self.leave(group);
         }
     }
+}
+
+/// Removes a row group from a key, if the key occurs in it. Returns whether the key stays: it has a row group left, or is reserved.
+pub fn clear(holder: &mut Holder, group: u32) -> bool
+    ensures { IsCleared group holder.old result holder.new }
+{
+    holder.clear(group);
+    !holder.is_vacant()
 }

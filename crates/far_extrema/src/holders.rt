@@ -1,31 +1,179 @@
-// The row groups in which each key occurs, in a tree map.
-ghost use Rattle.std.specs.Prelude.{◌≡◌, ◌≢◌, None, Some, false, true, ℕ, cond, ◌==◌, OnOk, IfErr, OnErr, IfOk, ℤ, Option};
-ghost use Rattle.std.specs.BTreeMap.{IsOrdered};
-ghost use Rattle.std.specs.List.{AllByRecursion, filter_map};
-ghost use Rattle.std.specs.Ordering.{eq_by_cmp};
-ghost use Rattle.std.specs.FinMap as fin;
+// The row groups in which each key occurs: those of no key, those of numbers, and those of texts.
+ghost use Rattle.std.specs.Prelude.{◌≡◌, ◌≢◌, None, Some, OnOk, IfErr, OnErr, IfOk, Option};
+ghost use Rattle.std.specs.List.{AllByRecursion};
 ghost use Rattle.far_types.specs.declared.key.Key.{Key};
-ghost use Rattle.far_types.specs.Effects.{min_max_with};
 ghost use Rattle.far_types.specs.Keys.{line_cmp};
 ghost use Rattle.far_extrema.specs.MinMaxes.{extrema_of};
-ghost use Rattle.far_extrema.specs.Holders.{holders_of, min_max_at, reserved_at, line_of, IsPut, IsTopped, IsTopUnder, HaveSameReserved, HaveSameMinMaxes, KeepsReserved, AreReservedFor, IsGroup, IsCleared};
+ghost use Rattle.far_extrema.specs.Holders.{min_max_at, reserved_at, IsPut, IsObserved, HasWith, IsTopUnder, HaveSameReserved, HaveSameOtherReserved, HaveSameMinMaxes, KeepsReserved, AreReservedFor, IsGroup, AreCleared, AreAlike, IsVacant, IsTopped};
+ghost use Rattle.far_extrema.specs.Entries.{plain_entries, lines_of, Adds};
 
-use super::holder::Holder;
+use super::holder::{Holder, clear};
+use super::lines::{Lines, add_line};
 use super::min_max::MinMax;
 use super::min_maxes::MinMaxes;
+use super::numbers::Numbers;
 use super::rows_left::RowsLeft;
-use far_types::{Key, Refusal, clone_key};
+use super::texts::{self, Texts};
+use far_types::{Key, Refusal};
 use std::alloc::Global;
 use std::collections::BTreeMap;
+use std::marker::Model;
 
-/// The row groups by key.
-pub type Holders = BTreeMap<Option<Key>, Holder>;
+/// The row groups by key. No key needs no search. A number is an index into a list, or is looked up in a tree that compares words alone.
+///
+/// Contracts see what is held of each key.
+#[derive(Drop)]
+pub struct Holders {
+    plain: Option<Holder>,
+    numbers: Numbers,
+    texts: Texts,
+}
+
+impl Model for Holders {
+    ghost use Rattle.far_types.specs.Answers.{ByKey};
+    ghost use Rattle.far_extrema.specs.Holders.{Holding, coded_holders, holders_of};
+    ghost use Rattle.far_extrema.specs.Entries.{entries_in};
+
+    ghost Value = { ByKey Holding };
+
+    ghost coded = { coded_holders };
+
+    ghost view = { λ h. holders_of (entries_in h.plain h.numbers h.texts.entries) };
+}
+
+/// Removes a row group from no key. Allocates nothing.
+fn clear_plain(plain: &mut Option<Holder>, group: u32)
+    ensures { AreCleared group plain.old plain.new }
+{
+    if let Some(holder) = plain {
+        if clear(holder, group) {
+            return;
+        }
+    }
+    *plain = None;
+}
+
+/// Adds the line of no key, if there is one.
+fn add_plain_line(lines: &mut Lines, plain: &Option<Holder>) -> Result<(), Refusal>
+    ensures ok { OnOk result (Adds lines.old.items (plain_entries plain.now) lines.new.items) }
+    ensures topped { AllByRecursion IsTopped (plain_entries plain.now) }
+    ensures memory { IfErr result (λ e. e ≡ Refusal.NoMemory) }
+{
+    if let Some(holder) = plain {
+        if let Some(top) = holder.top() {
+            add_line(lines, None, top)?;
+        }
+    }
+    Ok(())
+}
+
+impl Holders {
+    ghost use Rattle.std.specs.Borrow.{sem};
+    ghost use Rattle.std.specs.Option.{option_copied, option_copied_mut};
+    ghost use Rattle.std.specs.List.Sorted.{IsStrictlySortedBy};
+    ghost use Rattle.std.specs.FinMap as fin;
+    ghost use Rattle.far_extrema.specs.Lending.{lends_holder};
+
+    /// Makes holders of no key at all. Allocates nothing.
+    pub fn new(alloc: Global) -> Holders
+        ensures { result ≡ fin.empty }
+    {
+        Holders {
+            plain: None,
+            numbers: Numbers::new(alloc),
+            texts: BTreeMap::new(alloc),
+        }
+    }
+
+    /// Returns the holder of a key, or `None` if there is none.
+    #[inline]
+    fn find(&self, key: &Option<Key>) -> Option<&Holder>
+        ensures { option_copied result ≡ fin.get self.now key.now }
+    {
+        match key {
+            None => self.plain.as_ref(),
+            Some(Key::Int(number)) => self.numbers.get(number),
+            Some(Key::Text(text)) => self.texts.get(text),
+        }
+    }
+
+    /// Mutably borrows the holder of a key. Returns `None` if there is none.
+    #[inline]
+    fn find_mut(&mut self, key: &Option<Key>) -> Option<&mut Holder>
+        ensures* writes_back { sem 𝓛 (lends_holder self.entry key.now result) }
+        ensures value { option_copied_mut result ≡ fin.get self.old key.now }
+    {
+        match key {
+            None => self.plain.as_mut(),
+            Some(Key::Int(number)) => self.numbers.get_mut(number),
+            Some(Key::Text(text)) => self.texts.get_mut(text),
+        }
+    }
+
+    /// Adds or replaces the holder of a key. Clones the key. Refused with `NoMemory` (1) alone. Then no key occurs more or less.
+    fn insert(&mut self, key: &Option<Key>, holder: Holder) -> Result<(), Refusal>
+        ensures ok { OnOk result (AreAlike (fin.insert self.old key.now holder) self.new) }
+        ensures err { OnErr result (AreAlike self.old self.new) }
+        ensures memory { IfErr result (λ e. e ≡ Refusal.NoMemory) }
+    {
+        match key {
+            None => {
+                self.plain = Some(holder);
+                Ok(())
+            }
+            Some(Key::Int(number)) => self.numbers.insert(number, holder),
+            Some(Key::Text(text)) => texts::put(&mut self.texts, text, holder),
+        }
+    }
+
+    /// Removes the vacant holder of a key, unless a list has it. Allocates nothing.
+    fn remove(&mut self, key: &Option<Key>)
+        requires { IsVacant (fin.get self.old key.now) }
+        ensures { AreAlike (fin.remove self.old key.now) self.new }
+    {
+        match key {
+            None => self.plain = None,
+            Some(Key::Int(number)) => self.numbers.remove(number),
+            Some(Key::Text(text)) => texts::remove(&mut self.texts, text),
+        }
+    }
+
+    /// Removes a row group from all keys. A key goes with its last row group, unless it is reserved. Allocates nothing.
+    pub fn clear(&mut self, group: u32)
+        ensures min_maxes { IsGroup self.old group fin.empty self.new }
+        ensures reserved { HaveSameReserved self.old self.new }
+    {
+        clear_plain(&mut self.plain, group);
+        self.numbers.clear(group);
+        texts::clear_all(&mut self.texts, group);
+    }
+
+    /// Returns how many keys have a holder, or fewer if they are too many to be counted.
+    fn len(&self) -> usize {
+        let keys = self.numbers.len().saturating_add(self.texts.len());
+        keys.saturating_add(self.plain.is_some() as usize)
+    }
+
+    /// Makes the lines of the joined min-maxes of all row groups, by key. Clones the keys. A key that is only reserved has no line.
+    pub fn lines(&self, alloc: Global) -> Result<Lines, Refusal>
+        ensures ok { IfOk result (λ lines. lines.items ≡ lines_of (fin.entries self.now)) }
+        ensures ordered { OnOk result (IsStrictlySortedBy line_cmp (fin.keys self.now)) }
+        ensures topped { OnOk result (AllByRecursion IsTopped (fin.entries self.now)) }
+        ensures memory { IfErr result (λ e. e ≡ Refusal.NoMemory) }
+    {
+        let mut lines = Vec::with_capacity(alloc, self.len())?;
+        add_plain_line(&mut lines, &self.plain)?;
+        self.numbers.add_lines(&mut lines)?;
+        texts::add_lines(&mut lines, &self.texts)?;
+        Ok(lines)
+    }
+}
 
 /// Returns the min-max of a key in a row group. Allocates nothing.
 pub fn min_max_in(holders: &Holders, group: u32, key: &Option<Key>) -> Option<MinMax>
-    ensures { result ≡ min_max_at (holders_of holders.now.entries) group key.now }
+    ensures { result ≡ min_max_at holders.now group key.now }
 {
-    match holders.get(key) {
+    match holders.find(key) {
         Some(holder) => holder.min_max(group),
         None => None,
     }
@@ -34,7 +182,7 @@ pub fn min_max_in(holders: &Holders, group: u32, key: &Option<Key>) -> Option<Mi
 /// Observes a value under a key in a row group, with one look-up if the key is known. Clones the key if it is new. Returns the previous
 /// min-max there, or `None`.
 ///
-/// Refused with `NoMemory` (1) alone, and only if the key is new in the row group. Then nothing is changed.
+/// Refused with `NoMemory` (1) alone, and only if the key is new in the row group. Then no min-max is changed, and no reserved key.
 pub fn observe_in(
     holders: &mut Holders,
     alloc: Global,
@@ -42,17 +190,17 @@ pub fn observe_in(
     key: &Option<Key>,
     value: i64,
 ) -> Result<Option<MinMax>, Refusal>
-    ensures previous { IfOk result (λ previous. previous ≡ min_max_at (holders_of holders.old.entries) group key.now) }
-    ensures ok { OnOk result (IsPut (holders_of holders.old.entries) group key.now (Some (min_max_with value (min_max_at (holders_of holders.old.entries) group key.now))) (holders_of holders.new.entries)) }
-    ensures reserved { OnOk result (HaveSameReserved (holders_of holders.old.entries) (holders_of holders.new.entries)) }
-    ensures err { OnErr result (holders_of holders.new.entries ≡ holders_of holders.old.entries) }
-    ensures only_new { OnErr result (min_max_at (holders_of holders.old.entries) group key.now ≡ None) }
+    ensures previous { IfOk result (λ previous. previous ≡ min_max_at holders.old group key.now) }
+    ensures ok { OnOk result (IsObserved holders.old group key.now value holders.new) }
+    ensures reserved { OnOk result (HaveSameReserved holders.old holders.new) }
+    ensures err { OnErr result (AreAlike holders.old holders.new) }
+    ensures only_new { OnErr result (min_max_at holders.old group key.now ≡ None) }
     ensures memory { IfErr result (λ e. e ≡ Refusal.NoMemory) }
 {
-    match holders.get_mut(key) {
+    match holders.find_mut(key) {
         Some(holder) => holder.observe(alloc, group, value),
         None => {
-            holders.insert(clone_key(key)?, Holder::new(group, MinMax::of(value)))?;
+            holders.insert(key, Holder::new(group, MinMax::of(value)))?;
             Ok(None)
         }
     }
@@ -60,11 +208,11 @@ pub fn observe_in(
 
 /// Sets the min-max of a key in a row group. Allocates nothing.
 pub fn set_in(holders: &mut Holders, group: u32, key: &Option<Key>, min_max: MinMax)
-    requires { min_max_at (holders_of holders.old.entries) group key.now ≢ None }
-    ensures min_maxes { IsPut (holders_of holders.old.entries) group key.now (Some min_max) (holders_of holders.new.entries) }
-    ensures reserved { HaveSameReserved (holders_of holders.old.entries) (holders_of holders.new.entries) }
+    requires { min_max_at holders.old group key.now ≢ None }
+    ensures min_maxes { IsPut holders.old group key.now (Some min_max) holders.new }
+    ensures reserved { HaveSameReserved holders.old holders.new }
 {
-    match holders.get_mut(key) {
+    match holders.find_mut(key) {
         Some(holder) => holder.put(group, min_max),
         None => unreachable!(),
     }
@@ -72,11 +220,11 @@ pub fn set_in(holders: &mut Holders, group: u32, key: &Option<Key>, min_max: Min
 
 /// Removes a row group from a key. The key goes with its last row group, unless it is reserved. Allocates nothing.
 pub fn leave_in(holders: &mut Holders, group: u32, key: &Option<Key>)
-    requires { min_max_at (holders_of holders.old.entries) group key.now ≢ None }
-    ensures min_maxes { IsPut (holders_of holders.old.entries) group key.now None (holders_of holders.new.entries) }
-    ensures reserved { HaveSameReserved (holders_of holders.old.entries) (holders_of holders.new.entries) }
+    requires { min_max_at holders.old group key.now ≢ None }
+    ensures min_maxes { IsPut holders.old group key.now None holders.new }
+    ensures reserved { HaveSameReserved holders.old holders.new }
 {
-    match holders.get_mut(key) {
+    match holders.find_mut(key) {
         Some(holder) => {
             holder.leave(group);
             if !holder.is_vacant() {
@@ -100,12 +248,12 @@ pub fn shrink_in<R: RowsLeft>(
     rows: &R,
 ) -> Option<MinMax>
     requires at_hand { R.at_hand rows.now }
-    requires previous { min_max_at (holders_of holders.old.entries) group key.now ≡ Some (min_max_with value (R.extremes rows.now)) }
+    requires previous { HasWith holders.old group key.now value (R.extremes rows.now) }
     ensures left { result ≡ R.extremes rows.now }
-    ensures min_maxes { IsPut (holders_of holders.old.entries) group key.now (R.extremes rows.now) (holders_of holders.new.entries) }
-    ensures reserved { HaveSameReserved (holders_of holders.old.entries) (holders_of holders.new.entries) }
+    ensures min_maxes { IsPut holders.old group key.now (R.extremes rows.now) holders.new }
+    ensures reserved { HaveSameReserved holders.old holders.new }
 {
-    match holders.get_mut(key) {
+    match holders.find_mut(key) {
         Some(holder) => {
             let left = holder.shrink(group, value, rows);
             if !holder.is_vacant() {
@@ -120,15 +268,15 @@ pub fn shrink_in<R: RowsLeft>(
 
 /// Reserves memory for one more row group of a key. Refused with `NoMemory` (1) alone.
 fn reserve_in(holders: &mut Holders, alloc: Global, key: &Option<Key>) -> Result<(), Refusal>
-    ensures min_maxes { HaveSameMinMaxes (holders_of holders.old.entries) (holders_of holders.new.entries) }
-    ensures kept { KeepsReserved (holders_of holders.old.entries) (holders_of holders.new.entries) }
-    ensures reserved { OnOk result (reserved_at (holders_of holders.new.entries) key.now ≢ None) }
+    ensures min_maxes { HaveSameMinMaxes holders.old holders.new }
+    ensures kept { KeepsReserved holders.old holders.new }
+    ensures reserved { OnOk result (reserved_at holders.new key.now ≢ None) }
     ensures memory { IfErr result (λ e. e ≡ Refusal.NoMemory) }
 {
-    match holders.get_mut(key) {
+    match holders.find_mut(key) {
         Some(holder) => holder.reserve(alloc),
         None => {
-            holders.insert(clone_key(key)?, Holder::with_place())?;
+            holders.insert(key, Holder::with_place())?;
             Ok(())
         }
     }
@@ -140,8 +288,8 @@ pub fn reserve_all(
     alloc: Global,
     min_maxes: &MinMaxes,
 ) -> Result<(), Refusal>
-    ensures min_maxes { HaveSameMinMaxes (holders_of holders.old.entries) (holders_of holders.new.entries) }
-    ensures reserved { OnOk result (AreReservedFor (extrema_of min_maxes.now.entries) (holders_of holders.new.entries)) }
+    ensures min_maxes { HaveSameMinMaxes holders.old holders.new }
+    ensures reserved { OnOk result (AreReservedFor (extrema_of min_maxes.now.entries) holders.new) }
     ensures memory { IfErr result (λ e. e ≡ Refusal.NoMemory) }
 {
     for (key, _) in min_maxes {
@@ -152,12 +300,12 @@ pub fn reserve_all(
 
 /// Adds a row group to a reserved key. Allocates nothing.
 fn fill_in(holders: &mut Holders, group: u32, key: &Option<Key>, min_max: MinMax)
-    requires reserved { reserved_at (holders_of holders.old.entries) key.now ≢ None }
-    requires new { min_max_at (holders_of holders.old.entries) group key.now ≡ None }
-    ensures min_maxes { IsPut (holders_of holders.old.entries) group key.now (Some min_max) (holders_of holders.new.entries) }
-    ensures reserved { (q : Option Key) → eq_by_cmp line_cmp q key.now ≡ false → reserved_at (holders_of holders.new.entries) q ≡ reserved_at (holders_of holders.old.entries) q }
+    requires reserved { reserved_at holders.old key.now ≢ None }
+    requires new { min_max_at holders.old group key.now ≡ None }
+    ensures min_maxes { IsPut holders.old group key.now (Some min_max) holders.new }
+    ensures reserved { HaveSameOtherReserved holders.old key.now holders.new }
 {
-    match holders.get_mut(key) {
+    match holders.find_mut(key) {
         Some(holder) => holder.fill(group, min_max),
         None => unreachable!(),
     }
@@ -165,59 +313,20 @@ fn fill_in(holders: &mut Holders, group: u32, key: &Option<Key>, min_max: MinMax
 
 /// Sets the min-maxes of a row group in which no key occurs yet. Each of their keys must be reserved. Allocates nothing.
 pub fn fill_all(holders: &mut Holders, group: u32, min_maxes: &MinMaxes)
-    requires reserved { AreReservedFor (extrema_of min_maxes.now.entries) (holders_of holders.old.entries) }
-    requires new { (q : Option Key) → min_max_at (holders_of holders.old.entries) group q ≡ None }
-    ensures { IsGroup (holders_of holders.old.entries) group (extrema_of min_maxes.now.entries) (holders_of holders.new.entries) }
+    requires reserved { AreReservedFor (extrema_of min_maxes.now.entries) holders.old }
+    requires new { (q : Option Key) → min_max_at holders.old group q ≡ None }
+    ensures { IsGroup holders.old group (extrema_of min_maxes.now.entries) holders.new }
 {
     for (key, min_max) in min_maxes {
         fill_in(holders, group, key, *min_max);
     }
 }
 
-/// Removes a row group from a key, if the key occurs in it. Returns whether the key stays: it has a row group left, or is reserved.
-fn clear(holder: &mut Holder, group: u32) -> bool
-    ensures { IsCleared group holder.old result holder.new }
-{
-    holder.clear(group);
-    !holder.is_vacant()
-}
-
-/// Removes a row group from all keys. Allocates nothing.
-pub fn clear_in(holders: &mut Holders, group: u32)
-    ensures min_maxes { IsGroup (holders_of holders.old.entries) group fin.empty (holders_of holders.new.entries) }
-    ensures reserved { HaveSameReserved (holders_of holders.old.entries) (holders_of holders.new.entries) }
-{
-    holders.retain(|_, holder| clear(holder, group));
-}
-
-/// Makes a line of an answer.
-fn line(key: Option<Key>, min_max: MinMax) -> (Option<Key>, i64, i64)
-    ensures { result ≡ (key, min_max.0, min_max.1) }
-{
-    (key, min_max.min, min_max.max)
-}
-
-/// Makes the lines of the joined min-maxes of all row groups, by key. Clones the keys. A key that is only reserved has no line.
-pub fn lines(alloc: Global, holders: &Holders) -> Result<Vec<(Option<Key>, i64, i64)>, Refusal>
-    ensures ok { IfOk result (λ lines. lines.items ≡ filter_map line_of holders.now.entries) }
-    ensures ordered { IsOrdered line_cmp holders.now }
-    ensures topped { OnOk result (AllByRecursion IsTopped holders.now.entries) }
-    ensures memory { IfErr result (λ e. e ≡ Refusal.NoMemory) }
-{
-    let mut lines = Vec::with_capacity(alloc, holders.len())?;
-    for (key, holder) in holders {
-        if let Some(top) = holder.top() {
-            lines.push(line(clone_key(key)?, top))?;
-        }
-    }
-    Ok(lines)
-}
-
 /// Returns the joined min-max of a key over all row groups, or `None` if it occurs in none. Allocates nothing.
 pub fn top_under(holders: &Holders, key: &Option<Key>) -> Option<MinMax>
-    ensures { IsTopUnder (holders_of holders.now.entries) key.now result }
+    ensures { IsTopUnder holders.now key.now result }
 {
-    match holders.get(key) {
+    match holders.find(key) {
         Some(holder) => holder.top(),
         None => None,
     }

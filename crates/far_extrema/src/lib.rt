@@ -3,16 +3,21 @@
 //!
 //! They are kept row group by row group. So if a row group loses a row, only its rows are read again.
 
+mod dense;
 pub mod group_extrema;
 mod holder;
 mod holders;
 pub mod laws;
+mod lines;
 pub mod live_extrema;
 mod min_max;
 mod min_maxes;
+mod number_tree;
+mod numbers;
 pub mod rows_left;
 mod run;
 mod runs;
+mod texts;
 
 pub use group_extrema::GroupExtrema;
 pub use live_extrema::LiveExtrema;

@@ -1,18 +1,15 @@
 // Extrema that are kept up to date, row group by row group.
 ghost use Rattle.std.specs.Prelude.{◌≡◌, ◌≢◌, ◌-◌, ◌<◌, [], None, Some, Err, OnOk, OnErr, IfOk, IfErr, length, slice_set};
 ghost use Rattle.far_extrema.specs.Live.{all_groups};
-ghost use Rattle.far_extrema.specs.Holders.{holders_of};
 
 use super::group_extrema::GroupExtrema;
 use super::holders::{
-    Holders, clear_in, fill_all, leave_in, lines, min_max_in, observe_in, reserve_all, set_in,
-    shrink_in, top_under,
+    Holders, fill_all, leave_in, min_max_in, observe_in, reserve_all, set_in, shrink_in, top_under,
 };
 use super::min_max::MinMax;
 use super::rows_left::RowsLeft;
 use far_types::{Answer, ExtremaLines, Key, Refusal};
 use std::alloc::Global;
-use std::collections::BTreeMap;
 use std::marker::Model;
 
 /// The least and the greatest value under each key, kept up to date row group by row group. It also counts the row groups that are pending:
@@ -32,15 +29,19 @@ pub struct LiveExtrema {
 
 impl Model for LiveExtrema {
     ghost use Rattle.far_extrema.specs.Live.{ExtremaState, coded_extrema_state};
-    ghost use Rattle.far_extrema.specs.Holders.{holders_of, groups_in, reserved_keys, AreReserved};
+    ghost use Rattle.far_extrema.specs.Holders.{groups_in, reserved_keys, AreReserved};
 
     ghost Value = { ExtremaState };
 
     ghost coded = { coded_extrema_state };
 
-    ghost view = { λ live. record { left = live.left; groups = groups_in (holders_of live.holders.entries) live.reserved_groups; reserved = reserved_keys (holders_of live.holders.entries) } };
+    ghost view = { λ live. record {
+      left = live.left;
+      groups = groups_in live.holders live.reserved_groups;
+      reserved = reserved_keys live.holders;
+    } };
 
-    ghost invariant = { λ live. AreReserved live.reserved_groups (holders_of live.holders.entries) };
+    ghost invariant = { λ live. AreReserved live.reserved_groups live.holders };
 }
 
 impl LiveExtrema {
@@ -58,7 +59,7 @@ impl LiveExtrema {
         LiveExtrema {
             left,
             reserved_groups: 0,
-            holders: BTreeMap::new(alloc),
+            holders: Holders::new(alloc),
             alloc,
         }
     }
@@ -105,8 +106,14 @@ impl LiveExtrema {
         value: i64,
     ) -> Result<Option<MinMax>, Refusal>
         requires { group < length self.old.groups }
-        ensures previous { IfOk result (λ previous. previous ≡ fin.get (group_at self.old.groups group) key.now) }
-        ensures ok { OnOk result (self.new ≡ record self.old { groups = slice_set self.old.groups group (with_observed (group_at self.old.groups group) (key.now, value)) }) }
+        ensures previous { IfOk result
+            (λ previous. previous ≡ fin.get (group_at self.old.groups group) key.now) }
+        ensures ok { OnOk result
+            (self.new
+            ≡ record self.old {
+              groups = slice_set self.old.groups group
+                  (with_observed (group_at self.old.groups group) (key.now, value));
+            }) }
         ensures err { OnErr result (self.new ≡ self.old) }
         ensures only_new { OnErr result (fin.get (group_at self.old.groups group) key.now ≡ None) }
         ensures memory { IfErr result (λ e. e ≡ Refusal.NoMemory) }
@@ -119,7 +126,11 @@ impl LiveExtrema {
     pub fn observe_over(&mut self, group: u32, key: &Option<Key>, value: i64, previous: MinMax)
         requires reserved { group < length self.old.groups }
         requires previous { fin.get (group_at self.old.groups group) key.now ≡ Some previous }
-        ensures { self.new ≡ record self.old { groups = slice_set self.old.groups group (with_observed (group_at self.old.groups group) (key.now, value)) } }
+        ensures { self.new
+            ≡ record self.old {
+              groups = slice_set self.old.groups group
+                  (with_observed (group_at self.old.groups group) (key.now, value));
+            } }
     {
         if previous.is_within(value) {
             return;
@@ -141,7 +152,11 @@ impl LiveExtrema {
     pub fn put_min_max(&mut self, group: u32, key: &Option<Key>, min_max: Option<MinMax>)
         requires reserved { group < length self.old.groups }
         requires there { fin.get (group_at self.old.groups group) key.now ≢ None }
-        ensures { self.new ≡ record self.old { groups = slice_set self.old.groups group (put_min_max (group_at self.old.groups group) key.now min_max) } }
+        ensures { self.new
+            ≡ record self.old {
+              groups = slice_set self.old.groups group
+                  (put_min_max (group_at self.old.groups group) key.now min_max);
+            } }
     {
         match min_max {
             Some(min_max) => set_in(&mut self.holders, group, key, min_max),
@@ -162,9 +177,14 @@ impl LiveExtrema {
     ) -> Option<MinMax>
         requires reserved { group < length self.old.groups }
         requires at_hand { R.at_hand rows.now }
-        requires previous { fin.get (group_at self.old.groups group) key.now ≡ Some (min_max_with value (R.extremes rows.now)) }
+        requires previous { fin.get (group_at self.old.groups group) key.now
+            ≡ Some (min_max_with value (R.extremes rows.now)) }
         ensures left { result ≡ R.extremes rows.now }
-        ensures shrunk { self.new ≡ record self.old { groups = slice_set self.old.groups group (put_min_max (group_at self.old.groups group) key.now (R.extremes rows.now)) } }
+        ensures shrunk { self.new
+            ≡ record self.old {
+              groups = slice_set self.old.groups group
+                  (put_min_max (group_at self.old.groups group) key.now (R.extremes rows.now));
+            } }
     {
         shrink_in(&mut self.holders, group, key, value, rows)
     }
@@ -177,7 +197,7 @@ impl LiveExtrema {
         ensures left { self.new.left ≡ self.old.left }
         ensures groups { self.new.groups ≡ slice_set self.old.groups group extrema }
     {
-        clear_in(&mut self.holders, group);
+        self.holders.clear(group);
         fill_all(&mut self.holders, group, extrema.min_maxes());
     }
 
@@ -202,7 +222,8 @@ impl LiveExtrema {
     /// - `Building` (15), which says how many row groups are pending, exactly if that is not 0;
     /// - else `NoMemory` (1) alone.
     pub fn answer(&self, alloc: Global) -> Result<Answer, Refusal>
-        ensures ok { IfOk result (λ answer. answer ≡ Answer.Extrema (extrema_lines (all_groups self.now.groups))) }
+        ensures ok { IfOk result
+            (λ answer. answer ≡ Answer.Extrema (extrema_lines (all_groups self.now.groups))) }
         ensures all_scanned { OnOk result (self.now.left ≡ 0) }
         ensures building { self.now.left ≢ 0 → result ≡ Err (Refusal.Building self.now.left) }
         ensures memory { self.now.left ≡ 0 → IfErr result (λ e. e ≡ Refusal.NoMemory) }
@@ -210,7 +231,7 @@ impl LiveExtrema {
         if self.left != 0 {
             return Err(Refusal::Building(self.left));
         }
-        let lines = lines(alloc, &self.holders)?;
+        let lines = self.holders.lines(alloc)?;
         Ok(Answer::Extrema(ExtremaLines::new(lines)))
     }
 

@@ -18,7 +18,9 @@ pub type MinMaxes = BTreeMap<Option<Key>, MinMax>;
 /// Joins a min-max to that under a key, if the key is there. Returns whether it is. Allocates nothing.
 fn widen(min_maxes: &mut MinMaxes, key: &Option<Key>, more: MinMax) -> bool
     ensures there { result ≡ is_some (fin.get (extrema_of min_maxes.old.entries) key.now) }
-    ensures widened { IsTrue result → extrema_of min_maxes.new.entries ≡ with_min_max (extrema_of min_maxes.old.entries) key.now more }
+    ensures widened { IsTrue result
+        → extrema_of min_maxes.new.entries
+        ≡ with_min_max (extrema_of min_maxes.old.entries) key.now more }
     ensures absent { result ≡ false → min_maxes.new.entries ≡ min_maxes.old.entries }
 {
     match min_maxes.get_mut(key) {
@@ -32,7 +34,9 @@ fn widen(min_maxes: &mut MinMaxes, key: &Option<Key>, more: MinMax) -> bool
 
 /// Joins a min-max to that under a key. If the key is there already, drops the given one.
 pub fn observe(min_maxes: &mut MinMaxes, key: Option<Key>, more: MinMax) -> Result<(), Refusal>
-    ensures ok { OnOk result (extrema_of min_maxes.new.entries ≡ with_min_max (extrema_of min_maxes.old.entries) key more) }
+    ensures ok { OnOk result
+        (extrema_of min_maxes.new.entries
+        ≡ with_min_max (extrema_of min_maxes.old.entries) key more) }
     ensures err { OnErr result (min_maxes.new.entries ≡ min_maxes.old.entries) }
     ensures only_new { OnErr result (fin.get (extrema_of min_maxes.old.entries) key ≡ None) }
     ensures memory { IfErr result (λ e. e ≡ Refusal.NoMemory) }
@@ -49,7 +53,9 @@ pub fn observe_under(
     key: &Option<Key>,
     more: MinMax,
 ) -> Result<(), Refusal>
-    ensures ok { OnOk result (extrema_of min_maxes.new.entries ≡ with_min_max (extrema_of min_maxes.old.entries) key.now more) }
+    ensures ok { OnOk result
+        (extrema_of min_maxes.new.entries
+        ≡ with_min_max (extrema_of min_maxes.old.entries) key.now more) }
     ensures err { OnErr result (min_maxes.new.entries ≡ min_maxes.old.entries) }
     ensures only_new { OnErr result (fin.get (extrema_of min_maxes.old.entries) key.now ≡ None) }
     ensures memory { IfErr result (λ e. e ≡ Refusal.NoMemory) }
@@ -70,7 +76,8 @@ pub fn min_max_under(min_maxes: &MinMaxes, key: &Option<Key>) -> Option<MinMax>
 /// Replaces the min-max under a key that is there. `None` removes the key. Allocates nothing.
 pub fn put(min_maxes: &mut MinMaxes, key: &Option<Key>, min_max: Option<MinMax>)
     requires { fin.get (extrema_of min_maxes.old.entries) key.now ≢ None }
-    ensures { extrema_of min_maxes.new.entries ≡ put_min_max (extrema_of min_maxes.old.entries) key.now min_max }
+    ensures { extrema_of min_maxes.new.entries
+        ≡ put_min_max (extrema_of min_maxes.old.entries) key.now min_max }
 {
     match min_max {
         None => {
@@ -85,7 +92,10 @@ pub fn put(min_maxes: &mut MinMaxes, key: &Option<Key>, min_max: Option<MinMax>)
 
 /// Makes the lines of the min-maxes, by their keys. Clones the keys.
 pub fn lines(alloc: Global, min_maxes: &MinMaxes) -> Result<Vec<(Option<Key>, i64, i64)>, Refusal>
-    ensures ok { IfOk result (λ lines. lines.items ≡ map (λ (entry : Option Key × (ℤ × ℤ)). (entry.0, entry.1.0, entry.1.1)) min_maxes.now.entries) }
+    ensures ok { IfOk result
+        (λ lines. lines.items
+        ≡ map (λ (entry : Option Key × (ℤ × ℤ)). (entry.0, entry.1.0, entry.1.1))
+        min_maxes.now.entries) }
     ensures ordered { IsOrdered line_cmp min_maxes.now }
     ensures memory { IfErr result (λ e. e ≡ Refusal.NoMemory) }
 {

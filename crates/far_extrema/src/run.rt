@@ -23,9 +23,11 @@ impl Model for Run {
 
     ghost Value = { RunState };
 
-    ghost view = { λ run. record { min_maxes = paired run.groups.items run.values.items; top = run.top } };
+    ghost view = { λ run. record
+        { min_maxes = paired run.groups.items run.values.items; top = run.top } };
 
-    ghost invariant = { λ run. AreInOrder run.groups.items run.values.items × IsTopOf (paired run.groups.items run.values.items) run.top };
+    ghost invariant = { λ run. AreInOrder run.groups.items run.values.items
+        × IsTopOf (paired run.groups.items run.values.items) run.top };
 }
 
 /// Returns the place of a row group, or the place at which it would stand.
@@ -85,7 +87,10 @@ fn top_after(
     now: Option<MinMax>,
 ) -> Option<MinMax>
     requires { AreInOrder groups.now values.now }
-    ensures { (old : MinMaxes) → (g : ℕ) → at old g ≡ Some previous → IsSet old g now (paired groups.now values.now) → IsTopOf old top → IsTopOf (paired groups.now values.now) result }
+    ensures { (old : MinMaxes) → (g : ℕ) → at old g ≡ Some previous
+        → IsSet old g now (paired groups.now values.now)
+        → IsTopOf old top
+        → IsTopOf (paired groups.now values.now) result }
 {
     if is_kept(&top, previous, &now) {
         return either(top, now);
@@ -100,7 +105,8 @@ fn insert_in(groups: &mut Vec<u32>, values: &mut Vec<MinMax>, group: u32, min_ma
     requires groups_room { vec_len groups.old < vec_capacity groups.old }
     requires values_room { vec_len values.old < vec_capacity values.old }
     ensures order { AreInOrder groups.new.items values.new.items }
-    ensures set { IsSet (paired groups.old.items values.old.items) group (Some min_max) (paired groups.new.items values.new.items) }
+    ensures set { IsSet (paired groups.old.items values.old.items) group (Some min_max)
+        (paired groups.new.items values.new.items) }
     ensures groups_len { vec_len groups.new ≡ vec_len groups.old + 1 }
     ensures values_len { vec_len values.new ≡ vec_len values.old + 1 }
     ensures groups_capacity { vec_capacity groups.new ≡ vec_capacity groups.old }
@@ -151,7 +157,8 @@ impl Run {
     /// Cuts a run in two halves: this keeps the first one.
     fn cut(&mut self, alloc: Global) -> Result<Option<(u32, Run)>, Refusal>
         ensures kept { IfOk result (λ late. late ≡ None → self.new ≡ self.old) }
-        ensures cut { (group : ℕ) → IfOk result (IsCut group self.old.min_maxes self.new.min_maxes) }
+        ensures cut { (group : ℕ)
+            → IfOk result (IsCut group self.old.min_maxes self.new.min_maxes) }
         ensures err { OnErr result (self.new ≡ self.old) }
         ensures memory { IfErr result (λ e. e ≡ Refusal.NoMemory) }
     {
@@ -205,7 +212,8 @@ impl Run {
     /// Adds a row group. Refused with `NoMemory` (1) alone. Then nothing is changed.
     pub fn add(&mut self, group: u32, min_max: MinMax) -> Result<(), Refusal>
         requires { at self.old.min_maxes group ≡ None }
-        ensures ok { OnOk result (IsSet self.old.min_maxes group (Some min_max) self.new.min_maxes) }
+        ensures ok { OnOk result
+            (IsSet self.old.min_maxes group (Some min_max) self.new.min_maxes) }
         ensures err { OnErr result (self.new ≡ self.old) }
         ensures memory { IfErr result (λ e. e ≡ Refusal.NoMemory) }
     {

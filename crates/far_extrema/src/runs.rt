@@ -30,7 +30,10 @@ impl Model for Runs {
 
     ghost view = { λ s. record { min_maxes = whole s.runs.items; top = s.top } };
 
-    ghost invariant = { λ s. RiseFrom 0 s.firsts.items × AreParts s.firsts.items s.runs.items × IsTopOf (whole s.runs.items) s.top × IsApartFrom s.firsts.items s.runs.items s.apart };
+    ghost invariant = { λ s. RiseFrom 0 s.firsts.items
+        × AreParts s.firsts.items s.runs.items
+        × IsTopOf (whole s.runs.items) s.top
+        × IsApartFrom s.firsts.items s.runs.items s.apart };
 }
 
 /// Joins two min-maxes, as far as they are there.
@@ -292,7 +295,8 @@ impl Runs {
     /// Adds a row group. Refused with `NoMemory` (1) alone. Then nothing is changed.
     pub fn add(&mut self, alloc: Global, group: u32, min_max: MinMax) -> Result<(), Refusal>
         requires { at self.old.min_maxes group ≡ None }
-        ensures ok { OnOk result (IsSet self.old.min_maxes group (Some min_max) self.new.min_maxes) }
+        ensures ok { OnOk result
+            (IsSet self.old.min_maxes group (Some min_max) self.new.min_maxes) }
         ensures err { OnErr result (self.new ≡ self.old) }
         ensures memory { IfErr result (λ e. e ≡ Refusal.NoMemory) }
     {

@@ -1,8 +1,7 @@
-use Rattle.far_extrema.specs.Holders.{holders_of}
 use Rattle.far_extrema.proofs.HoldersReserve.{IsFilling}
 use Rattle.far_extrema.proofs.holders.fill_all.Given as goal
 
 abbrev pub invariant-loop-key : goal.invariant-loop-key
 invariant-loop-key l = record {
-  filling : IsFilling (holders_of l.initial.holders.entries) (holders_of l.holders.entries) l.group l.min_maxes.entries l.key-iterator;
+  filling : IsFilling l.initial.holders l.holders l.group l.min_maxes.entries l.key-iterator;
 }

@@ -1,7 +1,6 @@
 use Rattle.std.proofs.Common.{refl, sym, ap, ◌∙◌}
 use Rattle.far_types.proofs.AnswersByKeyMaps.{get_at}
 use Rattle.far_types.proofs.AnswersByKeyMaps as map_in
-use Rattle.far_extrema.specs.Holders.{holders_of}
 use Rattle.far_extrema.proofs.HoldersReserve.{reserved-next}
 use Rattle.far_extrema.proofs.holders.reserve_all.Goals as goal
 
@@ -14,7 +13,7 @@ loop-key-init c = record {
 pub loop-key-preserved : goal.loop-key-preserved
 loop-key-preserved c = record {
   min_maxes = λ g q. c.in_ok-reserve_in.ensures.min_maxes g q ∙ c.loop-key.invariant.min_maxes g q;
-  reserved = reserved-next (holders_of c.loop-key.holders.entries) (holders_of c.reserve_in.new.holders.entries) c.args.min_maxes.now.entries (c.in-Some.key.now, c.in-Some.field-0-1.now) c.next.new.self
+  reserved = reserved-next c.loop-key.holders c.reserve_in.new.holders c.args.min_maxes.now.entries (c.in-Some.key.now, c.in-Some.field-0-1.now) c.next.new.self
       (λ q there gone. c.loop-key.invariant.reserved q there (ap (λ es. map_in.at es q) c.in-Some.ensures.steps ∙ gone))
       c.in_ok-reserve_in.ensures.kept c.in_ok-reserve_in.ensures.reserved;
 }

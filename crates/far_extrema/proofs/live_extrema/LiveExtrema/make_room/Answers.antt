@@ -2,13 +2,13 @@ use Rattle.std.proofs.Common.{◌≡◌, ◌+◌, ◌-◌, ◌++◌, length, sym
 use Rattle.std.specs.Prelude.{replicate}
 use Rattle.std.specs.FinMap as fin
 use Rattle.far_extrema.specs.Live.{ExtremaState}
-use Rattle.far_extrema.specs.Holders.{holders_of, groups_in}
+use Rattle.far_extrema.specs.Holders.{groups_in}
 use Rattle.far_extrema.proofs.HoldersLaws.{more-reserved, length-groups_in}
 use Rattle.far_extrema.proofs.live_extrema.LiveExtrema.make_room.Goals as goal
 
 pub returns : goal.returns
 returns c =
-    let m = holders_of c.self.inside.holders.entries in
+    let m = c.self.inside.holders in
     let count = c.self.inside.reserved_groups in
     let left = ap (λ (live : ExtremaState). live.left) c.self.view_is in
     let groups = ap (λ (live : ExtremaState). live.groups) c.self.view_is in

@@ -6,7 +6,7 @@ use Rattle.far_types.specs.declared.key.Key.{Key}
 use Rattle.far_types.specs.Answers.{Extrema}
 use Rattle.far_types.specs.Effects.{with_observed, min_max_with}
 use Rattle.far_extrema.specs.Live.{ExtremaState, group_at}
-use Rattle.far_extrema.specs.Holders.{Holders, holders_of, min_max_at, groups_in, AreReserved, IsPut}
+use Rattle.far_extrema.specs.Holders.{Holders, min_max_at, groups_in, AreReserved, IsPut}
 use Rattle.far_extrema.proofs.MinMaxesRemoval.{put-same}
 use Rattle.far_extrema.proofs.HoldersLaws.{get-group_at, length-groups_in, observed-in, reserved-put, widened_within, same-reserved}
 use Rattle.far_extrema.proofs.live_extrema.LiveExtrema.observe_over.Goals as goal
@@ -26,17 +26,17 @@ set_own (m ∷ gs) (suc g) = ap (λ l. m ∷ l) (set_own gs g)
 
 pub set_in-requires : goal.set_in-requires
 set_in-requires c = λ none.
-    let m = holders_of c.self.inside.holders.entries in
+    let m = c.self.inside.holders in
     let groups = ap (λ (live : ExtremaState). live.groups) c.self.view_is in
     let there = previous m c.self.inside.reserved_groups c.args.group c.args.self.now.groups c.args.key.now c.args.previous groups c.self.invariant c.requires.previous in
     absurd cc
 
 pub invariant_of-self : goal.invariant_of-self
 invariant_of-self c =
-    let m = holders_of c.self.inside.holders.entries in
+    let m = c.self.inside.holders in
     let groups = ap (λ (live : ExtremaState). live.groups) c.self.view_is in
     let less : c.args.group < c.self.inside.reserved_groups = omega (arith, ap length groups, length-groups_in m c.self.inside.reserved_groups, c.requires.reserved) in
-    reserved-put m (holders_of c.set_in.new.holders.entries) c.self.inside.reserved_groups c.args.group c.args.key.now (Some c.with-wide.result) c.self.invariant less c.set_in.ensures.min_maxes
+    reserved-put m c.set_in.new.holders c.self.inside.reserved_groups c.args.group c.args.key.now (Some c.with-wide.result) c.self.invariant less c.set_in.ensures.min_maxes
 
 pub returns-then-is_within : goal.returns-then-is_within
 returns-then-is_within c =
@@ -48,16 +48,16 @@ returns-then-is_within c =
 
 pub returns : goal.returns
 returns c =
-    let m = holders_of c.self.inside.holders.entries in
+    let m = c.self.inside.holders in
     let fits = c.ranges.value in
     let left = ap (λ (live : ExtremaState). live.left) c.self.view_is in
     let groups = ap (λ (live : ExtremaState). live.groups) c.self.view_is in
     let less : c.args.group < c.self.inside.reserved_groups = omega (arith, ap length groups, length-groups_in m c.self.inside.reserved_groups, c.requires.reserved) in
     let there = previous m c.self.inside.reserved_groups c.args.group c.args.self.now.groups c.args.key.now c.args.previous groups c.self.invariant c.requires.previous in
     let joined : c.with-wide.result ≡ min_max_with c.args.value (Some c.args.previous) = simp to_z-of_z at c.with-wide.ensures in
-    let put = subst (λ (x : ℤ × ℤ). IsPut m c.args.group c.args.key.now (Some x) (holders_of c.set_in.new.holders.entries)) joined c.set_in.ensures.min_maxes in
+    let put = subst (λ (x : ℤ × ℤ). IsPut m c.args.group c.args.key.now (Some x) c.set_in.new.holders) joined c.set_in.ensures.min_maxes in
     let new =
-    observed-in m (holders_of c.set_in.new.holders.entries) c.self.inside.reserved_groups c.args.group c.args.key.now c.args.value (Some c.args.previous) c.self.invariant there less put
+    observed-in m c.set_in.new.holders c.self.inside.reserved_groups c.args.group c.args.key.now c.args.value (Some c.args.previous) c.self.invariant there less put
     ∙ ap (λ gs. slice_set gs c.args.group (with_observed (group_at gs c.args.group) (c.args.key.now, c.args.value))) groups in
-    let reserved = same-reserved m (holders_of c.set_in.new.holders.entries) c.set_in.ensures.reserved ∙ ap (λ (live : ExtremaState). live.reserved) c.self.view_is in
+    let reserved = same-reserved m c.set_in.new.holders c.set_in.ensures.reserved ∙ ap (λ (live : ExtremaState). live.reserved) c.self.view_is in
     λ i. record { left = left i; groups = new i; reserved = reserved i }

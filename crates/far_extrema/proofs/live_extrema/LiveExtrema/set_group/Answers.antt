@@ -3,33 +3,33 @@ use Rattle.std.specs.Prelude.{slice_set, cond}
 use Rattle.std.specs.FinMap as fin
 use Rattle.far_types.specs.Keys.{line_cmp}
 use Rattle.far_extrema.specs.Live.{ExtremaState}
-use Rattle.far_extrema.specs.Holders.{holders_of, min_max_at, IsGroup}
+use Rattle.far_extrema.specs.Holders.{min_max_at, IsGroup}
 use Rattle.far_extrema.proofs.HoldersLaws.{get-reserved, length-groups_in, put-group}
 use Rattle.far_extrema.proofs.HoldersReserve.{reserved-group, group-twice, own_test}
 use Rattle.far_extrema.proofs.live_extrema.LiveExtrema.set_group.Goals as goal
 
 pub fill_all-requires-clause-reserved : goal.fill_all-requires-clause-reserved
 fill_all-requires-clause-reserved c = λ q there none. c.requires.keys q (λ n. there (ap (λ e. fin.get e q) c.min_maxes.ensures ∙ n))
-    (ap (λ (live : ExtremaState). fin.get live.reserved q) (sym c.self.view_is) ∙ get-reserved (holders_of c.self.inside.holders.entries) q ∙ sym (c.clear_in.ensures.reserved q) ∙ none)
+    (ap (λ (live : ExtremaState). fin.get live.reserved q) (sym c.self.view_is) ∙ get-reserved c.self.inside.holders q ∙ sym (c.clear.ensures.reserved q) ∙ none)
 
 pub fill_all-requires-clause-new : goal.fill_all-requires-clause-new
 fill_all-requires-clause-new c = λ q.
-    c.clear_in.ensures.min_maxes c.args.group q
-    ∙ (λ i. cond (own_test c.args.group i) (fin.get-empty line_cmp q i) (min_max_at (holders_of c.self.inside.holders.entries) c.args.group q))
+    c.clear.ensures.min_maxes c.args.group q
+    ∙ (λ i. cond (own_test c.args.group i) (fin.get-empty line_cmp q i) (min_max_at c.self.inside.holders c.args.group q))
 
 pub invariant_of-self : goal.invariant_of-self
 invariant_of-self c =
-    let m = holders_of c.self.inside.holders.entries in
-    let n = holders_of c.fill_all.new.holders.entries in
+    let m = c.self.inside.holders in
+    let n = c.fill_all.new.holders in
     let less : c.args.group < c.self.inside.reserved_groups = omega (arith, ap (λ (live : ExtremaState). length live.groups) c.self.view_is, length-groups_in m c.self.inside.reserved_groups, c.requires.reserved) in
     reserved-group m n c.self.inside.reserved_groups c.args.group c.args.extrema c.self.invariant less
-    (group-twice m (holders_of c.clear_in.new.holders.entries) n c.args.group fin.empty c.args.extrema c.clear_in.ensures.min_maxes (subst (λ e. IsGroup (holders_of c.clear_in.new.holders.entries) c.args.group e n) c.min_maxes.ensures c.fill_all.ensures))
+    (group-twice m c.clear.new.self n c.args.group fin.empty c.args.extrema c.clear.ensures.min_maxes (subst (λ e. IsGroup c.clear.new.self c.args.group e n) c.min_maxes.ensures c.fill_all.ensures))
 
 pub returns-clause-groups : goal.returns-clause-groups
 returns-clause-groups c =
-    let m = holders_of c.self.inside.holders.entries in
-    let n = holders_of c.fill_all.new.holders.entries in
+    let m = c.self.inside.holders in
+    let n = c.fill_all.new.holders in
     let less : c.args.group < c.self.inside.reserved_groups = omega (arith, ap (λ (live : ExtremaState). length live.groups) c.self.view_is, length-groups_in m c.self.inside.reserved_groups, c.requires.reserved) in
     put-group m n c.self.inside.reserved_groups c.args.group c.args.extrema less
-    (group-twice m (holders_of c.clear_in.new.holders.entries) n c.args.group fin.empty c.args.extrema c.clear_in.ensures.min_maxes (subst (λ e. IsGroup (holders_of c.clear_in.new.holders.entries) c.args.group e n) c.min_maxes.ensures c.fill_all.ensures))
+    (group-twice m c.clear.new.self n c.args.group fin.empty c.args.extrema c.clear.ensures.min_maxes (subst (λ e. IsGroup c.clear.new.self c.args.group e n) c.min_maxes.ensures c.fill_all.ensures))
     ∙ ap (λ (live : ExtremaState). slice_set live.groups c.args.group c.args.extrema) c.self.view_is
