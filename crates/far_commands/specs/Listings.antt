@@ -21,7 +21,8 @@ cell_text cell.Missing = missing_mark
 
 -- a field as the csv writer writes it: alone in its record, or as one of several
 abbrev pub field_in_record : Bool → List ℕ → List ℕ
-field_in_record is_lone text = if is_lone then record_text (text ∷ []) else field_text default_writer text
+field_in_record is_lone text = if is_lone then record_text (text ∷ [])
+    else field_text default_writer text
 
 -- the cells of a place
 abbrev pub cells_at : ℕ → List Place → List Cell
@@ -33,7 +34,8 @@ is_live p places = option_map_or (λ place. place.alive) (slice_get places p) fa
 
 -- a place is used, and no object of its row group is away
 abbrev pub IsHere : {K : Type 0} → LiveState K → ℕ → Type 0
-IsHere s place = (place < length s.table.places) × (first_of (absents s.rows (place / s.table.limits.group)) ≡ None)
+IsHere s place = (place < length s.table.places)
+    × (first_of (absents s.rows (place / s.table.limits.group)) ≡ None)
 
 -- a row as the csv writer writes it
 abbrev pub row_line : List Cell → List ℕ
@@ -41,7 +43,8 @@ row_line cells = row_text default_writer (map cell_text cells)
 
 -- the reply to `dump` if no object is away: how many rows are alive, and then those rows
 abbrev pub dump_text : Table → List ℕ
-dump_text table = numbered_text (codes "rows") (length (rows_of table.places)) ++ texts_of row_line (rows_of table.places)
+dump_text table = numbered_text (codes "rows") (length (rows_of table.places))
+    ++ texts_of row_line (rows_of table.places)
 
 -- the reply to `dump`: the refusal for the first object that is away, or else the rows
 abbrev pub listing_of : {K : Type 0} → LiveState K → List ℕ

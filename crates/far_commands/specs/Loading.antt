@@ -10,7 +10,8 @@ use Rattle.far_types.specs.declared.refusal.Refusal.{Refusal}
 use Rattle.far_script.specs.Printing.{numbered_text, refusal_text}
 
 -- these are the records that a reader has not returned yet
-pub record Remains {R : Type 0} (rem : R → Option (List ℕ)) (reader : Reader R) (rows : List (List (List ℕ))) : Type 0 where
+pub record Remains {R : Type 0} (rem : R → Option (List ℕ)) (reader : Reader R)
+    (rows : List (List (List ℕ))) : Type 0 where
   pub fuel : ℕ
   pub rest : List ℕ
   pub source : source_of rem reader ≡ Some rest
@@ -23,4 +24,5 @@ pub record Remains {R : Type 0} (rem : R → Option (List ℕ)) (reader : Reader
 
 -- the reply to a load: how many rows it inserted, and the refusal that ended it, if one did
 abbrev pub loaded_text : ℕ → Option Refusal → List ℕ
-loaded_text count refusal = numbered_text (codes "loaded") count ++ option_map_or refusal_text refusal []
+loaded_text count refusal = numbered_text (codes "loaded") count
+    ++ option_map_or refusal_text refusal []

@@ -14,9 +14,11 @@ recount_workers = 4
 -- which the world does not count
 abbrev pub IsNotRecounted : Table → ℕ → Refusal → Type 0
 IsNotRecounted table a why =
-    (faults : ℕ) × RecountRefusal (recount_refusal table a recount_workers) 0 faults why × (faults ≤ recount_workers)
+    (faults : ℕ) × RecountRefusal (recount_refusal table a recount_workers) 0 faults why
+    × (faults ≤ recount_workers)
 
 -- the text is the reply to a recount: the answer computed from scratch, or the refusal
 abbrev pub Recounts : Table → ℕ → List ℕ → Type 0
-Recounts table a text = ((answer : Answer) × IsAnswerNow table a answer × (text ≡ answer_text answer))
+Recounts table a text = ((answer : Answer) × IsAnswerNow table a answer
+    × (text ≡ answer_text answer))
     ⊎ ((why : Refusal) × IsNotRecounted table a why × (text ≡ refusal_text why))

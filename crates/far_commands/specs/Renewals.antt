@@ -10,13 +10,15 @@ use Rattle.far_script.specs.Printing.{refusal_text}
 
 -- a renewal is refused: a store fails, the new store is full, or memory ran out. Only the count of faults changes
 abbrev pub IsNotRenewed : {K : Type 0} → World K → Refusal → World K → Type 0
-IsNotRenewed old why new = IsOneOf (21 ∷ 22 ∷ 1 ∷ []) why × (new ≡ record old { faults = old.faults + faults_of why })
+IsNotRenewed old why new = IsOneOf (21 ∷ 22 ∷ 1 ∷ []) why
+    × (new ≡ record old { faults = old.faults + faults_of why })
 
 module _ {S K : Type 0} (tickets : Tickets S K) where
   -- the far copies of the table moved to a new store of this capacity: every row, aggregate and answer stays, and no old
   -- job's number is valid
   abbrev pub IsRenewed : ℕ → World K → World K → Type 0
-  IsRenewed capacity old new = (store : S) × (tickets.capacity_of store ≡ capacity) × IsMigratedTo tickets.content tickets.content (tickets.store_id store) old new
+  IsRenewed capacity old new = (store : S) × (tickets.capacity_of store ≡ capacity)
+      × IsMigratedTo tickets.content tickets.content (tickets.store_id store) old new
 
   -- the text is the reply to a renewal, and `new` is the world after it
   abbrev pub Renews : ℕ → World K → List ℕ → World K → Type 0

@@ -57,26 +57,41 @@ records_of text = records default_config (strip_bom text)
 module _ {S K : Type 0} (tickets : Tickets S K) where
   -- a step is served, and the text is its reply
   abbrev pub Takes : World K → Step → List ℕ → World K → Type 0
-  Takes old s text new = (given : Reply) × IsStep tickets.content tickets.number_of old s given new × (text ≡ reply_text (done_text s) given)
+  Takes old s text new = (given : Reply) × IsStep tickets.content tickets.number_of old s given new
+      × (text ≡ reply_text (done_text s) given)
 
   -- the records of a load are inserted in order, up to the first that is refused. `count` were inserted before
   abbrev pub Loads : ℕ → World K → List (List (List ℕ)) → List ℕ → World K → Type 0
   Loads count old [] text new = (new ≡ old) × (text ≡ numbered_text (codes "loaded") count)
   Loads count old (fields ∷ more) text new =
-      (given : Reply) × (mid : World K) × IsStep tickets.content tickets.number_of old (insert_of_record old.state.table.schema fields) given mid
-      × AfterReply given (λ refusal. (new ≡ mid) × (text ≡ numbered_text (codes "loaded") count ++ refusal_text refusal)) (Loads (count + 1) mid more text new)
+      (given : Reply) × (mid : World K)
+      × IsStep tickets.content tickets.number_of old
+      (insert_of_record old.state.table.schema fields) given mid
+      × AfterReply given
+      (λ refusal. (new ≡ mid)
+      × (text ≡ numbered_text (codes "loaded") count ++ refusal_text refusal))
+      (Loads (count + 1) mid more text new)
 
   -- a command is served, and the text is its reply. `rows` are the bytes of its load, and empty for any other command
   abbrev pub Serves : World K → Command → List ℕ → List ℕ → World K → Type 0
   Serves old (command.Step s) rows text new = (rows ≡ []) × Takes old s text new
-  Serves old (command.Load count) rows text new = (length rows ≡ count) × IsUtf8 rows × Loads 0 old (records_of rows) text new
-  Serves old command.Dump rows text new = (rows ≡ []) × (text ≡ listing_of (live old.state)) × (new ≡ old)
-  Serves old (command.Renew capacity) rows text new = (rows ≡ []) × Renews tickets capacity old text new
-  Serves old (command.Recount a) rows text new = (rows ≡ []) × Recounts old.state.table a text × (new ≡ old)
+  Serves old (command.Load count) rows text new = (length rows ≡ count)
+      × IsUtf8 rows
+      × Loads 0 old (records_of rows) text new
+  Serves old command.Dump rows text new = (rows ≡ [])
+      × (text ≡ listing_of (live old.state))
+      × (new ≡ old)
+  Serves old (command.Renew capacity) rows text new = (rows ≡ [])
+      × Renews tickets capacity old text new
+  Serves old (command.Recount a) rows text new = (rows ≡ [])
+      × Recounts old.state.table a text
+      × (new ≡ old)
 
   -- a line is served, and the text is its reply. If it spells no command, the world does not change
   abbrev pub ServesLine : ℕ → World K → Option Command → List ℕ → List ℕ → World K → Type 0
-  ServesLine number old None rows text new = (rows ≡ []) × (text ≡ numbered_text (codes "syntax command") number) × (new ≡ old)
+  ServesLine number old None rows text new = (rows ≡ [])
+      × (text ≡ numbered_text (codes "syntax command") number)
+      × (new ≡ old)
   ServesLine number old (Some asked) rows text new = Serves old asked rows text new
 
   -- a line is answered. An empty line has no reply and is no command. Any other is valid UTF-8 and counts as the next
@@ -85,4 +100,5 @@ module _ {S K : Type 0} (tickets : Tickets S K) where
   AnswersLine old [] rows text new = (rows ≡ []) × (text ≡ []) × (new ≡ old)
   AnswersLine old (c ∷ cs) rows text new =
       IsUtf8 (c ∷ cs) × (new.number ≡ old.number + 1)
-      × ServesLine new.number old.world (command_of old.world.state.table.schema (c ∷ cs)) rows text new.world
+      × ServesLine new.number old.world (command_of old.world.state.table.schema (c ∷ cs)) rows text
+      new.world

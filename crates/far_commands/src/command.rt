@@ -3,12 +3,13 @@ ghost use Rattle.std.specs.Prelude.{◌≡◌, IfOk, IfErr, option_map};
 ghost use Rattle.far_commands.specs.Commands.{lend_of, object_in, compact_of, movement_of, offload_of, command_of, insert_of, set_of, numbered, scan_of, command_by};
 ghost use Rattle.far_script.specs.Watches.{spec_of};
 
-use far_frame::Step;
+use far_frame::{Step, World};
 use far_script::Words;
 use far_script::field::{kind_of, lone_cell, row};
 use far_script::opening::read_kind;
 use far_script::verb::{Movement, Verb, read_verb};
 use far_script::watch::spec;
+use far_store::FarStore;
 use far_types::{Cell, Edit, Kind, Name, Refusal};
 use std::alloc::Global;
 
@@ -154,7 +155,8 @@ fn movement_step(verb: Movement, words: Words) -> Option<Step>
 
 /// Reads `PLACE`.
 fn remove(words: Words) -> Option<Command>
-    ensures { result ≡ numbered (λ place. Command.Step (Step.Edit (Edit.Remove place))) words.entry }
+    ensures { result
+        ≡ numbered (λ place. Command.Step (Step.Edit (Edit.Remove place))) words.entry }
 {
     let place = words.last_number()?;
     Some(Command::Step(Step::Edit(Edit::Remove(place))))
@@ -178,7 +180,9 @@ fn ask(words: Words) -> Option<Command>
 
 /// Reads `FOLD COLUMN [by COLUMN] [if COLUMN OPERATOR CONSTANT]..`.
 fn watch(alloc: Global, kinds: &[Kind], words: Words) -> Result<Option<Command>, Refusal>
-    ensures command { IfOk result (λ command. command ≡ option_map (λ spec. Command.Step (Step.Watch spec)) (spec_of kinds.now words.entry)) }
+    ensures command { IfOk result
+        (λ command. command
+        ≡ option_map (λ spec. Command.Step (Step.Watch spec)) (spec_of kinds.now words.entry)) }
     ensures memory { IfErr result (λ e. e ≡ Refusal.NoMemory) }
 {
     match spec(alloc, kinds, words)? {
@@ -235,23 +239,35 @@ fn complete(
     }
 }
 
-/// Parses a line as a command over a table of these columns; `None` if it spells none. A row reuses the memory of cells
-/// that are no longer needed. Refused only with `NoMemory` (1).
-pub fn parse(
+/// Returns the cells in whose memory a row can be made. Only a row needs them: for any other command they stay with the world.
+fn spare_for<S: FarStore>(alloc: Global, world: &mut World<S>, verb: Verb) -> Vec<Cell>
+    ensures { world.new ≡ world.old }
+{
+    match verb {
+        Verb::Insert => world.spare_cells(),
+        _ => Vec::new(alloc),
+    }
+}
+
+/// Parses a line as a command over the world's table; `None` if it spells none. A row reuses the memory of the row before it.
+/// Refused only with `NoMemory` (1).
+pub fn parse<S: FarStore>(
     alloc: Global,
-    spare: Vec<Cell>,
-    kinds: &[Kind],
+    world: &mut World<S>,
     line: &str,
 ) -> Result<Option<Command>, Refusal>
-    ensures command { IfOk result (λ command. command ≡ command_of kinds.now line.now) }
+    ensures command { IfOk result
+        (λ command. command ≡ command_of world.old.state.table.schema line.now) }
+    ensures same { world.new ≡ world.old }
     ensures memory { IfErr result (λ e. e ≡ Refusal.NoMemory) }
 {
     let mut words = Words::new(line);
     let Some(word) = words.word() else {
         return Ok(None);
     };
-    match read_verb(word) {
-        Some(verb) => complete(alloc, spare, kinds, verb, words),
-        None => Ok(None),
-    }
+    let Some(verb) = read_verb(word) else {
+        return Ok(None);
+    };
+    let spare = spare_for(alloc, world, verb);
+    complete(alloc, spare, world.frame().schema().as_slice(), verb, words)
 }

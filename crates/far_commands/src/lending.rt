@@ -24,7 +24,9 @@ fn lent_ints<S: FarTickets>(
     from: u32,
     to: u32,
 ) -> Result<bool, Refusal>
-    ensures ok { IfOk result (λ lent. lent ≡ true → page.new ≡ page.old ++ texts_of piece_text (lent_part view.now.table column from to)) }
+    ensures ok { IfOk result
+        (λ lent. lent ≡ true
+        → page.new ≡ page.old ++ texts_of piece_text (lent_part view.now.table column from to)) }
     ensures memory { IfErr result (λ e. e ≡ Refusal.NoMemory) }
 {
     let Ok(mut lents) = view.ints(column, from, to) else {
@@ -43,7 +45,9 @@ fn marks_at<S: FarTickets>(
     from: u32,
     to: u32,
 ) -> Result<(), Refusal>
-    ensures ok { OnOk result (page.new ≡ page.old ++ texts_of flag_text (slice_range (flags_of view.now.table.places) from to)) }
+    ensures ok { OnOk result
+        (page.new
+        ≡ page.old ++ texts_of flag_text (slice_range (flags_of view.now.table.places) from to)) }
     ensures memory { IfErr result (λ e. e ≡ Refusal.NoMemory) }
 {
     for place in from..to {
@@ -57,7 +61,10 @@ fn marks_at<S: FarTickets>(
 
 /// Prints the texts of a row after the first two.
 fn more_texts<S: FarTickets>(page: &mut Page, texts: &mut TextCells<'_, S>) -> Result<(), Refusal>
-    ensures ok { OnOk result (page.new ≡ page.old ++ fields_text default_writer (map cell_text (map (λ it. text_cell it.0) texts.old))) }
+    ensures ok { OnOk result
+        (page.new
+        ≡ page.old
+        ++ fields_text default_writer (map cell_text (map (λ it. text_cell it.0) texts.old))) }
     ensures memory { IfErr result (λ e. e ≡ Refusal.NoMemory) }
 {
     while let Some(it) = texts.next() {
@@ -70,7 +77,10 @@ fn more_texts<S: FarTickets>(page: &mut Page, texts: &mut TextCells<'_, S>) -> R
 /// Prints the first two fields of a row. Inlined, since the caller knows the kind of the cells.
 #[inline(always)]
 fn two_fields(page: &mut Page, first: CellRef, second: CellRef) -> Result<(), Refusal>
-    ensures ok { OnOk result (page.new ≡ ((page.old ++ field_in_record false (cell_text (lent_cell first.entry))) ++ 44 ∷ []) ++ field_in_record false (cell_text (lent_cell second.entry))) }
+    ensures ok { OnOk result
+        (page.new
+        ≡ ((page.old ++ field_in_record false (cell_text (lent_cell first.entry))) ++ 44 ∷ [])
+        ++ field_in_record false (cell_text (lent_cell second.entry))) }
     ensures memory { IfErr result (λ e. e ≡ Refusal.NoMemory) }
 {
     cell(page, false, first)?;
@@ -80,7 +90,8 @@ fn two_fields(page: &mut Page, first: CellRef, second: CellRef) -> Result<(), Re
 
 /// Prints texts as a row, with its line feed.
 fn text_row<S: FarTickets>(page: &mut Page, texts: &mut TextCells<'_, S>) -> Result<(), Refusal>
-    ensures ok { OnOk result (page.new ≡ page.old ++ row_line (map (λ it. text_cell it.0) texts.old)) }
+    ensures ok { OnOk result
+        (page.new ≡ page.old ++ row_line (map (λ it. text_cell it.0) texts.old)) }
     ensures memory { IfErr result (λ e. e ≡ Refusal.NoMemory) }
 {
     let Some(first) = texts.next() else {
@@ -107,7 +118,14 @@ fn text_piece<S: FarTickets>(
     from: u32,
     to: u32,
 ) -> Result<bool, Refusal>
-    ensures ok { IfOk result (λ lent. lent ≡ true → page.new ≡ page.old ++ piece_text record { cells = part column from to view.now.table.places; flags = slice_range (flags_of view.now.table.places) from to }) }
+    ensures ok { IfOk result
+        (λ lent. lent ≡ true
+        → page.new
+        ≡ page.old
+        ++ piece_text record {
+          cells = part column from to view.now.table.places;
+          flags = slice_range (flags_of view.now.table.places) from to;
+        }) }
     ensures memory { IfErr result (λ e. e ≡ Refusal.NoMemory) }
 {
     let Ok(mut texts) = view.texts(column, from, to) else {
@@ -128,7 +146,9 @@ fn lent_texts<S: FarTickets>(
     from: u32,
     to: u32,
 ) -> Result<bool, Refusal>
-    ensures ok { IfOk result (λ lent. lent ≡ true → page.new ≡ page.old ++ texts_of piece_text (lent_part view.now.table column from to)) }
+    ensures ok { IfOk result
+        (λ lent. lent ≡ true
+        → page.new ≡ page.old ++ texts_of piece_text (lent_part view.now.table column from to)) }
     ensures memory { IfErr result (λ e. e ≡ Refusal.NoMemory) }
 {
     let size = view.size();
@@ -153,7 +173,8 @@ pub fn lent<S: FarTickets>(
     from: u32,
     to: u32,
 ) -> Result<bool, Refusal>
-    ensures ok { IfOk result (λ lent. lent ≡ true → reply.new ≡ pieces_text (lent_part frame.now.table column from to)) }
+    ensures ok { IfOk result
+        (λ lent. lent ≡ true → reply.new ≡ pieces_text (lent_part frame.now.table column from to)) }
     ensures memory { IfErr result (λ e. e ≡ Refusal.NoMemory) }
 {
     let view = frame.scope();

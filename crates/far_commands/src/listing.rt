@@ -34,7 +34,8 @@ fn field(page: &mut Page, is_lone: bool, text: &[u8]) -> Result<(), Refusal>
 /// Prints a number as a field. A number needs no quotes.
 #[inline(always)]
 fn number(page: &mut Page, _is_lone: bool, value: i64) -> Result<(), Refusal>
-    ensures ok { OnOk result (page.new ≡ page.old ++ field_in_record _is_lone (signed_decimal value)) }
+    ensures ok { OnOk result
+        (page.new ≡ page.old ++ field_in_record _is_lone (signed_decimal value)) }
     ensures memory { IfErr result (λ e. e ≡ Refusal.NoMemory) }
 {
     page.signed(value)
@@ -43,7 +44,8 @@ fn number(page: &mut Page, _is_lone: bool, value: i64) -> Result<(), Refusal>
 /// Prints a cell as a field. Inlined, since the callers know the kind of the cell.
 #[inline(always)]
 pub fn cell(page: &mut Page, is_lone: bool, cell: CellRef) -> Result<(), Refusal>
-    ensures ok { OnOk result (page.new ≡ page.old ++ field_in_record is_lone (cell_text (lent_cell cell.entry))) }
+    ensures ok { OnOk result
+        (page.new ≡ page.old ++ field_in_record is_lone (cell_text (lent_cell cell.entry))) }
     ensures memory { IfErr result (λ e. e ≡ Refusal.NoMemory) }
 {
     match cell {
@@ -55,7 +57,8 @@ pub fn cell(page: &mut Page, is_lone: bool, cell: CellRef) -> Result<(), Refusal
 
 /// Prints the fields of a row after the first.
 fn more_fields<S: FarTickets>(page: &mut Page, row: &RowRef<'_, S>) -> Result<(), Refusal>
-    ensures ok { OnOk result (page.new ≡ page.old ++ fields_text default_writer (map cell_text (drop 1 row.now))) }
+    ensures ok { OnOk result
+        (page.new ≡ page.old ++ fields_text default_writer (map cell_text (drop 1 row.now))) }
     ensures memory { IfErr result (λ e. e ≡ Refusal.NoMemory) }
 {
     for column in 1..row.len() {
@@ -90,7 +93,8 @@ fn print_place<S: FarTickets>(
     view: &View<'_, S>,
     place: u32,
 ) -> Result<(), Refusal>
-    ensures ok { OnOk result (page.new ≡ page.old ++ row_line (cells_at place view.now.table.places)) }
+    ensures ok { OnOk result
+        (page.new ≡ page.old ++ row_line (cells_at place view.now.table.places)) }
     ensures memory { IsHere view.now place → IfErr result (λ e. e ≡ Refusal.NoMemory) }
 {
     let cells = view.row_ref(place)?;
@@ -123,10 +127,17 @@ fn live_rows<S: FarTickets>(frame: &Frame<S>) -> u64
 
 /// Adds the current reply to the output if it is long, and then clears it.
 fn add_if_long<W: Sink>(output: &mut Output<W>, writer: &mut W) -> Result<(), ShellFault>
-    ensures ok { OnOk result ((text : List ℕ) × Prints (W.contents writer.old) output.old.page text (W.contents writer.new) output.new.page × (output.old.reply ≡ text ++ output.new.reply)) }
-    ensures err { IfErr result (λ fault. PrintsCut fault (λ said. said ≡ output.old.reply) (W.contents writer.old) output.old.page (W.contents writer.new) output.new.page) }
+    ensures ok { OnOk result
+        ((text : List ℕ)
+        × Prints (W.contents writer.old) output.old.page text (W.contents writer.new)
+        output.new.page
+        × (output.old.reply ≡ text ++ output.new.reply)) }
+    ensures err { IfErr result
+        (λ fault. PrintsCut fault (λ said. said ≡ output.old.reply) (W.contents writer.old)
+        output.old.page (W.contents writer.new) output.new.page) }
     ensures fault { IfErr result (λ fault. fault ≢ ShellFault.Input) }
-    ensures failed { IfErr result (λ fault. fault ≡ ShellFault.Output → has_failed output.new ≡ true) }
+    ensures failed { IfErr result
+        (λ fault. fault ≡ ShellFault.Output → has_failed output.new ≡ true) }
 {
     if output.reply.len() < GATHERED {
         return Ok(());
@@ -145,10 +156,15 @@ pub fn dump<S: FarTickets, W: Sink>(
     output: &mut Output<W>,
     writer: &mut W,
 ) -> Result<(), ShellFault>
-    ensures ok { OnOk result (Prints (W.contents writer.old) output.old.page (listing_of (live frame.now)) (W.contents writer.new) output.new.page) }
-    ensures err { IfErr result (λ fault. PrintsCut fault (λ said. said ≡ listing_of (live frame.now)) (W.contents writer.old) output.old.page (W.contents writer.new) output.new.page) }
+    ensures ok { OnOk result
+        (Prints (W.contents writer.old) output.old.page (listing_of (live frame.now))
+        (W.contents writer.new) output.new.page) }
+    ensures err { IfErr result
+        (λ fault. PrintsCut fault (λ said. said ≡ listing_of (live frame.now))
+        (W.contents writer.old) output.old.page (W.contents writer.new) output.new.page) }
     ensures fault { IfErr result (λ fault. fault ≢ ShellFault.Input) }
-    ensures failed { IfErr result (λ fault. fault ≡ ShellFault.Output → has_failed output.new ≡ true) }
+    ensures failed { IfErr result
+        (λ fault. fault ≡ ShellFault.Output → has_failed output.new ≡ true) }
 {
     let view = frame.scope();
     match view.all() {

@@ -34,7 +34,10 @@ fn insert_record<S: FarStore>(
     world: &mut World<S>,
     fields: &StringRecord,
 ) -> Result<Reply, Refusal>
-    ensures step { IfOk result (λ reply. IsStep S.content S.number_of world.old (insert_of_record world.old.state.table.schema (fields_of fields.now)) reply world.new) }
+    ensures step { IfOk result
+        (λ reply. IsStep S.content S.number_of world.old
+        (insert_of_record world.old.state.table.schema (fields_of fields.now)) reply
+        world.new) }
     ensures faults { world.new.faults ≡ world.old.faults }
     ensures memory { IfErr result (λ e. e ≡ Refusal.NoMemory) }
 {
@@ -48,7 +51,10 @@ fn insert_line<S: FarStore>(
     world: &mut World<S>,
     line: &str,
 ) -> Result<Reply, Refusal>
-    ensures step { IfOk result (λ reply. IsStep S.content S.number_of world.old (insert_of_record world.old.state.table.schema (slice_split is_comma line.now)) reply world.new) }
+    ensures step { IfOk result
+        (λ reply. IsStep S.content S.number_of world.old
+        (insert_of_record world.old.state.table.schema (slice_split is_comma line.now)) reply
+        world.new) }
     ensures faults { world.new.faults ≡ world.old.faults }
     ensures memory { IfErr result (λ e. e ≡ Refusal.NoMemory) }
 {
@@ -66,7 +72,9 @@ fn load_lines<S: FarStore>(
     text: &str,
 ) -> Result<Loaded, Refusal>
     requires { are_plain_lines text.now ≡ true }
-    ensures ok { IfOk result (λ loaded. Loads S.FarTickets 0 world.old (records_of text.now) (loaded_text loaded.count loaded.refusal) world.new) }
+    ensures ok { IfOk result
+        (λ loaded. Loads S.FarTickets 0 world.old (records_of text.now)
+        (loaded_text loaded.count loaded.refusal) world.new) }
     ensures faults { world.new.faults ≡ world.old.faults }
     ensures memory { IfErr result (λ e. e ≡ Refusal.NoMemory) }
 {
@@ -93,8 +101,15 @@ fn load_lines<S: FarStore>(
 
 /// Reads the next record, and returns whether there was one. Refused only with `NoMemory` (1).
 fn read_next<R: Read>(reader: &mut Reader<R>, fields: &mut StringRecord) -> Result<bool, Refusal>
-    ensures none { IfOk result (λ found. found ≡ false → (rows : List (List (List ℕ))) → Remains R.remaining reader.old rows → rows ≡ []) }
-    ensures some { IfOk result (λ found. found ≡ true → (rows : List (List (List ℕ))) → Remains R.remaining reader.old rows → (more : List (List (List ℕ))) × (rows ≡ fields_of fields.new ∷ more) × Remains R.remaining reader.new more) }
+    ensures none { IfOk result
+        (λ found. found ≡ false
+        → (rows : List (List (List ℕ))) → Remains R.remaining reader.old rows
+        → rows ≡ []) }
+    ensures some { IfOk result
+        (λ found. found ≡ true
+        → (rows : List (List (List ℕ))) → Remains R.remaining reader.old rows
+        → (more : List (List (List ℕ))) × (rows ≡ fields_of fields.new ∷ more)
+        × Remains R.remaining reader.new more) }
     ensures memory { IfErr result (λ e. e ≡ Refusal.NoMemory) }
 {
     let Ok(found) = reader.read_record(fields) else {
@@ -112,7 +127,9 @@ fn insert_records<S: FarStore, R: Read>(
     reader: &mut Reader<R>,
     fields: &mut StringRecord,
 ) -> Result<Loaded, Refusal>
-    ensures ok { IfOk result (λ loaded. (rows : List (List (List ℕ))) → Remains R.remaining reader.old rows → Loads S.FarTickets 0 world.old rows (loaded_text loaded.count loaded.refusal) world.new) }
+    ensures ok { IfOk result
+        (λ loaded. (rows : List (List (List ℕ))) → Remains R.remaining reader.old rows
+        → Loads S.FarTickets 0 world.old rows (loaded_text loaded.count loaded.refusal) world.new) }
     ensures faults { world.new.faults ≡ world.old.faults }
     ensures memory { IfErr result (λ e. e ≡ Refusal.NoMemory) }
 {
@@ -141,7 +158,9 @@ fn load_records<S: FarStore>(
     world: &mut World<S>,
     text: &str,
 ) -> Result<Loaded, Refusal>
-    ensures ok { IfOk result (λ loaded. Loads S.FarTickets 0 world.old (records_of text.now) (loaded_text loaded.count loaded.refusal) world.new) }
+    ensures ok { IfOk result
+        (λ loaded. Loads S.FarTickets 0 world.old (records_of text.now)
+        (loaded_text loaded.count loaded.refusal) world.new) }
     ensures faults { world.new.faults ≡ world.old.faults }
     ensures memory { IfErr result (λ e. e ≡ Refusal.NoMemory) }
 {
@@ -159,7 +178,9 @@ fn insert_all<S: FarStore>(
     world: &mut World<S>,
     text: &str,
 ) -> Result<Loaded, Refusal>
-    ensures ok { IfOk result (λ loaded. Loads S.FarTickets 0 world.old (records_of text.now) (loaded_text loaded.count loaded.refusal) world.new) }
+    ensures ok { IfOk result
+        (λ loaded. Loads S.FarTickets 0 world.old (records_of text.now)
+        (loaded_text loaded.count loaded.refusal) world.new) }
     ensures faults { world.new.faults ≡ world.old.faults }
     ensures memory { IfErr result (λ e. e ≡ Refusal.NoMemory) }
 {
@@ -191,7 +212,8 @@ pub fn load<S: FarStore>(
     text: &str,
     reply: &mut Page,
 ) -> Result<(), Refusal>
-    ensures ok { OnOk result (Loads S.FarTickets 0 world.old (records_of text.now) reply.new world.new) }
+    ensures ok { OnOk result
+        (Loads S.FarTickets 0 world.old (records_of text.now) reply.new world.new) }
     ensures faults { world.new.faults ≡ world.old.faults }
     ensures memory { IfErr result (λ e. e ≡ Refusal.NoMemory) }
 {

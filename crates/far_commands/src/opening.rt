@@ -18,7 +18,10 @@ pub fn open_table<S: FarStore>(
 ) -> Result<World<S>, Refusal>
     ensures ok { IfOk result (IsEmpty (opening.kinds.items, opening.limits)) }
     ensures store { IfOk result (λ world. world.store ≡ S.store_id store) }
-    ensures bad { IfErr result (λ e. ((e ≡ Refusal.BadSchema) × ¬ (IsSchema opening.kinds.items × AreLimits opening.limits)) ⊎ (e ≡ Refusal.NoMemory)) }
+    ensures bad { IfErr result
+        (λ e. ((e ≡ Refusal.BadSchema)
+        × ¬ (IsSchema opening.kinds.items × AreLimits opening.limits))
+        ⊎ (e ≡ Refusal.NoMemory)) }
 {
     let schema = Schema::new(opening.kinds)?;
     let frame = Frame::open(alloc, schema, opening.limits, 0)?;

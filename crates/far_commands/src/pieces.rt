@@ -62,7 +62,9 @@ fn marks(page: &mut Page, flags: &[bool]) -> Result<(), Refusal>
 
 /// Prints the values of a row after the first.
 fn more_values<V: Value>(page: &mut Page, values: &[V]) -> Result<(), Refusal>
-    ensures ok { OnOk result (page.new ≡ page.old ++ fields_text default_writer (map cell_text (map V.cell values.now))) }
+    ensures ok { OnOk result
+        (page.new
+        ≡ page.old ++ fields_text default_writer (map cell_text (map V.cell values.now))) }
     ensures memory { IfErr result (λ e. e ≡ Refusal.NoMemory) }
 {
     for value in values {
@@ -89,7 +91,9 @@ fn row<V: Value>(page: &mut Page, values: &[V]) -> Result<(), Refusal>
 
 /// Prints `piece FLAGS VALUES`.
 pub fn piece<V: Value>(page: &mut Page, values: &[V], flags: &[bool]) -> Result<(), Refusal>
-    ensures ok { OnOk result (page.new ≡ page.old ++ piece_text record { cells = map V.cell values.now; flags = flags.now }) }
+    ensures ok { OnOk result
+        (page.new
+        ≡ page.old ++ piece_text record { cells = map V.cell values.now; flags = flags.now }) }
     ensures memory { IfErr result (λ e. e ≡ Refusal.NoMemory) }
 {
     page.text("piece ")?;

@@ -45,7 +45,8 @@ fn stand_in<S: FarStore, A: Resources<S>>(resources: &A) -> Result<World<S>, Ref
 /// Generic, since a proof over the table's own type takes minutes.
 fn put_back<T: Drop>(place: &mut T, moved: Result<T, (Refusal, T)>) -> Result<(), Refusal>
     ensures moved { OnOk result (IsOkAnd moved (λ new. place.new ≡ new)) }
-    ensures back { IfErr result (λ e. IsErrAnd moved (λ back. (back.0 ≡ e) × (place.new ≡ back.1))) }
+    ensures back { IfErr result
+        (λ e. IsErrAnd moved (λ back. (back.0 ≡ e) × (place.new ≡ back.1))) }
 {
     match moved {
         Ok(new) => {
@@ -63,7 +64,8 @@ fn put_back<T: Drop>(place: &mut T, moved: Result<T, (Refusal, T)>) -> Result<()
 /// faults: jobs stay valid.
 fn migrate<S: FarStore>(world: &mut World<S>, empty: World<S>, store: S) -> Result<(), Refusal>
     requires few { world.old.faults < 2 ^ 62 }
-    ensures renewed { OnOk result (IsMigratedTo S.content S.content (S.store_id store) world.old world.new) }
+    ensures renewed { OnOk result
+        (IsMigratedTo S.content S.content (S.store_id store) world.old world.new) }
     ensures back { IfErr result (λ e. IsNotRenewed world.old e world.new) }
 {
     let old = mem::replace(world, empty);

@@ -65,7 +65,9 @@ fn take_lending<S: FarStore>(
     to: u32,
     reply: &mut Page,
 ) -> Result<bool, Refusal>
-    ensures lent { IfOk result (λ lent. lent ≡ true → Takes S.FarTickets world.old (Step.Lend column from to) reply.new world.new) }
+    ensures lent { IfOk result
+        (λ lent. lent ≡ true
+        → Takes S.FarTickets world.old (Step.Lend column from to) reply.new world.new) }
     ensures refused { IfOk result (λ lent. lent ≡ false → world.new ≡ world.old) }
     ensures faults { world.new.faults ≡ world.old.faults }
     ensures memory { IfErr result (λ e. e ≡ Refusal.NoMemory) }
@@ -88,7 +90,8 @@ fn take_lend<S: FarStore>(
     reply: &mut Page,
 ) -> Result<(), Refusal>
     requires few { world.old.faults < 2 ^ 62 }
-    ensures ok { OnOk result (Takes S.FarTickets world.old (Step.Lend column from to) reply.new world.new) }
+    ensures ok { OnOk result
+        (Takes S.FarTickets world.old (Step.Lend column from to) reply.new world.new) }
     ensures faults { world.new.faults ≤ world.old.faults + 1 }
     ensures memory { IfErr result (λ e. e ≡ Refusal.NoMemory) }
 {
@@ -103,7 +106,8 @@ fn take_lend<S: FarStore>(
 /// Answers an `ask` of totals without key column directly, without making lines. Returns false if the aggregate is of
 /// another form or has pending row groups.
 fn answer_plain<S: FarStore>(world: &World<S>, a: u32, reply: &mut Page) -> Result<bool, Refusal>
-    ensures plain { IfOk result (λ plain. plain ≡ true → Takes S.FarTickets world.now (Step.Ask a) reply.new world.now) }
+    ensures plain { IfOk result
+        (λ plain. plain ≡ true → Takes S.FarTickets world.now (Step.Ask a) reply.new world.now) }
     ensures memory { IfErr result (λ e. e ≡ Refusal.NoMemory) }
 {
     let Some((count, sum)) = world.frame().plain(a) else {
@@ -117,7 +121,8 @@ fn answer_plain<S: FarStore>(world: &World<S>, a: u32, reply: &mut Page) -> Resu
 /// Answers an ask of extrema without key column by their one line, and makes no list. Returns false if there are no such extrema, they have
 /// no line, or row groups are still pending.
 fn answer_extrema<S: FarStore>(world: &World<S>, a: u32, reply: &mut Page) -> Result<bool, Refusal>
-    ensures plain { IfOk result (λ plain. plain ≡ true → Takes S.FarTickets world.now (Step.Ask a) reply.new world.now) }
+    ensures plain { IfOk result
+        (λ plain. plain ≡ true → Takes S.FarTickets world.now (Step.Ask a) reply.new world.now) }
     ensures memory { IfErr result (λ e. e ≡ Refusal.NoMemory) }
 {
     let frame = world.frame();
@@ -180,12 +185,25 @@ fn serve_load<S: FarStore, R: Source + Drop, W: Sink>(
     output: &mut Output<W>,
     writer: &mut W,
 ) -> Result<(), ShellFault>
-    ensures ok { OnOk result ((rows : List ℕ) × (text : List ℕ) × Reads R.Read input.old rows input.new × Prints (W.contents writer.old) output.old.page text (W.contents writer.new) output.new.page × Serves S.FarTickets world.old (Command.Load count) rows text world.new) }
-    ensures err { IfErr result (λ fault. PrintsCut fault (λ said. ⊥) (W.contents writer.old) output.old.page (W.contents writer.new) output.new.page) }
-    ensures stopped { IfErr result (λ fault. IfInput fault (Stops R.Read (λ behind rest. FailsBy (IsShort R.Read R.may_fail input.old input.new rest) (Some (Command.Load count)) behind) input.old input.new)) }
-    ensures taken { IfErr result (λ fault. IfHalted fault (TakesFor R.Read (Some (Command.Load count)) input.old input.new)) }
+    ensures ok { OnOk result
+        ((rows : List ℕ) × (text : List ℕ) × Reads R.Read input.old rows input.new
+        × Prints (W.contents writer.old) output.old.page text (W.contents writer.new)
+        output.new.page
+        × Serves S.FarTickets world.old (Command.Load count) rows text world.new) }
+    ensures err { IfErr result
+        (λ fault. PrintsCut fault (λ said. ⊥) (W.contents writer.old) output.old.page
+        (W.contents writer.new) output.new.page) }
+    ensures stopped { IfErr result
+        (λ fault. IfInput fault
+        (Stops R.Read
+        (λ behind rest. FailsBy (IsShort R.Read R.may_fail input.old input.new rest)
+        (Some (Command.Load count)) behind) input.old input.new)) }
+    ensures taken { IfErr result
+        (λ fault. IfHalted fault
+        (TakesFor R.Read (Some (Command.Load count)) input.old input.new)) }
     ensures faults { world.new.faults ≡ world.old.faults }
-    ensures failed { IfErr result (λ fault. fault ≡ ShellFault.Output → has_failed output.new ≡ true) }
+    ensures failed { IfErr result
+        (λ fault. fault ≡ ShellFault.Output → has_failed output.new ≡ true) }
     ensures asked { input.new.source.reads ≤ input.old.source.reads }
 {
     let rows = input.bytes(output, writer, count as usize)?;
@@ -203,12 +221,25 @@ fn serve_command<S: FarStore, A: Resources<S>, R: Source + Drop, W: Sink>(
     writer: &mut W,
 ) -> Result<(), ShellFault>
     requires few { world.old.faults < 2 ^ 62 }
-    ensures ok { OnOk result ((rows : List ℕ) × (text : List ℕ) × Reads R.Read input.old rows input.new × Prints (W.contents writer.old) output.old.page text (W.contents writer.new) output.new.page × Serves S.FarTickets world.old command rows text world.new) }
-    ensures err { IfErr result (λ fault. PrintsCut fault (λ said. (command ≡ Command.Dump) × (said ≡ listing_of (live world.old.state))) (W.contents writer.old) output.old.page (W.contents writer.new) output.new.page) }
-    ensures stopped { IfErr result (λ fault. IfInput fault (Stops R.Read (λ behind rest. FailsBy (IsShort R.Read R.may_fail input.old input.new rest) (Some command) behind) input.old input.new)) }
-    ensures taken { IfErr result (λ fault. IfHalted fault (TakesFor R.Read (Some command) input.old input.new)) }
+    ensures ok { OnOk result
+        ((rows : List ℕ) × (text : List ℕ) × Reads R.Read input.old rows input.new
+        × Prints (W.contents writer.old) output.old.page text (W.contents writer.new)
+        output.new.page
+        × Serves S.FarTickets world.old command rows text world.new) }
+    ensures err { IfErr result
+        (λ fault. PrintsCut fault
+        (λ said. (command ≡ Command.Dump) × (said ≡ listing_of (live world.old.state)))
+        (W.contents writer.old) output.old.page (W.contents writer.new) output.new.page) }
+    ensures stopped { IfErr result
+        (λ fault. IfInput fault
+        (Stops R.Read
+        (λ behind rest. FailsBy (IsShort R.Read R.may_fail input.old input.new rest)
+        (Some command) behind) input.old input.new)) }
+    ensures taken { IfErr result
+        (λ fault. IfHalted fault (TakesFor R.Read (Some command) input.old input.new)) }
     ensures faults { world.new.faults ≤ world.old.faults + 1 }
-    ensures failed { IfErr result (λ fault. fault ≡ ShellFault.Output → has_failed output.new ≡ true) }
+    ensures failed { IfErr result
+        (λ fault. fault ≡ ShellFault.Output → has_failed output.new ≡ true) }
     ensures asked { input.new.source.reads ≤ input.old.source.reads }
 {
     match command {
@@ -231,28 +262,14 @@ fn serve_command<S: FarStore, A: Resources<S>, R: Source + Drop, W: Sink>(
 
 /// Prints `syntax command NUMBER`, the reply to a line that spells no command.
 fn print_syntax<W: Sink>(output: &mut Output<W>, number: u32) -> Result<(), ShellFault>
-    ensures ok { OnOk result (output.new.page ≡ output.old.page ++ numbered_text (codes "syntax command") number) }
+    ensures ok { OnOk result
+        (output.new.page ≡ output.old.page ++ numbered_text (codes "syntax command") number) }
     ensures err { OnErr result (output.new.page ≡ output.old.page) }
     ensures memory { IfErr result (λ fault. fault ≡ ShellFault.Memory) }
 {
     output.reply.truncate(0);
     let printed = numbered(&mut output.reply, "syntax command", u64::from(number));
     output.add_printed(printed)
-}
-
-/// Parses a line as a command over the world's table; `None` if it spells none. A row reuses the memory of the row before
-/// it.
-fn parse_line<S: FarStore>(
-    alloc: Global,
-    world: &mut World<S>,
-    line: &str,
-) -> Result<Option<Command>, Refusal>
-    ensures command { IfOk result (λ command. command ≡ command_of world.old.state.table.schema line.now) }
-    ensures same { world.new ≡ world.old }
-    ensures memory { IfErr result (λ e. e ≡ Refusal.NoMemory) }
-{
-    let spare = world.spare_cells();
-    parse(alloc, spare, world.frame().schema().as_slice(), line)
 }
 
 /// Answers a line. An empty line gets no reply and is not counted; any other is the next command.
@@ -266,18 +283,36 @@ pub fn answer_line<S: FarStore, A: Resources<S>, R: Source + Drop, W: Sink>(
 ) -> Result<(), ShellFault>
     requires held { Holds R.Read input.old line }
     requires few { progress.old.number < 4294967295 }
-    ensures ok { OnOk result ((rows : List ℕ) × (text : List ℕ) × Reads R.Read input.old rows input.new × Prints (W.contents writer.old) output.old.page text (W.contents writer.new) output.new.page × AnswersLine S.FarTickets progress.old (bytes_in R.Read input.old line) rows text progress.new) }
-    ensures err { IfErr result (λ fault. PrintsCut fault (λ said. IsListing progress.old (bytes_in R.Read input.old line) said) (W.contents writer.old) output.old.page (W.contents writer.new) output.new.page) }
-    ensures stopped { IfErr result (λ fault. IfInput fault (Stops R.Read (λ behind rest. Fails (IsShort R.Read R.may_fail input.old input.new rest) progress.old.world.state.table.schema (bytes_in R.Read input.old line) behind) input.old input.new)) }
-    ensures taken { IfErr result (λ fault. IfHalted fault (TakesFor R.Read (command_of progress.old.world.state.table.schema (bytes_in R.Read input.old line)) input.old input.new)) }
-    ensures failed { IfErr result (λ fault. fault ≡ ShellFault.Output → has_failed output.new ≡ true) }
+    ensures ok { OnOk result
+        ((rows : List ℕ) × (text : List ℕ) × Reads R.Read input.old rows input.new
+        × Prints (W.contents writer.old) output.old.page text (W.contents writer.new)
+        output.new.page
+        × AnswersLine S.FarTickets progress.old (bytes_in R.Read input.old line) rows text
+        progress.new) }
+    ensures err { IfErr result
+        (λ fault. PrintsCut fault
+        (λ said. IsListing progress.old (bytes_in R.Read input.old line) said)
+        (W.contents writer.old) output.old.page (W.contents writer.new) output.new.page) }
+    ensures stopped { IfErr result
+        (λ fault. IfInput fault
+        (Stops R.Read
+        (λ behind rest. Fails (IsShort R.Read R.may_fail input.old input.new rest)
+        progress.old.world.state.table.schema (bytes_in R.Read input.old line) behind)
+        input.old input.new)) }
+    ensures taken { IfErr result
+        (λ fault. IfHalted fault
+        (TakesFor R.Read
+        (command_of progress.old.world.state.table.schema (bytes_in R.Read input.old line))
+        input.old input.new)) }
+    ensures failed { IfErr result
+        (λ fault. fault ≡ ShellFault.Output → has_failed output.new ≡ true) }
     ensures asked { input.new.source.reads ≤ input.old.source.reads }
 {
     if line.is_empty() {
         return Ok(());
     }
     progress.number += 1;
-    match parse_line(resources.alloc(), &mut progress.world, input.text(line)?) {
+    match parse(resources.alloc(), &mut progress.world, input.text(line)?) {
         Ok(Some(command)) => serve_command(
             resources,
             &mut progress.world,

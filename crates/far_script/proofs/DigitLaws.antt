@@ -1,7 +1,6 @@
 -- The digits of a number, copied with what stands behind them.
-use Rattle.std.proofs.Common.{◌≡◌, ◌+◌, ◌-◌, ◌≤◌, ◌<◌, ◌/◌, ◌%◌, ℕ, List, [], ◌∷◌, ◌++◌, decimal, length, take, drop, append_assoc, length-append, take-append-drop, ◌∙◌, refl, sym, ap, arith}
+use Rattle.std.proofs.Common.{◌≡◌, ◌+◌, ◌-◌, ◌≤◌, ℕ, List, [], ◌∷◌, ◌++◌, decimal, length, take, drop, append_assoc, length-append, take-append-drop, ◌∙◌, refl, sym, ap, arith}
 use Rattle.std.specs.Prelude.{ℤ, slice_range}
-use Rattle.std.proofs.lemmas.Fmt.{decimal_digit, decimal_step}
 use Rattle.std.specs.Fmt.{signed_decimal}
 use Rattle.std.proofs.lemmas.List.{length-drop, length-take-le, take_at, take-take}
 
@@ -32,24 +31,13 @@ digits-stay page digits zeros row part mid start len count from wide is grown co
 pub with-minus : (page mid : List ℕ) (n : ℕ) (z : ℤ) → mid ≡ page ++ 45 ∷ [] → 45 ∷ decimal n ≡ signed_decimal z → mid ++ decimal n ≡ page ++ signed_decimal z
 with-minus page mid n z minus digits = ap (λ (t : List ℕ). t ++ decimal n) minus ∙ append_assoc page (45 ∷ []) (decimal n) ∙ ap (λ (t : List ℕ). page ++ t) digits
 
--- a number of two, three and four digits, each digit by itself
-pub two-digits : (n : ℕ) → 10 ≤ n → n < 100 → decimal n ≡ (48 + n / 10 % 10) ∷ (48 + n % 10) ∷ []
-two-digits n low high =
-    let front : n / 10 % 10 ≡ n / 10 = omega arith in
-    rw (decimal_step n low (omega (arith, high)), decimal_digit (n / 10) (omega (arith, high)), front) refl
-
-pub three-digits : (n : ℕ) → 100 ≤ n → n < 1000 → decimal n ≡ (48 + n / 100 % 10) ∷ (48 + n / 10 % 10) ∷ (48 + n % 10) ∷ []
-three-digits n low high =
-    let front : n / 10 / 10 % 10 ≡ n / 100 % 10 = omega arith in
-    rw (decimal_step n (omega (arith, low)) (omega (arith, high)), two-digits (n / 10) (omega (arith, low)) (omega (arith, high)), front) refl
-
-pub four-digits : (n : ℕ) → 1000 ≤ n → n < 10000 → decimal n ≡ (48 + n / 1000 % 10) ∷ (48 + n / 100 % 10) ∷ (48 + n / 10 % 10) ∷ (48 + n % 10) ∷ []
-four-digits n low high =
-    let first : n / 10 / 100 % 10 ≡ n / 1000 % 10 = omega arith in
-    let second : n / 10 / 10 % 10 ≡ n / 100 % 10 = omega arith in
-    rw (decimal_step n (omega (arith, low)) (omega (arith, high)), three-digits (n / 10) (omega (arith, low)) (omega (arith, high)), first, second) refl
-
-pub one-digit : (n : ℕ) → n < 10 → decimal n ≡ (48 + n % 10) ∷ []
-one-digit n high =
-    let same : n % 10 ≡ n = omega (arith, high) in
-    rw (decimal_digit n high, same) refl
+-- digits that are written over the zeros behind a page, if the page then ends behind them
+pub digits-in-place : (page zeros old new tail digits : List ℕ) (start end all : ℕ) → old ≡ page ++ zeros → start + length digits ≡ end → end ≡ length page + length digits → end ≤ all
+    → drop start new ≡ digits ++ drop end old → take start new ≡ take start old → take end (take all (new ++ tail)) ≡ page ++ digits
+digits-in-place page zeros old new tail digits start end all grown counted ends within written before =
+    let here : start ≡ length page = omega (arith, counted, ends) in
+    let front : take start new ≡ page = before ∙ ap (take start) grown ∙ take_at page zeros start (sym here) in
+    let split : new ≡ (page ++ digits) ++ drop end old =
+    sym (take-append-drop start new) ∙ ap (λ (t : List ℕ). t ++ drop start new) front ∙ ap (λ (t : List ℕ). page ++ t) written ∙ sym (append_assoc page digits (drop end old)) in
+    let whole : new ++ tail ≡ (page ++ digits) ++ (drop end old ++ tail) = ap (λ (t : List ℕ). t ++ tail) split ∙ append_assoc (page ++ digits) (drop end old) tail in
+    take-take end all (new ++ tail) within ∙ ap (take end) whole ∙ take_at (page ++ digits) (drop end old ++ tail) end (length-append page digits ∙ sym ends)

@@ -32,4 +32,6 @@ IfHalted Turns holds = ⊤
 -- allowed
 abbrev pub IsCut : Type 0 → ℕ → ℕ → ℕ → ℕ → Option (List ℕ) → Type 0
 IsCut may_fail reads bytes reads_left bytes_left known =
-    may_fail ⊎ (((reads_left ≡ 0) × (reads + bytes_left ≤ bytes)) ⊎ ((bytes_left ≡ 0) × IfSome known (λ coming. bytes < length coming)))
+    may_fail
+    ⊎ (((reads_left ≡ 0) × (reads + bytes_left ≤ bytes))
+    ⊎ ((bytes_left ≡ 0) × IfSome known (λ coming. bytes < length coming)))

@@ -35,7 +35,8 @@ cell_of column field = if is_missing_mark field then cell.Missing else cell_with
 -- the cells of these fields, from the i-th column on
 abbrev pub cells_from : List Kind → ℕ → List (List ℕ) → List Cell
 cells_from kinds i [] = []
-cells_from kinds i (field ∷ fields) = cell_of (slice_get kinds i) field ∷ cells_from kinds (i + 1) fields
+cells_from kinds i (field ∷ fields) = cell_of (slice_get kinds i) field
+    ∷ cells_from kinds (i + 1) fields
 
 -- the row of a text, if the text is exactly one record
 abbrev pub row_of : List Kind → List ℕ → Option (List Cell)

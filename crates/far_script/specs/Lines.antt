@@ -18,4 +18,6 @@ IsOneLine line = list_any is_line_feed line ≡ false
 -- the bytes are exactly these lines, each of which is empty, but for a carriage return, and has its line feed
 abbrev pub Blank : List ℕ → List (List ℕ) → Type 0
 Blank bytes [] = bytes ≡ []
-Blank bytes (line ∷ lines) = (rest : List ℕ) × (without_return line ≡ []) × (bytes ≡ line ++ 10 ∷ rest) × Blank rest lines
+Blank bytes (line ∷ lines) = (rest : List ℕ) × (without_return line ≡ [])
+    × (bytes ≡ line ++ 10 ∷ rest)
+    × Blank rest lines

@@ -20,7 +20,8 @@ kind_named word =
 -- the kinds that these words name, if each names one
 abbrev pub kinds_named : List (List ℕ) → Option (List Kind)
 kinds_named [] = Some []
-kinds_named (name ∷ names) = option_and_then (λ kind. option_map (λ kinds. kind ∷ kinds) (kinds_named names)) (kind_named name)
+kinds_named (name ∷ names) = option_and_then
+    (λ kind. option_map (λ kinds. kind ∷ kinds) (kinds_named names)) (kind_named name)
 
 -- the kinds that a word names, separated by commas
 abbrev pub kinds_of : List ℕ → Option (List Kind)
@@ -29,8 +30,18 @@ kinds_of word = kinds_named (slice_split is_comma word)
 -- the limits spelled by PLACES EDITS INT_SEGMENTS INT_SIZE TEXT_SEGMENTS TEXT_SIZE, for row groups of this size
 abbrev pub given_limits : ℕ → Option (List ℕ) → Option Limits
 given_limits g left =
-    option_and_then (λ p. option_and_then (λ e. option_and_then (λ s. option_and_then (λ i. option_and_then (λ t.
-    option_map (λ z. record { group = g; places = p; edits = e; int_segments = s; int_size = i; text_segments = t; text_size = z })
+    option_and_then (λ p. option_and_then (λ e. option_and_then (λ s.
+    option_and_then (λ i. option_and_then (λ t.
+    option_map
+    (λ z. record {
+      group = g;
+      places = p;
+      edits = e;
+      int_segments = s;
+      int_size = i;
+      text_segments = t;
+      text_size = z;
+    })
     (last_number_in (after (after (after (after (after left)))))))
     (number_in (after (after (after (after left))))))
     (number_in (after (after (after left)))))
@@ -49,7 +60,8 @@ Opened = List Kind × Limits
 -- GROUP KINDS, and the limits if they are given
 abbrev pub opening_in : Option (List ℕ) → Option Opened
 opening_in left =
-    option_and_then (λ group. option_and_then (λ kinds. option_map (λ limits. (kinds, limits)) (limits_of group (after (after left))))
+    option_and_then (λ group. option_and_then (λ kinds.
+    option_map (λ limits. (kinds, limits)) (limits_of group (after (after left))))
     (option_and_then kinds_of (word_in (after left)))) (number_in left)
 
 -- the first line of a script: it opens a table, or it starts this many sessions with this many edits each
@@ -65,7 +77,10 @@ start_of (line.Threads sessions edits) = Threads sessions edits
 -- 1 to 4 sessions, with 1 to 1,000 edits each
 abbrev pub IsAllowedStart : Start → Type 0
 IsAllowedStart (Schema opened) = ⊤
-IsAllowedStart (Threads sessions edits) = (1 ≤ sessions) × (sessions ≤ 4) × (1 ≤ edits) × (edits ≤ 1000)
+IsAllowedStart (Threads sessions edits) = (1 ≤ sessions)
+    × (sessions ≤ 4)
+    × (1 ≤ edits)
+    × (edits ≤ 1000)
 
 -- the number, if it is from `least` to `most`
 abbrev pub between : ℕ → ℕ → Option ℕ → Option ℕ
@@ -74,7 +89,9 @@ between least most (Some n) = if nat_le least n && nat_le n most then Some n els
 
 -- SESSIONS EDITS
 abbrev pub threads_in : Option (List ℕ) → Option Start
-threads_in left = option_and_then (λ sessions. option_map (λ edits. Threads sessions edits) (between 1 1000 (last_number_in (after left)))) (between 1 4 (number_in left))
+threads_in left = option_and_then
+    (λ sessions. option_map (λ edits. Threads sessions edits)
+    (between 1 1000 (last_number_in (after left)))) (between 1 4 (number_in left))
 
 -- the first line that a text spells, if it spells one
 abbrev pub start_in : List ℕ → Option Start

@@ -20,7 +20,8 @@ line_end = codes "\n"
 
 -- a record as the csv writer writes it, without its line feed
 abbrev pub record_text : List (List ℕ) → List ℕ
-record_text fields = row_body default_writer fields ++ (if is_blank default_writer fields then codes "\"\"" else [])
+record_text fields = row_body default_writer fields
+    ++ (if is_blank default_writer fields then codes "\"\"" else [])
 
 -- the details that a refusal carries, each after a space
 abbrev pub carried_text : Refusal → List ℕ
@@ -50,7 +51,8 @@ carried_text refusal.EditsUsedUp = []
 
 -- `refused NUMBER NAME` and the details of the refusal
 abbrev pub refusal_text : Refusal → List ℕ
-refusal_text r = codes "refused " ++ decimal (number_of r) ++ space ++ name_of r ++ carried_text r ++ line_end
+refusal_text r = codes "refused " ++ decimal (number_of r) ++ space ++ name_of r ++ carried_text r
+    ++ line_end
 
 -- a word and a number
 abbrev pub numbered_text : List ℕ → ℕ → List ℕ
@@ -64,19 +66,23 @@ key_text (Some (key.Text text)) = record_text (text ∷ []) ++ space
 
 -- a line of totals
 abbrev pub total_text : Option Key × ℕ × ℤ → List ℕ
-total_text line = key_text line.0 ++ codes "count " ++ decimal line.1 ++ codes " sum " ++ signed_decimal line.2 ++ line_end
+total_text line = key_text line.0 ++ codes "count " ++ decimal line.1 ++ codes " sum "
+    ++ signed_decimal line.2 ++ line_end
 
 -- the text of a gauge's reading: the number of edits, the count and the sum
 abbrev pub reading_text : ℕ → ℕ → ℤ → List ℕ
-reading_text edits count sum = decimal edits ++ space ++ decimal count ++ space ++ signed_decimal sum ++ line_end
+reading_text edits count sum = decimal edits ++ space ++ decimal count ++ space ++ signed_decimal sum
+    ++ line_end
 
 -- the line of the gauge of a session's stripe
 abbrev pub gauge_text : ℕ → ℕ → ℕ → ℤ → List ℕ
-gauge_text session edits count sum = codes "session " ++ decimal session ++ codes " gauge " ++ reading_text edits count sum
+gauge_text session edits count sum = codes "session " ++ decimal session ++ codes " gauge "
+    ++ reading_text edits count sum
 
 -- a line of extrema
 abbrev pub extrema_text : Option Key × ℤ × ℤ → List ℕ
-extrema_text line = key_text line.0 ++ codes "min " ++ signed_decimal line.1 ++ codes " max " ++ signed_decimal line.2 ++ line_end
+extrema_text line = key_text line.0 ++ codes "min " ++ signed_decimal line.1 ++ codes " max "
+    ++ signed_decimal line.2 ++ line_end
 
 -- the texts of all items, joined
 abbrev pub texts_of : {A : Type 0} → (A → List ℕ) → List A → List ℕ

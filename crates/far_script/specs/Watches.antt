@@ -57,10 +57,13 @@ or_else (Some first) other = Some first
 -- the constant reads as one. No such column: with a number if the constant reads as one; else with the text if the operator
 -- is `=`; else with 0. The table then refuses it
 abbrev pub compared : Option Kind → ℕ → Op → List ℕ → Option Test
-compared (Some kind.Int) column op constant = or_else (number_test column op (signed_number_of constant)) (Some (test.TextIs column constant))
-compared (Some kind.Text) column op constant = or_else (text_test column op constant) (number_test column op (signed_number_of constant))
+compared (Some kind.Int) column op constant = or_else
+    (number_test column op (signed_number_of constant)) (Some (test.TextIs column constant))
+compared (Some kind.Text) column op constant = or_else (text_test column op constant)
+    (number_test column op (signed_number_of constant))
 compared None column op constant =
-    or_else (number_test column op (signed_number_of constant)) (or_else (text_test column op constant) (Some (test.Int column op (pos 0))))
+    or_else (number_test column op (signed_number_of constant))
+    (or_else (text_test column op constant) (Some (test.Int column op (pos 0))))
 
 -- a test of a column by an operator and a constant
 abbrev pub test_by : Option Kind → ℕ → Operator → List ℕ → Option Test
@@ -75,7 +78,9 @@ test_with column_kind column operator (c ∷ cs) = test_by column_kind column op
 -- COLUMN OPERATOR CONSTANT
 abbrev pub test_of : List Kind → List ℕ → List ℕ → List ℕ → Option Test
 test_of kinds column operator constant =
-    option_and_then (λ c. option_and_then (λ o. test_with (slice_get kinds c) c o constant) (operator_of operator)) (number_of column)
+    option_and_then
+    (λ c. option_and_then (λ o. test_with (slice_get kinds c) c o constant)
+    (operator_of operator)) (number_of column)
 
 -- [if COLUMN OPERATOR CONSTANT]..
 abbrev pub tests_of : List Kind → List (List ℕ) → Option (List Test)
@@ -84,19 +89,27 @@ tests_of kinds (clause ∷ []) = None
 tests_of kinds (clause ∷ column ∷ []) = None
 tests_of kinds (clause ∷ column ∷ operator ∷ []) = None
 tests_of kinds (clause ∷ column ∷ operator ∷ constant ∷ words) =
-    if reads clause (codes "if") then option_and_then (λ test. option_map (λ tests. test ∷ tests) (tests_of kinds words)) (test_of kinds column operator constant)
+    if reads clause (codes "if")
+    then option_and_then (λ test. option_map (λ tests. test ∷ tests) (tests_of kinds words))
+    (test_of kinds column operator constant)
     else None
 
 -- the aggregate with the tests that the rest of the line spells
 abbrev pub with_tests : List Kind → Fold → ℕ → Option ℕ → Option (List ℕ) → Option Spec
-with_tests kinds f v k left = option_map (λ tests. record { fold = f; value = v; key = k; filter = tests }) (tests_of kinds (words_in left))
+with_tests kinds f v k left = option_map
+    (λ tests. record { fold = f; value = v; key = k; filter = tests })
+    (tests_of kinds (words_in left))
 
 -- [by COLUMN] [if COLUMN OPERATOR CONSTANT]..
 abbrev pub with_key : List Kind → Fold → ℕ → Option (List ℕ) → Option Spec
 with_key kinds f v left =
-    if is_next left (codes "by") then option_and_then (λ k. with_tests kinds f v (Some k) (after (after left))) (number_in (after left))
+    if is_next left (codes "by")
+    then option_and_then (λ k. with_tests kinds f v (Some k) (after (after left)))
+    (number_in (after left))
     else with_tests kinds f v None left
 
 -- FOLD COLUMN [by COLUMN] [if COLUMN OPERATOR CONSTANT]..
 abbrev pub spec_of : List Kind → Option (List ℕ) → Option Spec
-spec_of kinds left = option_and_then (λ f. option_and_then (λ v. with_key kinds f v (after (after left))) (number_in (after left))) (option_and_then fold_of (word_in left))
+spec_of kinds left = option_and_then
+    (λ f. option_and_then (λ v. with_key kinds f v (after (after left))) (number_in (after left)))
+    (option_and_then fold_of (word_in left))

@@ -15,7 +15,9 @@ word_of text = before_first is_space text
 
 -- the text after the first word and its space, if there is a space
 abbrev pub rest_of : List ℕ → Option (List ℕ)
-rest_of text = if nat_lt (position_or_len is_space text) (length text) then Some (after_first is_space text) else None
+rest_of text = if nat_lt (position_or_len is_space text) (length text)
+    then Some (after_first is_space text)
+    else None
 
 -- the next word, if there is one
 abbrev pub word_in : Option (List ℕ) → Option (List ℕ)

@@ -6,7 +6,10 @@ ghost use Rattle.std.specs.List.{position_or_len, before_first, after_first};
 /// byte after the other: `split_once` is made for long texts and is slower on words and fields.
 pub fn cut(text: &str, wanted: u8) -> Option<(&str, &str)>
     requires { wanted < 128 }
-    ensures { MatchOption result (position_or_len (λ b. b == wanted) text.now ≡ length text.now) (λ x. (position_or_len (λ b. b == wanted) text.now < length text.now) × (x.0.now ≡ before_first (λ b. b == wanted) text.now) × (x.1.now ≡ after_first (λ b. b == wanted) text.now)) }
+    ensures { MatchOption result (position_or_len (λ b. b == wanted) text.now ≡ length text.now)
+        (λ x. (position_or_len (λ b. b == wanted) text.now < length text.now)
+        × (x.0.now ≡ before_first (λ b. b == wanted) text.now)
+        × (x.1.now ≡ after_first (λ b. b == wanted) text.now)) }
 {
     match text.as_bytes().iter().position(|byte| *byte == wanted) {
         Some(at) => Some((&text[..at], &text[at + 1..])),

@@ -92,7 +92,9 @@ fn write_cell(
 ) -> Result<usize, Refusal>
     requires { at ≤ vec_len cells.old }
     ensures len { IfOk result (λ len. len ≡ position_or_len is_comma text.now) }
-    ensures cell { OnOk result (take (at + 1) cells.new.items ≡ take at cells.old.items ++ cell_of column (before_first is_comma text.now) ∷ []) }
+    ensures cell { OnOk result
+        (take (at + 1) cells.new.items
+        ≡ take at cells.old.items ++ cell_of column (before_first is_comma text.now) ∷ []) }
     ensures there { OnOk result (at < vec_len cells.new) }
     ensures memory { IfErr result (λ e. e ≡ Refusal.NoMemory) }
 {
@@ -120,7 +122,8 @@ pub fn cells_in(
     kinds: &[Kind],
     text: &str,
 ) -> Result<Vec<Cell>, Refusal>
-    ensures cells { IfOk result (λ cells. cells.items ≡ cells_from kinds.now 0 (slice_split is_comma text.now)) }
+    ensures cells { IfOk result
+        (λ cells. cells.items ≡ cells_from kinds.now 0 (slice_split is_comma text.now)) }
     ensures memory { IfErr result (λ e. e ≡ Refusal.NoMemory) }
 {
     let mut cells = spare;
@@ -144,7 +147,8 @@ pub fn record_cells(
     kinds: &[Kind],
     fields: &StringRecord,
 ) -> Result<Vec<Cell>, Refusal>
-    ensures cells { IfOk result (λ cells. cells.items ≡ cells_from kinds.now 0 (fields_of fields.now)) }
+    ensures cells { IfOk result
+        (λ cells. cells.items ≡ cells_from kinds.now 0 (fields_of fields.now)) }
     ensures memory { IfErr result (λ e. e ≡ Refusal.NoMemory) }
 {
     let mut cells = Vec::with_capacity(alloc, kinds.len())?;
@@ -191,7 +195,8 @@ fn lone_record_cell(
     column: Option<Kind>,
     fields: &StringRecord,
 ) -> Result<Option<Cell>, Refusal>
-    ensures cell { IfOk result (λ cell. cell ≡ option_map (cell_of column) (only_field (Some (fields_of fields.now)))) }
+    ensures cell { IfOk result
+        (λ cell. cell ≡ option_map (cell_of column) (only_field (Some (fields_of fields.now)))) }
     ensures memory { IfErr result (λ e. e ≡ Refusal.NoMemory) }
 {
     if fields.len() != 1 {

@@ -26,7 +26,8 @@ pub fn are_plain_lines(text: &str) -> bool
 
 /// Returns the index of the first line feed, or `None` if there is none. The search tests many bytes at a time.
 pub(crate) fn first_feed(bytes: &[u8]) -> Option<usize>
-    ensures { MatchOption result (position_or_len is_line_feed bytes.now ≡ length bytes.now) (λ at. (at < length bytes.now) × (at ≡ position_or_len is_line_feed bytes.now)) }
+    ensures { MatchOption result (position_or_len is_line_feed bytes.now ≡ length bytes.now)
+        (λ at. (at < length bytes.now) × (at ≡ position_or_len is_line_feed bytes.now)) }
 {
     memchr(b'\n', bytes)
 }

@@ -82,7 +82,11 @@ fn first_digits(text: &[u8]) -> (u64, usize)
 #[inline(always)]
 pub(crate) fn first_number(text: &[u8], end: u8) -> Option<(u64, usize)>
     requires { is_ascii_digit end ≡ false }
-    ensures { IfSome result (λ x. (x.0 < 10 ^ 18) × (x.1 ≡ position_or_len (λ b. b == end) text.now) × (x.1 ≤ length text.now) × (digits_of (before_first (λ b. b == end) text.now) ≡ Some x.0)) }
+    ensures { IfSome result
+        (λ x. (x.0 < 10 ^ 18)
+        × (x.1 ≡ position_or_len (λ b. b == end) text.now)
+        × (x.1 ≤ length text.now)
+        × (digits_of (before_first (λ b. b == end) text.now) ≡ Some x.0)) }
 {
     let (number, len) = first_digits(text);
     if len == 0 {
@@ -98,7 +102,9 @@ pub(crate) fn first_number(text: &[u8], end: u8) -> Option<(u64, usize)>
 /// `None`.
 #[inline(always)]
 pub(crate) fn first_signed(text: &[u8]) -> Option<(i64, usize)>
-    ensures { IfSome result (λ x. (x.1 ≡ position_or_len is_comma text.now) × (signed_number_of (before_first is_comma text.now) ≡ Some x.0)) }
+    ensures { IfSome result
+        (λ x. (x.1 ≡ position_or_len is_comma text.now)
+        × (signed_number_of (before_first is_comma text.now) ≡ Some x.0)) }
 {
     match text {
         [b'-', rest @ ..] => {

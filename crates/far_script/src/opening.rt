@@ -53,7 +53,8 @@ pub fn read_kind(word: &str) -> Option<Kind>
 
 /// Reads words `int` and `text` separated by commas.
 fn read_kinds(alloc: Global, word: &str) -> Result<Option<Vec<Kind>>, Refusal>
-    ensures kinds { IfOk result (λ found. option_map (λ kinds. kinds.items) found ≡ kinds_of word.now) }
+    ensures kinds { IfOk result
+        (λ found. option_map (λ kinds. kinds.items) found ≡ kinds_of word.now) }
     ensures memory { IfErr result (λ e. e ≡ Refusal.NoMemory) }
 {
     let mut kinds = Vec::new(alloc);
@@ -106,7 +107,8 @@ fn read_limits(group: u32, words: Words) -> Option<Limits>
 
 /// Reads `GROUP KINDS`, and the limits if they are given.
 fn read_opening(alloc: Global, mut words: Words) -> Result<Option<Opening>, Refusal>
-    ensures opening { IfOk result (λ found. option_map (λ o. (o.kinds.items, o.limits)) found ≡ opening_in words.entry) }
+    ensures opening { IfOk result
+        (λ found. option_map (λ o. (o.kinds.items, o.limits)) found ≡ opening_in words.entry) }
     ensures memory { IfErr result (λ e. e ≡ Refusal.NoMemory) }
 {
     let Some(group) = words.number() else {
@@ -151,7 +153,8 @@ fn read_threads(mut words: Words) -> Option<FirstLine>
 /// (1).
 pub fn first_line(alloc: Global, line: &str) -> Result<Option<FirstLine>, Refusal>
     ensures start { IfOk result (λ found. option_map start_of found ≡ start_in line.now) }
-    ensures within { IfOk result (λ found. IfSome found (λ first. IsAllowedStart (start_of first))) }
+    ensures within { IfOk result
+        (λ found. IfSome found (λ first. IsAllowedStart (start_of first))) }
     ensures memory { IfErr result (λ e. e ≡ Refusal.NoMemory) }
 {
     let mut words = Words::new(line);

@@ -25,13 +25,13 @@ fn carried(page: &mut Page, refusal: &Refusal) -> Result<(), Refusal>
 {
     match refusal {
         Refusal::Building(left) => {
-            page.text(" ")?;
+            page.byte(b' ')?;
             page.number(u64::from(*left))
         }
         Refusal::Absent { column, group } => {
-            page.text(" ")?;
+            page.byte(b' ')?;
             page.number(u64::from(*column))?;
-            page.text(" ")?;
+            page.byte(b' ')?;
             page.number(u64::from(*group))
         }
         _ => Ok(()),
@@ -45,16 +45,17 @@ pub fn refused(page: &mut Page, refusal: &Refusal) -> Result<(), Refusal>
 {
     page.text("refused ")?;
     page.number(u64::from(refusal.number()))?;
-    page.text(" ")?;
+    page.byte(b' ')?;
     page.text(refusal.name())?;
     carried(page, refusal)?;
-    page.text("\n")
+    page.byte(b'\n')
 }
 
 /// Prints the key of a line, a number, and a space. A number needs no quotes.
 #[inline(always)]
 fn number_key(page: &mut Page, number: i64) -> Result<(), Refusal>
-    ensures ok { OnOk result (page.new ≡ page.old ++ (record_text (signed_decimal number ∷ []) ++ space)) }
+    ensures ok { OnOk result
+        (page.new ≡ page.old ++ (record_text (signed_decimal number ∷ []) ++ space)) }
     ensures memory { IfErr result (λ e. e ≡ Refusal.NoMemory) }
 {
     page.signed(number)?;
@@ -87,7 +88,7 @@ pub fn total(page: &mut Page, line: &(Option<Key>, u64, i128)) -> Result<(), Ref
     page.number(line.1)?;
     page.text(" sum ")?;
     page.wide(line.2)?;
-    page.text("\n")
+    page.byte(b'\n')
 }
 
 /// Prints a line of extrema.
@@ -100,7 +101,7 @@ pub fn extrema(page: &mut Page, line: &(Option<Key>, i64, i64)) -> Result<(), Re
     page.signed(line.1)?;
     page.text(" max ")?;
     page.signed(line.2)?;
-    page.text("\n")
+    page.byte(b'\n')
 }
 
 fn totals(page: &mut Page, lines: &TotalLines) -> Result<(), Refusal>
@@ -129,11 +130,11 @@ fn reading(page: &mut Page, edits: u64, count: u64, sum: i128) -> Result<(), Ref
     ensures memory { IfErr result (λ e. e ≡ Refusal.NoMemory) }
 {
     page.number(edits)?;
-    page.text(" ")?;
+    page.byte(b' ')?;
     page.number(count)?;
-    page.text(" ")?;
+    page.byte(b' ')?;
     page.wide(sum)?;
-    page.text("\n")
+    page.byte(b'\n')
 }
 
 /// Prints `session SESSION gauge EDITS COUNT SUM`.

@@ -18,7 +18,8 @@ pub trait Sink: Write {
     /// least one byte that takes none counts as failed.
     fn write_some(&mut self, bytes: &[u8]) -> io::Result<usize>
         ensures bound { WritesAtMost result bytes.now }
-        ensures bytes { WriteAppends (Self.contents self.old) (Self.contents self.new) result bytes.now }
+        ensures bytes { WriteAppends (Self.contents self.old) (Self.contents self.new) result
+            bytes.now }
         ensures none { IfOk result (λ count. count ≡ 0 → 0 < length bytes.now → IsTrue may_fail) }
         ensures failed { OnErr result (IsTrue may_fail) };
 

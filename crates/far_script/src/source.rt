@@ -16,7 +16,8 @@ pub trait Source: Read {
     /// Reads once, as `read` does, and returns how many bytes came. Fails only if `may_fail`.
     fn read_some(&mut self, buffer: &mut [u8]) -> io::Result<usize>
         ensures bound { ReadsAtMost result buffer.new }
-        ensures bytes { ReadConsumes (Self.remaining self.old) (Self.remaining self.new) result buffer.new }
+        ensures bytes { ReadConsumes (Self.remaining self.old) (Self.remaining self.new) result
+            buffer.new }
         ensures failed { OnErr result may_fail };
 }
 

@@ -123,7 +123,8 @@ fn read_test(
     operator: &str,
     constant: &str,
 ) -> Result<Option<Test>, Refusal>
-    ensures test { IfOk result (λ test. test ≡ test_of kinds.now column.now operator.now constant.now) }
+    ensures test { IfOk result
+        (λ test. test ≡ test_of kinds.now column.now operator.now constant.now) }
     ensures memory { IfErr result (λ e. e ≡ Refusal.NoMemory) }
 {
     let Some(column) = number(column) else {
@@ -144,10 +145,14 @@ fn read_test(
 /// Reads one `if COLUMN OPERATOR CONSTANT` from the words.
 fn take_test(alloc: Global, kinds: &[Kind], words: &mut Words) -> Result<Option<Test>, Refusal>
     requires { is_none words.old ≡ false }
-    ensures test { IfOk result (λ found. IfSome found (λ test.
-        tests_of kinds.now (words_in words.old) ≡ option_map (λ more. test ∷ more) (tests_of kinds.now (words_in words.new)))) }
-    ensures taken { IfOk result (λ found. OnSome found (length (words_in words.new) < length (words_in words.old))) }
-    ensures none { IfOk result (λ found. IfNone found (tests_of kinds.now (words_in words.old) ≡ None)) }
+    ensures test { IfOk result
+        (λ found. IfSome found
+        (λ test. tests_of kinds.now (words_in words.old)
+        ≡ option_map (λ more. test ∷ more) (tests_of kinds.now (words_in words.new)))) }
+    ensures taken { IfOk result
+        (λ found. OnSome found (length (words_in words.new) < length (words_in words.old))) }
+    ensures none { IfOk result
+        (λ found. IfNone found (tests_of kinds.now (words_in words.old) ≡ None)) }
     ensures memory { IfErr result (λ e. e ≡ Refusal.NoMemory) }
 {
     let Some(clause) = words.word() else {
@@ -170,7 +175,9 @@ fn take_test(alloc: Global, kinds: &[Kind], words: &mut Words) -> Result<Option<
 
 /// Reads `[if COLUMN OPERATOR CONSTANT]..`.
 fn read_tests(alloc: Global, kinds: &[Kind], mut words: Words) -> Result<Option<Vec<Test>>, Refusal>
-    ensures tests { IfOk result (λ found. option_map (λ tests. tests.items) found ≡ tests_of kinds.now (words_in words.entry)) }
+    ensures tests { IfOk result
+        (λ found. option_map (λ tests. tests.items) found
+        ≡ tests_of kinds.now (words_in words.entry)) }
     ensures memory { IfErr result (λ e. e ≡ Refusal.NoMemory) }
 {
     let mut tests = Vec::new(alloc);

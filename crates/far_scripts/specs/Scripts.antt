@@ -33,7 +33,8 @@ pub record Begins (bytes : List ℕ) (spent : Type 0) (line : List ℕ) : Type 0
   pub one : IsOneLine raw
   pub some : ¬ (line ≡ [])
   pub text : IsUtf8 line
-  pub is : ((bytes ≡ blank ++ (raw ++ 10 ∷ [])) × (line ≡ without_return raw)) ⊎ ((bytes ≡ blank ++ raw) × (line ≡ raw) × spent)
+  pub is : ((bytes ≡ blank ++ (raw ++ 10 ∷ [])) × (line ≡ without_return raw))
+      ⊎ ((bytes ≡ blank ++ raw) × (line ≡ raw) × spent)
 
 -- how many contents the first store of a script can hold
 abbrev pub first_capacity : ℕ
@@ -42,7 +43,8 @@ first_capacity = 1048576
 module _ {S K : Type 0} (tickets : Tickets S K) where
   -- the store of a table has this capacity
   abbrev pub HasStore : ℕ → World K → Type 0
-  HasStore capacity world = (store : S) × (tickets.capacity_of store ≡ capacity) × (world.store ≡ tickets.store_id store)
+  HasStore capacity world = (store : S) × (tickets.capacity_of store ≡ capacity)
+      × (world.store ≡ tickets.store_id store)
 
   -- the state of a script after its first command opened an empty table, whose store has the first capacity
   abbrev pub IsNew : Opened → At K → Type 0
@@ -50,11 +52,14 @@ module _ {S K : Type 0} (tickets : Tickets S K) where
 
   -- these bytes are the first command of a script, and it opens an empty table of its columns and limits
   abbrev pub Opens : List ℕ → Type 0 → At K → Type 0
-  Opens bytes spent at = (line : List ℕ) × (opened : Opened) × Begins bytes spent line × (start_in line ≡ Some (Schema opened)) × IsNew opened at
+  Opens bytes spent at = (line : List ℕ) × (opened : Opened) × Begins bytes spent line
+      × (start_in line ≡ Some (Schema opened))
+      × IsNew opened at
 
   -- a turn takes the script from the old state to the new one, and prints the reply
   abbrev pub IsTurn : At K → Turn → At K → Type 0
-  IsTurn old turn new = IsOneLine turn.line × AnswersLine tickets old (without_return turn.line) turn.rows turn.text new
+  IsTurn old turn new = IsOneLine turn.line
+      × AnswersLine tickets old (without_return turn.line) turn.rows turn.text new
 
   -- turns are taken one after the other
   abbrev pub AreTurns : At K → List Turn → At K → Type 0
@@ -63,7 +68,9 @@ module _ {S K : Type 0} (tickets : Tickets S K) where
 
   -- these bytes are whole lines with their loads, and the text is their replies
   abbrev pub AnswersLines : At K → List ℕ → List ℕ → At K → Type 0
-  AnswersLines old bytes text new = (turns : List Turn) × (bytes ≡ flat_map bytes_of turns) × (text ≡ flat_map text_of turns) × AreTurns old turns new
+  AnswersLines old bytes text new = (turns : List Turn) × (bytes ≡ flat_map bytes_of turns)
+      × (text ≡ flat_map text_of turns)
+      × AreTurns old turns new
 
   -- the text is the replies to the rest of a script: to its whole lines, and to a last line without a line feed, which may
   -- be empty
@@ -83,7 +90,9 @@ module _ {S K : Type 0} (tickets : Tickets S K) where
   -- the text is the replies to a script whose first command, already taken, opens a table of these columns and limits:
   -- `ok`, and the replies to the lines after it
   abbrev pub IsServed : Opened → List ℕ → List ℕ → Type 0
-  IsServed opened bytes text = (at : At K) × (tail : List ℕ) × IsNew opened at × Ends at bytes tail × (text ≡ codes "ok\n" ++ tail)
+  IsServed opened bytes text = (at : At K) × (tail : List ℕ) × IsNew opened at
+      × Ends at bytes tail
+      × (text ≡ codes "ok\n" ++ tail)
 
   -- the text is the replies to a whole script over a table
   pub record IsScript (script text : List ℕ) : Type 0 where

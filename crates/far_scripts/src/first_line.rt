@@ -19,7 +19,9 @@ fn read_first<W: Sink>(
     ensures first { IfOk result (λ first. start_in line.now ≡ Some (start_of first)) }
     ensures within { IfOk result (λ first. IsAllowedStart (start_of first)) }
     ensures quiet { OnOk result (output.new.page ≡ output.old.page) }
-    ensures err { IfErr result (λ fault. (text : List ℕ) × (output.new.page ≡ output.old.page ++ text) × Rejection fault (IsUnknown line.now) text) }
+    ensures err { IfErr result
+        (λ fault. (text : List ℕ) × (output.new.page ≡ output.old.page ++ text)
+        × Rejection fault (IsUnknown line.now) text) }
     ensures unwritten { IfErr result (λ fault. fault ≢ ShellFault.Output) }
 {
     match first_line(alloc, line) {
@@ -39,11 +41,23 @@ pub fn first_command<R: Source + Drop, W: Sink>(
     output: &mut Output<W>,
     writer: &mut W,
 ) -> Result<FirstLine, ShellFault>
-    ensures ok { IfOk result (λ first. (bytes : List ℕ) × (line : List ℕ) × Reads R.Read input.old bytes input.new × Begins bytes (IsAtEnd R.Read input.new) line × (start_in line ≡ Some (start_of first))) }
+    ensures ok { IfOk result
+        (λ first. (bytes : List ℕ) × (line : List ℕ) × Reads R.Read input.old bytes input.new
+        × Begins bytes (IsAtEnd R.Read input.new) line
+        × (start_in line ≡ Some (start_of first))) }
     ensures within { IfOk result (λ first. IsAllowedStart (start_of first)) }
-    ensures printed { OnOk result (Prints (W.contents writer.old) output.old.page [] (W.contents writer.new) output.new.page) }
-    ensures err { IfErr result (λ fault. (bytes : List ℕ) × (rest : List ℕ) × (text : List ℕ) × Gives R.Read fault input.old input.new bytes rest × Prints (W.contents writer.old) output.old.page text (W.contents writer.new) output.new.page × HasNotBegun (IsUnseen R.Read R.may_fail input.old input.new) (IsOver R.Read input.new rest) fault bytes rest text) }
-    ensures failed { IfErr result (λ fault. fault ≡ ShellFault.Output → has_failed output.new ≡ true) }
+    ensures printed { OnOk result
+        (Prints (W.contents writer.old) output.old.page [] (W.contents writer.new)
+        output.new.page) }
+    ensures err { IfErr result
+        (λ fault. (bytes : List ℕ) × (rest : List ℕ) × (text : List ℕ)
+        × Gives R.Read fault input.old input.new bytes rest
+        × Prints (W.contents writer.old) output.old.page text (W.contents writer.new)
+        output.new.page
+        × HasNotBegun (IsUnseen R.Read R.may_fail input.old input.new)
+        (IsOver R.Read input.new rest) fault bytes rest text) }
+    ensures failed { IfErr result
+        (λ fault. fault ≡ ShellFault.Output → has_failed output.new ≡ true) }
     ensures asked { input.new.source.reads ≤ input.old.source.reads }
 {
     for turn in 0..MAX_LINES {

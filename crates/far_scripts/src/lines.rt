@@ -21,9 +21,21 @@ pub fn serve_lines<S: FarStore, A: Resources<S>, R: Source + Drop, W: Sink>(
     writer: &mut W,
 ) -> Result<(), ShellFault>
     requires first { progress.old.number ≡ 1 }
-    ensures ok { OnOk result ((bytes : List ℕ) × (text : List ℕ) × Reads R.Read input.old bytes input.new × Prints (W.contents writer.old) output.old.page text (W.contents writer.new) output.new.page × Ends S.FarTickets progress.old bytes text × IsAtEnd R.Read input.new) }
-    ensures err { IfErr result (λ fault. (bytes : List ℕ) × (rest : List ℕ) × (text : List ℕ) × Gives R.Read fault input.old input.new bytes rest × Prints (W.contents writer.old) output.old.page text (W.contents writer.new) output.new.page × BreaksOff S.FarTickets (IsUnseen R.Read R.may_fail input.old input.new) (IsOver R.Read input.new rest) progress.old fault bytes rest text) }
-    ensures failed { IfErr result (λ fault. fault ≡ ShellFault.Output → has_failed output.new ≡ true) }
+    ensures ok { OnOk result
+        ((bytes : List ℕ) × (text : List ℕ) × Reads R.Read input.old bytes input.new
+        × Prints (W.contents writer.old) output.old.page text (W.contents writer.new)
+        output.new.page
+        × Ends S.FarTickets progress.old bytes text
+        × IsAtEnd R.Read input.new) }
+    ensures err { IfErr result
+        (λ fault. (bytes : List ℕ) × (rest : List ℕ) × (text : List ℕ)
+        × Gives R.Read fault input.old input.new bytes rest
+        × Prints (W.contents writer.old) output.old.page text (W.contents writer.new)
+        output.new.page
+        × BreaksOff S.FarTickets (IsUnseen R.Read R.may_fail input.old input.new)
+        (IsOver R.Read input.new rest) progress.old fault bytes rest text) }
+    ensures failed { IfErr result
+        (λ fault. fault ≡ ShellFault.Output → has_failed output.new ≡ true) }
     ensures asked { input.new.source.reads ≤ input.old.source.reads }
 {
     for turn in 0..MAX_LINES {

@@ -33,7 +33,9 @@ pub fn open<S: FarStore, A: Resources<S>, W: Sink>(
 ) -> Result<Progress<S>, ShellFault>
     ensures ok { IfOk result (IsNew S.FarTickets (opening.kinds.items, opening.limits)) }
     ensures said { OnOk result (output.new.page ≡ output.old.page ++ codes "ok\n") }
-    ensures err { IfErr result (λ fault. (text : List ℕ) × (output.new.page ≡ output.old.page ++ text) × Rejection fault (IsRefused (opening.kinds.items, opening.limits)) text) }
+    ensures err { IfErr result
+        (λ fault. (text : List ℕ) × (output.new.page ≡ output.old.page ++ text)
+        × Rejection fault (IsRefused (opening.kinds.items, opening.limits)) text) }
     ensures unwritten { IfErr result (λ fault. fault ≢ ShellFault.Output) }
 {
     let store = match resources.store(STORE_CAPACITY) {

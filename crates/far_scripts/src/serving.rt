@@ -19,9 +19,22 @@ pub fn serve_table<S: FarStore, A: Resources<S>, R: Source + Drop, W: Sink>(
     output: &mut Output<W>,
     writer: &mut W,
 ) -> Result<(), ShellFault>
-    ensures ok { OnOk result ((bytes : List ℕ) × (text : List ℕ) × Reads R.Read input.old bytes input.new × Prints (W.contents writer.old) output.old.page text (W.contents writer.new) output.new.page × IsServed S.FarTickets (opening.kinds.items, opening.limits) bytes text × IsAtEnd R.Read input.new) }
-    ensures err { IfErr result (λ fault. (bytes : List ℕ) × (rest : List ℕ) × (text : List ℕ) × Gives R.Read fault input.old input.new bytes rest × Prints (W.contents writer.old) output.old.page text (W.contents writer.new) output.new.page × BreaksServing S.FarTickets (IsUnseen R.Read R.may_fail input.old input.new) (IsOver R.Read input.new rest) (opening.kinds.items, opening.limits) fault bytes rest text) }
-    ensures failed { IfErr result (λ fault. fault ≡ ShellFault.Output → has_failed output.new ≡ true) }
+    ensures ok { OnOk result
+        ((bytes : List ℕ) × (text : List ℕ) × Reads R.Read input.old bytes input.new
+        × Prints (W.contents writer.old) output.old.page text (W.contents writer.new)
+        output.new.page
+        × IsServed S.FarTickets (opening.kinds.items, opening.limits) bytes text
+        × IsAtEnd R.Read input.new) }
+    ensures err { IfErr result
+        (λ fault. (bytes : List ℕ) × (rest : List ℕ) × (text : List ℕ)
+        × Gives R.Read fault input.old input.new bytes rest
+        × Prints (W.contents writer.old) output.old.page text (W.contents writer.new)
+        output.new.page
+        × BreaksServing S.FarTickets (IsUnseen R.Read R.may_fail input.old input.new)
+        (IsOver R.Read input.new rest) (opening.kinds.items, opening.limits) fault bytes rest
+        text) }
+    ensures failed { IfErr result
+        (λ fault. fault ≡ ShellFault.Output → has_failed output.new ≡ true) }
     ensures asked { input.new.source.reads ≤ input.old.source.reads }
 {
     match open(resources, opening, output) {

@@ -11,28 +11,49 @@ use Rattle.far_shell.specs.Sessions.{AsksSessions, IsAnswered}
 module _ {S K : Type 0} (tickets : Tickets S K) (unseen spent : List ℕ → Type 0) where
   -- the text is what is printed for these bytes of a script up to a fault. `rest` are the bytes after them
   abbrev pub IsBroken : ShellFault → List ℕ → List ℕ → List ℕ → Type 0
-  IsBroken fault.BadStart bytes rest text = HasNotBegun (unseen bytes) (spent rest) fault.BadStart bytes rest text
-  IsBroken fault.Input bytes rest text = HasNotBegun (unseen bytes) (spent rest) fault.Input bytes rest text ⊎ BreaksLater tickets (unseen bytes) (spent rest) fault.Input bytes rest text
-  IsBroken fault.Output bytes rest text = HasNotBegun (unseen bytes) (spent rest) fault.Output bytes rest text ⊎ BreaksLater tickets (unseen bytes) (spent rest) fault.Output bytes rest text
-  IsBroken fault.Memory bytes rest text = HasNotBegun (unseen bytes) (spent rest) fault.Memory bytes rest text ⊎ BreaksLater tickets (unseen bytes) (spent rest) fault.Memory bytes rest text
-  IsBroken fault.Turns bytes rest text = (text ≡ []) × ((sessions : ℕ) × (edits : ℕ) × AsksSessions bytes (rest ≡ []) sessions edits)
+  IsBroken fault.BadStart bytes rest text = HasNotBegun (unseen bytes) (spent rest) fault.BadStart
+      bytes rest text
+  IsBroken fault.Input bytes rest text = HasNotBegun (unseen bytes) (spent rest) fault.Input bytes
+      rest text
+      ⊎ BreaksLater tickets (unseen bytes) (spent rest) fault.Input bytes rest text
+  IsBroken fault.Output bytes rest text = HasNotBegun (unseen bytes) (spent rest) fault.Output bytes
+      rest text
+      ⊎ BreaksLater tickets (unseen bytes) (spent rest) fault.Output bytes rest text
+  IsBroken fault.Memory bytes rest text = HasNotBegun (unseen bytes) (spent rest) fault.Memory bytes
+      rest text
+      ⊎ BreaksLater tickets (unseen bytes) (spent rest) fault.Memory bytes rest text
+  IsBroken fault.Turns bytes rest text = (text ≡ [])
+      × ((sessions : ℕ) × (edits : ℕ) × AsksSessions bytes (rest ≡ []) sessions edits)
 
   -- the same, for a script that is split into these bytes and the rest as `splits` says
-  abbrev pub IsSplit : (ShellFault → List ℕ → List ℕ → Type 0) → ShellFault → List ℕ → List ℕ → List ℕ → Type 0
+  abbrev pub IsSplit : (ShellFault → List ℕ → List ℕ → Type 0) → ShellFault → List ℕ → List ℕ
+      → List ℕ → Type 0
   IsSplit splits why bytes rest text = splits why bytes rest × IsBroken why bytes rest text
 
   -- the same, with `lost`, the replies that the writer did not take. It is empty unless a write failed, which only writers
   -- of a type that may fail do. The failed write comes after all replies to a script, or after those up to another fault
-  abbrev pub EndsBy : (ShellFault → List ℕ → List ℕ → Type 0) → Bool → ShellFault → List ℕ → List ℕ → List ℕ → List ℕ → Type 0
-  EndsBy splits may_fail fault.BadStart bytes rest text lost = IsSplit splits fault.BadStart bytes rest text × (lost ≡ [])
-  EndsBy splits may_fail fault.Input bytes rest text lost = IsSplit splits fault.Input bytes rest text × (lost ≡ [])
-  EndsBy splits may_fail fault.Memory bytes rest text lost = IsSplit splits fault.Memory bytes rest text × (lost ≡ [])
-  EndsBy splits may_fail fault.Turns bytes rest text lost = IsSplit splits fault.Turns bytes rest text × (lost ≡ [])
+  abbrev pub EndsBy : (ShellFault → List ℕ → List ℕ → Type 0) → Bool → ShellFault → List ℕ → List ℕ
+      → List ℕ → List ℕ → Type 0
+  EndsBy splits may_fail fault.BadStart bytes rest text lost = IsSplit splits fault.BadStart bytes
+      rest text
+      × (lost ≡ [])
+  EndsBy splits may_fail fault.Input bytes rest text lost = IsSplit splits fault.Input bytes rest
+      text
+      × (lost ≡ [])
+  EndsBy splits may_fail fault.Memory bytes rest text lost = IsSplit splits fault.Memory bytes rest
+      text
+      × (lost ≡ [])
+  EndsBy splits may_fail fault.Turns bytes rest text lost = IsSplit splits fault.Turns bytes rest
+      text
+      × (lost ≡ [])
   EndsBy splits may_fail fault.Output bytes rest text lost =
-      IsTrue may_fail × ((splits fault.Output bytes rest × IsAnswered tickets bytes (rest ≡ []) text) ⊎ ((why : ShellFault) × IsSplit splits why bytes rest text))
+      IsTrue may_fail
+      × ((splits fault.Output bytes rest × IsAnswered tickets bytes (rest ≡ []) text)
+      ⊎ ((why : ShellFault) × IsSplit splits why bytes rest text))
 
   -- a script ended early with this fault: what was written is a prefix of the replies to its first bytes
-  pub record Breaks (splits : ShellFault → List ℕ → List ℕ → Type 0) (may_fail : Bool) (old new : Option (List ℕ)) (why : ShellFault) : Type 0 where
+  pub record Breaks (splits : ShellFault → List ℕ → List ℕ → Type 0) (may_fail : Bool)
+      (old new : Option (List ℕ)) (why : ShellFault) : Type 0 where
     pub bytes : List ℕ
     pub rest : List ℕ
     pub text : List ℕ

@@ -19,7 +19,8 @@ session_line session reading = gauge_text session reading.edits reading.count re
 -- the gauge lines of sessions with the numbers `session`, `session + 1` and so on
 abbrev pub gauges_text : ℕ → List Reading → List ℕ
 gauges_text session [] = []
-gauges_text session (reading ∷ readings) = session_line session reading ++ gauges_text (session + 1) readings
+gauges_text session (reading ∷ readings) = session_line session reading
+    ++ gauges_text (session + 1) readings
 
 -- the printed outcome: the gauge lines of sessions 0, 1 and so on, and the answer over all rows
 abbrev pub outcome_text : Outcome → List ℕ
@@ -33,7 +34,8 @@ gauge_lines sessions edits = gauges_text 0 (replicate sessions (all_of edits))
 -- the text is the outcome of this many sessions with this many edits each: their gauge lines, and the answer
 -- `count N sum N` over all rows, where N is the number of sessions times the number of edits
 abbrev pub IsOutcomeText : ℕ → ℕ → List ℕ → Type 0
-IsOutcomeText sessions edits text = text ≡ gauge_lines sessions edits ++ answer_text (total_of (sessions * edits))
+IsOutcomeText sessions edits text = text
+    ≡ gauge_lines sessions edits ++ answer_text (total_of (sessions * edits))
 
 -- the fault that ends a script whose sessions were stopped
 abbrev pub fault_of : Stop → ShellFault
@@ -45,13 +47,15 @@ fault_of stop.Turns = fault.Turns
 abbrev pub CutOutcome : Bool → ShellFault → ℕ → ℕ → List ℕ → Type 0
 CutOutcome may_fail fault.BadStart sessions edits sent = ⊥
 CutOutcome may_fail fault.Input sessions edits sent = ⊥
-CutOutcome may_fail fault.Output sessions edits sent = IsTrue may_fail × ((lost : List ℕ) × IsOutcomeText sessions edits (sent ++ lost))
+CutOutcome may_fail fault.Output sessions edits sent = IsTrue may_fail
+    × ((lost : List ℕ) × IsOutcomeText sessions edits (sent ++ lost))
 CutOutcome may_fail fault.Memory sessions edits sent = sent ≡ []
 CutOutcome may_fail fault.Turns sessions edits sent = sent ≡ []
 
 -- the first command of a script asks for this many sessions with this many edits each
 abbrev pub AsksSessions : List ℕ → Type 0 → ℕ → ℕ → Type 0
-AsksSessions bytes spent sessions edits = (line : List ℕ) × Begins bytes spent line × (start_in line ≡ Some (Threads sessions edits))
+AsksSessions bytes spent sessions edits = (line : List ℕ) × Begins bytes spent line
+    × (start_in line ≡ Some (Threads sessions edits))
 
 -- the first command of a script asks for sessions, and the text is their outcome. The bytes after that command do not
 -- matter

@@ -32,9 +32,18 @@ fn serve<
     writer: &mut W,
 ) -> Result<(), ShellFault>
     requires { output.old.page ≡ [] }
-    ensures ok { OnOk result ((bytes : List ℕ) × (text : List ℕ) × Reads R.Read input.old bytes input.new × Prints (W.contents writer.old) [] text (W.contents writer.new) output.new.page × IsAnswered S.FarTickets bytes (IsAtEnd R.Read input.new) text) }
-    ensures err { IfErr result (λ fault. (bytes : List ℕ) × (rest : List ℕ) × (text : List ℕ) × Gives R.Read fault input.old input.new bytes rest × Prints (W.contents writer.old) [] text (W.contents writer.new) output.new.page × IsBroken S.FarTickets (λ _. IsUnseen R.Read R.may_fail input.old input.new) (IsOver R.Read input.new) fault bytes rest text) }
-    ensures failed { IfErr result (λ fault. fault ≡ ShellFault.Output → has_failed output.new ≡ true) }
+    ensures ok { OnOk result
+        ((bytes : List ℕ) × (text : List ℕ) × Reads R.Read input.old bytes input.new
+        × Prints (W.contents writer.old) [] text (W.contents writer.new) output.new.page
+        × IsAnswered S.FarTickets bytes (IsAtEnd R.Read input.new) text) }
+    ensures err { IfErr result
+        (λ fault. (bytes : List ℕ) × (rest : List ℕ) × (text : List ℕ)
+        × Gives R.Read fault input.old input.new bytes rest
+        × Prints (W.contents writer.old) [] text (W.contents writer.new) output.new.page
+        × IsBroken S.FarTickets (λ _. IsUnseen R.Read R.may_fail input.old input.new)
+        (IsOver R.Read input.new) fault bytes rest text) }
+    ensures failed { IfErr result
+        (λ fault. fault ≡ ShellFault.Output → has_failed output.new ≡ true) }
     ensures asked { input.new.source.reads ≤ input.old.source.reads }
 {
     let first = first_command(rt.alloc(), input, output, writer)?;
@@ -60,9 +69,11 @@ fn flush_at<W: Sink>(
     writer: &mut W,
 ) -> Result<(), ShellFault>
     requires failed { fault ≡ ShellFault.Output → has_failed output.old ≡ true }
-    ensures printed { Prints (W.contents writer.old) output.old.page [] (W.contents writer.new) output.new.page }
+    ensures printed { Prints (W.contents writer.old) output.old.page [] (W.contents writer.new)
+        output.new.page }
     ensures ok { OnOk result (output.new.page ≡ []) }
-    ensures stopped { fault ≡ ShellFault.Output → Keeps (W.contents writer.old) (W.contents writer.new) }
+    ensures stopped { fault ≡ ShellFault.Output
+        → Keeps (W.contents writer.old) (W.contents writer.new) }
     ensures failed { OnErr result (has_failed output.new ≡ true) }
     ensures fault { IfErr result (λ why. why ≡ ShellFault.Output) }
 {
@@ -94,8 +105,16 @@ pub fn run_input<T: AllocGlobal + Sync + Threads + Wait, R: Source + Drop, W: Si
     input: &mut Input<R>,
     writer: &mut W,
 ) -> Result<(), ShellFault>
-    ensures ok { OnOk result ((bytes : List ℕ) × (text : List ℕ) × Reads R.Read input.old bytes input.new × Appends (W.contents writer.old) (W.contents writer.new) text × IsAnswered ⟦<AgentStore<&'static T> as FarTickets>⟧ bytes (IsAtEnd R.Read input.new) text) }
-    ensures err { IfErr result (λ fault. Breaks ⟦<AgentStore<&'static T> as FarTickets>⟧ (λ _. IsUnseen R.Read R.may_fail input.old input.new) (IsOver R.Read input.new) (λ why. Gives R.Read why input.old input.new) W.may_fail (W.contents writer.old) (W.contents writer.new) fault) }
+    ensures ok { OnOk result
+        ((bytes : List ℕ) × (text : List ℕ) × Reads R.Read input.old bytes input.new
+        × Appends (W.contents writer.old) (W.contents writer.new) text
+        × IsAnswered ⟦<AgentStore<&'static T> as FarTickets>⟧ bytes (IsAtEnd R.Read input.new)
+        text) }
+    ensures err { IfErr result
+        (λ fault. Breaks ⟦<AgentStore<&'static T> as FarTickets>⟧
+        (λ _. IsUnseen R.Read R.may_fail input.old input.new) (IsOver R.Read input.new)
+        (λ why. Gives R.Read why input.old input.new) W.may_fail (W.contents writer.old)
+        (W.contents writer.new) fault) }
     ensures asked { input.new.source.reads ≤ input.old.source.reads }
 {
     let agents = Agents::new(rt, rt.alloc());
@@ -150,8 +169,16 @@ pub fn run_script<T: AllocGlobal + Sync + Threads + Wait, R: Source + Drop, W: S
     reader: R,
     writer: &mut W,
 ) -> Result<(), ShellFault>
-    ensures ok { OnOk result ((bytes : List ℕ) × (rest : List ℕ) × (text : List ℕ) × IsFrontOf (R.remaining reader) bytes rest × Appends (W.contents writer.old) (W.contents writer.new) text × IsAnswered ⟦<AgentStore<&'static T> as FarTickets>⟧ bytes (rest ≡ []) text) }
-    ensures err { IfErr result (λ fault. Breaks ⟦<AgentStore<&'static T> as FarTickets>⟧ (IsUnfinished R.may_fail) (λ rest. rest ≡ []) (λ _ bytes rest. IfSome (R.remaining reader) (λ script. script ≡ bytes ++ rest)) W.may_fail (W.contents writer.old) (W.contents writer.new) fault) }
+    ensures ok { OnOk result
+        ((bytes : List ℕ) × (rest : List ℕ) × (text : List ℕ)
+        × IsFrontOf (R.remaining reader) bytes rest
+        × Appends (W.contents writer.old) (W.contents writer.new) text
+        × IsAnswered ⟦<AgentStore<&'static T> as FarTickets>⟧ bytes (rest ≡ []) text) }
+    ensures err { IfErr result
+        (λ fault. Breaks ⟦<AgentStore<&'static T> as FarTickets>⟧ (IsUnfinished R.may_fail)
+        (λ rest. rest ≡ [])
+        (λ _ bytes rest. IfSome (R.remaining reader) (λ script. script ≡ bytes ++ rest))
+        W.may_fail (W.contents writer.old) (W.contents writer.new) fault) }
 {
     let mut input = Input::new(rt.alloc(), reader)?;
     run_input(rt, &mut input, writer)?;

@@ -60,9 +60,12 @@ pub fn print_sessions<T: AllocGlobal + Sync + Threads + Wait, W: Sink>(
 ) -> Result<(), ShellFault>
     requires sessions { (1 ≤ sessions) × (sessions ≤ 4) }
     requires edits { (1 ≤ edits) × (edits ≤ 1000) }
-    ensures ok { OnOk result ((text : List ℕ) × IsOutcomeText sessions edits text × (output.new.page ≡ output.old.page ++ text)) }
+    ensures ok { OnOk result
+        ((text : List ℕ) × IsOutcomeText sessions edits text
+        × (output.new.page ≡ output.old.page ++ text)) }
     ensures err { OnErr result (output.new.page ≡ output.old.page) }
-    ensures fault { IfErr result (λ fault. (fault ≡ ShellFault.Memory) ⊎ (fault ≡ ShellFault.Turns)) }
+    ensures fault { IfErr result
+        (λ fault. (fault ≡ ShellFault.Memory) ⊎ (fault ≡ ShellFault.Turns)) }
 {
     match run_sessions(rt, rt.alloc(), sessions, edits) {
         Ok(ended) => {
@@ -93,8 +96,12 @@ pub fn run_threads<T: AllocGlobal + Sync + Threads + Wait, W: Sink>(
 ) -> Result<(), ShellFault>
     requires sessions { (1 ≤ sessions) × (sessions ≤ 4) }
     requires edits { (1 ≤ edits) × (edits ≤ 1000) }
-    ensures ok { OnOk result ((text : List ℕ) × IsOutcomeText sessions edits text × Appends (W.contents writer.old) (W.contents writer.new) text) }
-    ensures err { IfErr result (λ fault. (sent : List ℕ) × CutOutcome W.may_fail fault sessions edits sent × Appends (W.contents writer.old) (W.contents writer.new) sent) }
+    ensures ok { OnOk result
+        ((text : List ℕ) × IsOutcomeText sessions edits text
+        × Appends (W.contents writer.old) (W.contents writer.new) text) }
+    ensures err { IfErr result
+        (λ fault. (sent : List ℕ) × CutOutcome W.may_fail fault sessions edits sent
+        × Appends (W.contents writer.old) (W.contents writer.new) sent) }
 {
     let mut output = Output::new(rt.alloc());
     print_sessions(rt, sessions, edits, &mut output)?;

@@ -71,13 +71,22 @@ impl<R: Source + Drop> Input<R> {
         ensures fault { IfErr result (λ fault. fault ≢ ShellFault.BadStart) }
         ensures turns { IfErr result (λ fault. fault ≢ ShellFault.Turns) }
         ensures unwritten { IfErr result (λ fault. fault ≢ ShellFault.Output) }
-        ensures stopped { IfErr result (λ fault. IfInput fault ((self.new.source.bytes ≡ self.old.source.bytes) × (unread R.Read self.new ≡ unread R.Read self.old) × Leaves (R.remaining self.old.source.reader) (R.remaining self.new.source.reader) [] self.new.source.bytes)) }
+        ensures stopped { IfErr result
+            (λ fault. IfInput fault
+            ((self.new.source.bytes ≡ self.old.source.bytes)
+            × (unread R.Read self.new ≡ unread R.Read self.old)
+            × Leaves (R.remaining self.old.source.reader) (R.remaining self.new.source.reader)
+            [] self.new.source.bytes)) }
         ensures kept { IfErr result (λ fault. IfHalted fault (Reads R.Read self.old [] self.new)) }
-        ensures unseen { IfErr result (λ fault. IfInput fault (IsUnseen R.Read R.may_fail self.old self.new)) }
+        ensures unseen { IfErr result
+            (λ fault. IfInput fault (IsUnseen R.Read R.may_fail self.old self.new)) }
         ensures asked { self.new.source.reads ≤ self.old.source.reads }
         ensures going { IfOk result (λ more. more ≡ true → self.new.source.ended ≡ false) }
-        ensures taken { IfOk result (λ more. more ≡ true → self.new.source.reads < self.old.source.reads) }
-        ensures ended { IfOk result (λ more. more ≡ false → (self.new.source.ended ≡ true) × (unread R.Read self.new ≡ unread R.Read self.old)) }
+        ensures taken { IfOk result
+            (λ more. more ≡ true → self.new.source.reads < self.old.source.reads) }
+        ensures ended { IfOk result
+            (λ more. more ≡ false
+            → (self.new.source.ended ≡ true) × (unread R.Read self.new ≡ unread R.Read self.old)) }
     {
         self.forget();
         if self.chunk.is_empty() {
@@ -107,7 +116,11 @@ impl<R: Source + Drop> Input<R> {
 impl<R: Read + Drop> Input<R> {
     /// Returns the index of the first line feed at or after `start`, if one is held.
     pub fn line_end(&mut self) -> Option<usize>
-        ensures end { IfSome result (λ end. (self.new.start ≤ end) × (end < length self.new.held) × (slice_index self.new.held end ≡ 10) × (list_any (λ c. c == 10) (slice_range self.new.held self.new.start end) ≡ false)) }
+        ensures end { IfSome result
+            (λ end. (self.new.start ≤ end)
+            × (end < length self.new.held)
+            × (slice_index self.new.held end ≡ 10)
+            × (list_any (λ c. c == 10) (slice_range self.new.held self.new.start end) ≡ false)) }
         ensures none { IfNone result (list_any (λ c. c == 10) (unread R.Read self.new) ≡ false) }
         ensures source { self.new.source ≡ self.old.source }
         ensures held { self.new.held ≡ self.old.held }
@@ -130,7 +143,10 @@ impl<R: Read + Drop> Input<R> {
 fn line_feed(bytes: &[u8], from: usize) -> Option<usize>
     requires within { from ≤ length bytes.now }
     requires none { list_any (λ c. c == 10) (take from bytes.now) ≡ false }
-    ensures some { IfSome result (λ at. (at < length bytes.now) × (slice_index bytes.now at ≡ 10) × (list_any (λ c. c == 10) (take at bytes.now) ≡ false)) }
+    ensures some { IfSome result
+        (λ at. (at < length bytes.now)
+        × (slice_index bytes.now at ≡ 10)
+        × (list_any (λ c. c == 10) (take at bytes.now) ≡ false)) }
     ensures none { IfNone result (list_any (λ c. c == 10) bytes.now ≡ false) }
 {
     match first_feed(&bytes[from..]) {

@@ -50,14 +50,28 @@ impl<R: Source + Drop> Input<R> {
         ensures read { OnOk result (Reads R.Read self.old [] self.new) }
         ensures fault { IfErr result (λ fault. fault ≢ ShellFault.BadStart) }
         ensures turns { IfErr result (λ fault. fault ≢ ShellFault.Turns) }
-        ensures stopped { IfErr result (λ fault. IfInput fault (Stops R.Read (λ bytes rest. IsOneLine bytes) self.old self.new)) }
-        ensures unseen { IfErr result (λ fault. IfInput fault (IsUnseen R.Read R.may_fail self.old self.new)) }
+        ensures stopped { IfErr result
+            (λ fault. IfInput fault
+            (Stops R.Read (λ bytes rest. IsOneLine bytes) self.old self.new)) }
+        ensures unseen { IfErr result
+            (λ fault. IfInput fault (IsUnseen R.Read R.may_fail self.old self.new)) }
         ensures kept { IfErr result (λ fault. IfHalted fault (Reads R.Read self.old [] self.new)) }
         ensures asked { self.new.source.reads ≤ self.old.source.reads }
-        ensures printed { Prints (W.contents writer.old) output.old.page [] (W.contents writer.new) output.new.page }
-        ensures failed { IfErr result (λ fault. fault ≡ ShellFault.Output → has_failed output.new ≡ true) }
-        ensures end { IfOk result (λ found. IfSome found (λ end. (self.new.start ≤ end) × (end < length self.new.held) × (slice_index self.new.held end ≡ 10) × (list_any (λ c. c == 10) (slice_range self.new.held self.new.start end) ≡ false))) }
-        ensures ended { IfOk result (λ found. IfNone found ((self.new.source.ended ≡ true) × (list_any (λ c. c == 10) (unread R.Read self.new) ≡ false))) }
+        ensures printed { Prints (W.contents writer.old) output.old.page [] (W.contents writer.new)
+            output.new.page }
+        ensures failed { IfErr result
+            (λ fault. fault ≡ ShellFault.Output → has_failed output.new ≡ true) }
+        ensures end { IfOk result
+            (λ found. IfSome found
+            (λ end. (self.new.start ≤ end)
+            × (end < length self.new.held)
+            × (slice_index self.new.held end ≡ 10)
+            × (list_any (λ c. c == 10) (slice_range self.new.held self.new.start end)
+            ≡ false))) }
+        ensures ended { IfOk result
+            (λ found. IfNone found
+            ((self.new.source.ended ≡ true)
+            × (list_any (λ c. c == 10) (unread R.Read self.new) ≡ false))) }
     {
         for turn in 0..MORE_THAN_READS {
             if let Some(end) = self.line_end() {
@@ -92,15 +106,22 @@ impl<R: Source + Drop> Input<R> {
         output: &mut Output<W>,
         writer: &mut W,
     ) -> Result<Line, ShellFault>
-        ensures line { IfOk result (λ line. Holds R.Read self.new (byte_range_of R.Read line) × TakesLine R.Read self.old line self.new) }
+        ensures line { IfOk result
+            (λ line. Holds R.Read self.new (byte_range_of R.Read line)
+            × TakesLine R.Read self.old line self.new) }
         ensures fault { IfErr result (λ fault. fault ≢ ShellFault.BadStart) }
         ensures turns { IfErr result (λ fault. fault ≢ ShellFault.Turns) }
-        ensures stopped { IfErr result (λ fault. IfInput fault (Stops R.Read (λ bytes rest. IsOneLine bytes) self.old self.new)) }
-        ensures unseen { IfErr result (λ fault. IfInput fault (IsUnseen R.Read R.may_fail self.old self.new)) }
+        ensures stopped { IfErr result
+            (λ fault. IfInput fault
+            (Stops R.Read (λ bytes rest. IsOneLine bytes) self.old self.new)) }
+        ensures unseen { IfErr result
+            (λ fault. IfInput fault (IsUnseen R.Read R.may_fail self.old self.new)) }
         ensures kept { IfErr result (λ fault. IfHalted fault (Reads R.Read self.old [] self.new)) }
         ensures asked { self.new.source.reads ≤ self.old.source.reads }
-        ensures printed { Prints (W.contents writer.old) output.old.page [] (W.contents writer.new) output.new.page }
-        ensures failed { IfErr result (λ fault. fault ≡ ShellFault.Output → has_failed output.new ≡ true) }
+        ensures printed { Prints (W.contents writer.old) output.old.page [] (W.contents writer.new)
+            output.new.page }
+        ensures failed { IfErr result
+            (λ fault. fault ≡ ShellFault.Output → has_failed output.new ≡ true) }
     {
         let found = self.seek_line(output, writer)?;
         let len = self.held.len();
@@ -122,14 +143,23 @@ impl<R: Source + Drop> Input<R> {
         writer: &mut W,
         count: usize,
     ) -> Result<ByteRange, ShellFault>
-        ensures byte_range { IfOk result (λ byte_range. Holds R.Read self.new byte_range × (length (bytes_in R.Read self.new byte_range) ≡ count) × Reads R.Read self.old (bytes_in R.Read self.new byte_range) self.new) }
+        ensures byte_range { IfOk result
+            (λ byte_range. Holds R.Read self.new byte_range
+            × (length (bytes_in R.Read self.new byte_range) ≡ count)
+            × Reads R.Read self.old (bytes_in R.Read self.new byte_range) self.new) }
         ensures fault { IfErr result (λ fault. fault ≢ ShellFault.BadStart) }
         ensures turns { IfErr result (λ fault. fault ≢ ShellFault.Turns) }
-        ensures stopped { IfErr result (λ fault. IfInput fault (Stops R.Read (λ bytes rest. (length bytes < count) × IsShort R.Read R.may_fail self.old self.new rest) self.old self.new)) }
+        ensures stopped { IfErr result
+            (λ fault. IfInput fault
+            (Stops R.Read
+            (λ bytes rest. (length bytes < count)
+            × IsShort R.Read R.may_fail self.old self.new rest) self.old self.new)) }
         ensures kept { IfErr result (λ fault. IfHalted fault (Reads R.Read self.old [] self.new)) }
         ensures asked { self.new.source.reads ≤ self.old.source.reads }
-        ensures printed { Prints (W.contents writer.old) output.old.page [] (W.contents writer.new) output.new.page }
-        ensures failed { IfErr result (λ fault. fault ≡ ShellFault.Output → has_failed output.new ≡ true) }
+        ensures printed { Prints (W.contents writer.old) output.old.page [] (W.contents writer.new)
+            output.new.page }
+        ensures failed { IfErr result
+            (λ fault. fault ≡ ShellFault.Output → has_failed output.new ≡ true) }
     {
         for turn in 0..MORE_THAN_READS {
             if self.held.len() - self.start >= count {
@@ -147,8 +177,11 @@ impl<R: Source + Drop> Input<R> {
     /// Returns the text of a line or a load that was just taken. Ends with `Input` if it is not valid UTF-8.
     pub fn text(&self, byte_range: ByteRange) -> Result<&str, ShellFault>
         requires { Holds R.Read self.now byte_range }
-        ensures ok { IfOk result (λ text. (text.now ≡ bytes_in R.Read self.now byte_range) × IsUtf8 text.now) }
-        ensures fault { IfErr result (λ fault. (fault ≡ ShellFault.Input) × ¬ (IsUtf8 (bytes_in R.Read self.now byte_range))) }
+        ensures ok { IfOk result
+            (λ text. (text.now ≡ bytes_in R.Read self.now byte_range) × IsUtf8 text.now) }
+        ensures fault { IfErr result
+            (λ fault. (fault ≡ ShellFault.Input)
+            × ¬ (IsUtf8 (bytes_in R.Read self.now byte_range))) }
     {
         let bytes = &self.held.as_slice()[byte_range.from..byte_range.to];
         if self.is_ascii {

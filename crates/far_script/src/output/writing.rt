@@ -41,11 +41,13 @@ impl<W: Sink> Output<W> {
     /// Ends with `Output` if that fails, or if a write failed before. The writer then got a prefix of the replies, and
     /// nothing is written afterwards.
     pub fn flush(&mut self, writer: &mut W) -> Result<(), ShellFault>
-        ensures printed { Prints (W.contents writer.old) self.old.page [] (W.contents writer.new) self.new.page }
+        ensures printed { Prints (W.contents writer.old) self.old.page [] (W.contents writer.new)
+            self.new.page }
         ensures ok { OnOk result (self.new.page ≡ []) }
         ensures going { OnOk result (has_failed self.new ≡ has_failed self.old) }
         ensures failed { OnErr result (has_failed self.new ≡ true) }
-        ensures stopped { has_failed self.old ≡ true → Keeps (W.contents writer.old) (W.contents writer.new) }
+        ensures stopped { has_failed self.old ≡ true
+            → Keeps (W.contents writer.old) (W.contents writer.new) }
         ensures fault { IfErr result (λ fault. fault ≡ ShellFault.Output) }
     {
         if self.page.is_empty() {
@@ -65,10 +67,12 @@ impl<W: Sink> Output<W> {
 
     /// Calls `flush` if there are at least 65,536 bytes of replies. Ends with `Output` if that fails.
     pub fn flush_if_full(&mut self, writer: &mut W) -> Result<(), ShellFault>
-        ensures printed { Prints (W.contents writer.old) self.old.page [] (W.contents writer.new) self.new.page }
+        ensures printed { Prints (W.contents writer.old) self.old.page [] (W.contents writer.new)
+            self.new.page }
         ensures going { OnOk result (has_failed self.new ≡ has_failed self.old) }
         ensures failed { OnErr result (has_failed self.new ≡ true) }
-        ensures stopped { has_failed self.old ≡ true → Keeps (W.contents writer.old) (W.contents writer.new) }
+        ensures stopped { has_failed self.old ≡ true
+            → Keeps (W.contents writer.old) (W.contents writer.new) }
         ensures fault { IfErr result (λ fault. fault ≡ ShellFault.Output) }
     {
         if self.page.len() < FULL {

@@ -6,7 +6,7 @@ use super::Page;
 use far_types::Refusal;
 use itoa::{Buffer, write_digits};
 
-/// Numbers below this have at most four digits. Most are; each of their digits is computed directly.
+/// Numbers below this have at most four digits. Most are, so the code for them is inlined.
 const SHORT: u64 = 10_000;
 
 /// The most digits of a number of 64 bits.
@@ -41,14 +41,6 @@ fn digit_count(number: u64) -> usize
     short_count(number / 10_000) + 4
 }
 
-/// Returns the last decimal digit of a number.
-#[inline(always)]
-fn last_digit(number: u32) -> u8
-    ensures { result ≡ 48 + number % 10 }
-{
-    b'0' + (number % 10) as u8
-}
-
 impl Page {
     /// Adds a number in decimal digits. Refused only with `NoMemory` (1).
     #[inline(always)]
@@ -56,36 +48,25 @@ impl Page {
         ensures ok { OnOk result (self.new ≡ self.old ++ decimal number) }
         ensures memory { IfErr result (λ e. e ≡ Refusal.NoMemory) }
     {
-        // With this test the compiler sees that there is space, and omits its own tests and the call that allocates.
-        if number < SHORT && self.bytes.capacity() - self.bytes.len() >= 4 {
-            return self.short_number(number as u32);
+        if number < SHORT {
+            return self.digits(number, short_count(number), &[0u8; 4]);
         }
         self.any_number(number)
     }
 
-    /// Adds a number of at most four digits.
+    /// Adds a number of `count` digits, for which `zeros` has room. They are written in place: a copy of bytes that were just
+    /// written one by one or in pairs would have to wait for them. Inlined, so that the copy of the zeros has a constant length.
     #[inline(always)]
-    fn short_number(&mut self, number: u32) -> Result<(), Refusal>
-        requires { number < 10000 }
+    fn digits(&mut self, number: u64, count: usize, zeros: &[u8]) -> Result<(), Refusal>
+        requires count { count ≡ length (decimal number) }
+        requires room { count ≤ length zeros.now }
         ensures ok { OnOk result (self.new ≡ self.old ++ decimal number) }
         ensures memory { IfErr result (λ e. e ≡ Refusal.NoMemory) }
     {
-        let last = last_digit(number);
-        if number < 10 {
-            return self.byte(last);
-        }
-        let third = last_digit(number / 10);
-        if number < 100 {
-            self.bytes.extend_from_slice(&[third, last])?;
-            return Ok(());
-        }
-        let second = last_digit(number / 100);
-        if number < 1000 {
-            self.bytes.extend_from_slice(&[second, third, last])?;
-            return Ok(());
-        }
-        let first = last_digit(number / 1000);
-        self.bytes.extend_from_slice(&[first, second, third, last])?;
+        let len = self.len();
+        self.bytes(zeros)?;
+        let _start = write_digits(number, self.bytes.as_mut_slice(), len + count);
+        self.truncate(len + count);
         Ok(())
     }
 
@@ -96,25 +77,9 @@ impl Page {
         ensures memory { IfErr result (λ e. e ≡ Refusal.NoMemory) }
     {
         if number < MIDDLING {
-            return self.middling_number(number);
+            return self.digits(number, digit_count(number), &[0u8; 8]);
         }
         self.long_number(number)
-    }
-
-    /// Adds a number of at most eight digits. They are counted first and written in place: a copy of bytes that were just
-    /// written in pairs would have to wait for them.
-    #[inline(always)]
-    fn middling_number(&mut self, number: u64) -> Result<(), Refusal>
-        requires { number < 100000000 }
-        ensures ok { OnOk result (self.new ≡ self.old ++ decimal number) }
-        ensures memory { IfErr result (λ e. e ≡ Refusal.NoMemory) }
-    {
-        let count = digit_count(number);
-        let len = self.len();
-        self.bytes(&[0u8; 8])?;
-        let _start = write_digits(number, self.bytes.as_mut_slice(), len + count);
-        self.truncate(len + count);
-        Ok(())
     }
 
     /// Adds a number of any length. Not inlined, since long numbers are rare.

@@ -50,7 +50,7 @@ returns-in-Ok-None-clause-ok g c =
     let none = rw c.in_ok-text.ensures.ok.0 at (sym c.in-Ok-None.ensures.command ∙ c.in-Ok-None.field-0-is) in
     let line = bytes_in g.R.Read c.args.input.now c.args.line in
     let old : At g.row.S-Ticket.Denot = record { world = c.progress.inside.world; number = c.progress.inside.number } in
-    let new : At g.row.S-Ticket.Denot = record { world = c.parse_line.new.world; number = c.progress.inside.number + 1 } in
+    let new : At g.row.S-Ticket.Denot = record { world = c.parse.new.world; number = c.progress.inside.number + 1 } in
     let text = numbered_text (codes "syntax command") (c.progress.inside.number + 1) in
     let shown : c.args.line.from < c.args.line.to = grind (arith, c.if-is_empty.ensures) in
     on-ok c.print_syntax.result _ _ (λ printed. (
@@ -81,7 +81,7 @@ pub returns-in-Ok-Some-clause-err : goal.returns-in-Ok-Some-clause-err
 returns-in-Ok-Some-clause-err g c =
     let some = rw c.in_ok-text.ensures.ok.0 at (sym c.in-Ok-Some.ensures.command ∙ c.in-Ok-Some.field-0-is) in
     let line = bytes_in g.R.Read c.args.input.now c.args.line in
-    let world = c.parse_line.new.world in
+    let world = c.parse.new.world in
     each-fault c.serve_command.result _ _ (λ why p. (
       p.0,
       p.1,

@@ -1,4 +1,4 @@
-use Rattle.std.proofs.Common.{take, arith, rules, refl}
+use Rattle.std.proofs.Common.{arith, rules, refl}
 use Rattle.far_script.proofs.FieldsLaws.{cells-go-on}
 use Rattle.far_script.proofs.field.cells_in.Goals as goal
 

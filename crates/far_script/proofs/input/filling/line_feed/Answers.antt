@@ -1,4 +1,4 @@
-use Rattle.std.proofs.Common.{ap, arith, drop}
+use Rattle.std.proofs.Common.{ap, arith}
 use Rattle.std.specs.List.{position_or_len}
 use Rattle.std.proofs.lemmas.List.{length-drop, take_rest}
 use Rattle.far_script.specs.Lines.{is_line_feed}
