@@ -27,7 +27,9 @@ Change = Option Pair
 -- what the table shows of a registry entry
 abbrev pub registered_in : RegistryEntry → Option Registered
 registered_in None = None
-registered_in (Some aggregate) = Some (record { spec = aggregate.spec; registration = aggregate.registration; pending = aggregate.pending })
+registered_in (Some aggregate) = Some
+    (record
+    { spec = aggregate.spec; registration = aggregate.registration; pending = aggregate.pending })
 
 -- the aggregates by number, of which there are 32. The entries of the registry end with the last number that was ever used
 abbrev pub registered_of : List RegistryEntry → List (Option Registered)
@@ -39,12 +41,14 @@ PlacesFit places = AllByRecursion (λ (place : Place). RowFits place.cells) plac
 
 -- a place counts unless its row group is pending
 abbrev pub scanned_pair : Spec → ℕ → List Bool → ℕ → Place → Change
-scanned_pair spec size pending i place = cond (is_pending pending (i / size)) None (place_pair spec place)
+scanned_pair spec size pending i place = cond (is_pending pending (i / size)) None
+    (place_pair spec place)
 
 -- the pairs of the places, from number i on, whose row groups are scanned
 abbrev pub scanned_pairs : Spec → ℕ → List Bool → ℕ → List Place → List Pair
 scanned_pairs spec size pending i [] = []
-scanned_pairs spec size pending i (place ∷ places) = cons_option (scanned_pair spec size pending i place) (scanned_pairs spec size pending (i + 1) places)
+scanned_pairs spec size pending i (place ∷ places) = cons_option
+    (scanned_pair spec size pending i place) (scanned_pairs spec size pending (i + 1) places)
 
 -- the pairs of some places, as those of a row group
 abbrev pub pairs_here : Spec → List Place → List Pair
@@ -56,7 +60,8 @@ group_pairs spec size g places = pairs_here spec (in_group size g places)
 
 -- what extrema are to have of a row group: nothing while it is pending
 abbrev pub scanned_group : Spec → ℕ → List Bool → List Place → ℕ → Extrema
-scanned_group spec size pending places g = cond (is_pending pending g) fin.empty (extrema (group_pairs spec size g places))
+scanned_group spec size pending places g = cond (is_pending pending g) fin.empty
+    (extrema (group_pairs spec size g places))
 
 -- the fold of an accumulator
 abbrev pub fold_of : Accumulator → Fold
@@ -70,8 +75,10 @@ pending_in (accumulator.Extrema live) = live.left
 
 -- what an accumulator answers
 abbrev pub accumulator_answer : Option ℕ → Accumulator → Answer
-accumulator_answer key (accumulator.Totals live) = answer.Totals (or_zero key (total_lines live.totals))
-accumulator_answer key (accumulator.Extrema live) = answer.Extrema (extrema_lines (all_groups live.groups))
+accumulator_answer key (accumulator.Totals live) = answer.Totals
+    (or_zero key (total_lines live.totals))
+accumulator_answer key (accumulator.Extrema live) = answer.Extrema
+    (extrema_lines (all_groups live.groups))
 
 -- nothing is scanned, and this many row groups are pending
 abbrev pub KeepsNothing : ℕ → Accumulator → Type 0
@@ -80,13 +87,18 @@ KeepsNothing count (accumulator.Extrema live) = (live.left ≡ count) × (live.g
 
 -- an accumulator is what computing from scratch over the scanned row groups would give
 abbrev pub IsUpToDate : ℕ → List Place → Aggregate → Accumulator → Type 0
-IsUpToDate size places a (accumulator.Totals live) = (live.totals ≡ totals (scanned_pairs a.spec size a.pending 0 places)) × (live.left ≡ left a.pending)
-IsUpToDate size places a (accumulator.Extrema live) = ((g : ℕ) → group_at live.groups g ≡ scanned_group a.spec size a.pending places g) × (live.left ≡ left a.pending)
+IsUpToDate size places a (accumulator.Totals live) =
+    (live.totals ≡ totals (scanned_pairs a.spec size a.pending 0 places))
+    × (live.left ≡ left a.pending)
+IsUpToDate size places a (accumulator.Extrema live) =
+    ((g : ℕ) → group_at live.groups g ≡ scanned_group a.spec size a.pending places g)
+    × (live.left ≡ left a.pending)
 
 -- the accumulator of a registry entry is of its fold, and is what computing from scratch would give
 abbrev pub KeepsEntry : ℕ → List Place → RegistryEntry → Type 0
 KeepsEntry size places None = Unit {0}
-KeepsEntry size places (Some a) = (fold_of a.accumulator ≡ a.spec.fold) × IsUpToDate size places a a.accumulator
+KeepsEntry size places (Some a) = (fold_of a.accumulator ≡ a.spec.fold)
+    × IsUpToDate size places a a.accumulator
 
 -- so is the accumulator of each registry entry
 abbrev pub Keeps : ℕ → List Place → List RegistryEntry → Type 0

@@ -30,7 +30,8 @@ is_pending_in aggregate g = option_map_or (λ r. is_pending r.pending g) aggrega
 -- an aggregate answers if no row group is pending
 abbrev pub ask_refusal : Option Registered → Option Refusal
 ask_refusal None = Some refusal.NoAggregate
-ask_refusal (Some aggregate) = cond (left aggregate.pending == 0) None (Some (refusal.Building (left aggregate.pending)))
+ask_refusal (Some aggregate) = cond (left aggregate.pending == 0) None
+    (Some (refusal.Building (left aggregate.pending)))
 
 -- a row group less is pending
 abbrev pub after_scan : ℕ → Registered → Registered
@@ -39,4 +40,5 @@ after_scan g aggregate = record aggregate { pending = slice_set aggregate.pendin
 -- this is the answer of an aggregate over the rows of these places, and no row group is pending
 abbrev pub Answers : List Place → Option Registered → Answer → Type 0
 Answers places None answer = ⊥
-Answers places (Some aggregate) answer = (left aggregate.pending ≡ 0) × (answer ≡ answer_over aggregate.spec (rows_of places))
+Answers places (Some aggregate) answer = (left aggregate.pending ≡ 0)
+    × (answer ≡ answer_over aggregate.spec (rows_of places))

@@ -25,7 +25,8 @@ delta_of g k pair = record { pair = pair; previous = previous_in g pair.0 k }
 -- the delta of a row of place i to a registry entry
 abbrev pub row_delta : ℕ → ℕ → ChangeBySpec → RegistryEntry → Option Delta
 row_delta size i gives None = None
-row_delta size i gives (Some a) = option_map (delta_of (i / size) a.accumulator) (change_of size i gives (Some a))
+row_delta size i gives (Some a) = option_map (delta_of (i / size) a.accumulator)
+    (change_of size i gives (Some a))
 
 -- the delta to a registry entry to which a row gives a pair
 abbrev pub delta_in : ℕ → RegistryEntry → Pair → Option Delta
@@ -34,25 +35,34 @@ delta_in g (Some a) pair = Some (delta_of g a.accumulator pair)
 
 -- one pair more
 abbrev pub accumulator_more : ℕ → Accumulator → Pair → Accumulator
-accumulator_more g (accumulator.Totals live) pair = accumulator.Totals (record live { totals = with_pair live.totals pair })
-accumulator_more g (accumulator.Extrema live) pair = accumulator.Extrema (record live { groups = slice_set live.groups g (with_observed (group_at live.groups g) pair) })
+accumulator_more g (accumulator.Totals live) pair = accumulator.Totals
+    (record live { totals = with_pair live.totals pair })
+accumulator_more g (accumulator.Extrema live) pair = accumulator.Extrema
+    (record live { groups = slice_set live.groups g (with_observed (group_at live.groups g) pair) })
 
 -- an entry of the registry with a delta applied, if both are there
 abbrev pub with_delta : ℕ → RegistryEntry → Option Delta → RegistryEntry
 with_delta g None delta = None
 with_delta g (Some a) None = Some a
-with_delta g (Some a) (Some delta) = Some (record a { accumulator = accumulator_more g a.accumulator delta.pair })
+with_delta g (Some a) (Some delta) = Some
+    (record a { accumulator = accumulator_more g a.accumulator delta.pair })
 
 -- the last delta is undone
 abbrev pub accumulator_undo : ℕ → Accumulator → Delta → Accumulator
-accumulator_undo g (accumulator.Totals live) delta = accumulator.Totals (record live { totals = without_pair live.totals delta.pair })
-accumulator_undo g (accumulator.Extrema live) delta = accumulator.Extrema (record live { groups = slice_set live.groups g (put_min_max (group_at live.groups g) delta.pair.0 delta.previous) })
+accumulator_undo g (accumulator.Totals live) delta = accumulator.Totals
+    (record live { totals = without_pair live.totals delta.pair })
+accumulator_undo g (accumulator.Extrema live) delta = accumulator.Extrema
+    (record live {
+      groups = slice_set live.groups g
+          (put_min_max (group_at live.groups g) delta.pair.0 delta.previous);
+    })
 
 -- an entry of the registry with its last delta undone, if both are there
 abbrev pub undo : ℕ → RegistryEntry → Option Delta → RegistryEntry
 undo g None delta = None
 undo g (Some a) None = Some a
-undo g (Some a) (Some delta) = Some (record a { accumulator = accumulator_undo g a.accumulator delta })
+undo g (Some a) (Some delta) = Some
+    (record a { accumulator = accumulator_undo g a.accumulator delta })
 
 -- a pair may be added: totals have few under its key, extrema are reserved
 abbrev pub AccumulatorMayAdd : ℕ → Accumulator → Pair → Type 0
@@ -62,7 +72,8 @@ AccumulatorMayAdd g (accumulator.Extrema live) pair = g < length live.groups
 -- a delta may be undone: its pair is there
 abbrev pub AccumulatorMayUndo : ℕ → Accumulator → Pair → Type 0
 AccumulatorMayUndo g (accumulator.Totals live) pair = CanRetract pair.1 (fin.get live.totals pair.0)
-AccumulatorMayUndo g (accumulator.Extrema live) pair = (g < length live.groups) × (fin.get (group_at live.groups g) pair.0 ≢ None)
+AccumulatorMayUndo g (accumulator.Extrema live) pair = (g < length live.groups)
+    × (fin.get (group_at live.groups g) pair.0 ≢ None)
 
 -- the delta of an entry may be undone
 abbrev pub MayUndo : ℕ → RegistryEntry → Option Delta → Type 0
@@ -72,12 +83,17 @@ MayUndo g (Some a) (Some delta) = AccumulatorMayUndo g a.accumulator delta.pair
 
 -- the deltas of the first n entries may be undone
 abbrev pub EachMayUndo : ℕ → ℕ → List RegistryEntry → List (Option Delta) → Type 0
-EachMayUndo g n registry deltas = (k : ℕ) (s : RegistryEntry) (c : Option Delta) → k < n → slice_get registry k ≡ Some s → slice_get deltas k ≡ Some c → MayUndo g s c
+EachMayUndo g n registry deltas = (k : ℕ) (s : RegistryEntry) (c : Option Delta)
+    → k < n
+    → slice_get registry k ≡ Some s
+    → slice_get deltas k ≡ Some c
+    → MayUndo g s c
 
 -- a delta fits an accumulator: its pair may be added, and what it says was there before is there
 abbrev pub AccumulatorFits : ℕ → Accumulator → Delta → Type 0
 AccumulatorFits g (accumulator.Totals live) delta = AccumulatorFolds (accumulator.Totals live)
-AccumulatorFits g (accumulator.Extrema live) delta = (g < length live.groups) × (delta.previous ≡ fin.get (group_at live.groups g) delta.pair.0)
+AccumulatorFits g (accumulator.Extrema live) delta = (g < length live.groups)
+    × (delta.previous ≡ fin.get (group_at live.groups g) delta.pair.0)
 
 -- the delta of an entry fits its accumulator
 abbrev pub FitsEntry : ℕ → RegistryEntry → Option Delta → Type 0
@@ -87,4 +103,7 @@ FitsEntry g (Some a) (Some delta) = AccumulatorFits g a.accumulator delta
 
 -- each delta fits the accumulator of its entry
 abbrev pub EachFits : ℕ → List RegistryEntry → List (Option Delta) → Type 0
-EachFits g registry deltas = (k : ℕ) (s : RegistryEntry) (c : Option Delta) → slice_get registry k ≡ Some s → slice_get deltas k ≡ Some c → FitsEntry g s c
+EachFits g registry deltas = (k : ℕ) (s : RegistryEntry) (c : Option Delta)
+    → slice_get registry k ≡ Some s
+    → slice_get deltas k ≡ Some c
+    → FitsEntry g s c

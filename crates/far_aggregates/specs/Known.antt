@@ -7,8 +7,13 @@ use Rattle.far_extrema.specs.Live.{group_at}
 
 -- what is noted of a row group is its min-max under no key
 abbrev pub AreKnown : List (Option (ℤ × ℤ)) → List Extrema → Type 0
-AreKnown plain groups = (g : ℕ) (min_max : ℤ × ℤ) → slice_get plain g ≡ Some (Some min_max) → fin.get (group_at groups g) None ≡ Some min_max
+AreKnown plain groups = (g : ℕ) (min_max : ℤ × ℤ)
+    → slice_get plain g ≡ Some (Some min_max)
+    → fin.get (group_at groups g) None ≡ Some min_max
 
 -- what is noted of this row group is this, and of the others what was noted before
 abbrev pub IsNoted : List (Option (ℤ × ℤ)) → ℕ → Option (ℤ × ℤ) → List (Option (ℤ × ℤ)) → Type 0
-IsNoted plain group noted new = (g : ℕ) (min_max : ℤ × ℤ) → slice_get new g ≡ Some (Some min_max) → ((g ≡ group) × (noted ≡ Some min_max)) ⊎ ((g ≢ group) × (slice_get plain g ≡ Some (Some min_max)))
+IsNoted plain group noted new = (g : ℕ) (min_max : ℤ × ℤ)
+    → slice_get new g ≡ Some (Some min_max)
+    → ((g ≡ group) × (noted ≡ Some min_max))
+    ⊎ ((g ≢ group) × (slice_get plain g ≡ Some (Some min_max)))

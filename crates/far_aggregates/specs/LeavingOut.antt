@@ -9,7 +9,10 @@ use Rattle.far_aggregates.specs.Accumulators.{Change}
 abbrev pub NeedNotRetract : Option Delta → Change → Type 0
 NeedNotRetract None change = ⊥
 NeedNotRetract (Some delta) None = ⊥
-NeedNotRetract (Some delta) (Some pair) = (min_max : ℤ × ℤ) × (delta.previous ≡ Some min_max) × (delta.pair.0 ≡ pair.0) × ((min_max_with delta.pair.1 (Some min_max)).0 <ℤ pair.1) × (pair.1 <ℤ (min_max_with delta.pair.1 (Some min_max)).1)
+NeedNotRetract (Some delta) (Some pair) = (min_max : ℤ × ℤ) × (delta.previous ≡ Some min_max)
+    × (delta.pair.0 ≡ pair.0)
+    × ((min_max_with delta.pair.1 (Some min_max)).0 <ℤ pair.1)
+    × (pair.1 <ℤ (min_max_with delta.pair.1 (Some min_max)).1)
 
 -- a pair is the same, or is left out because it need not be retracted
 abbrev pub IsLeftOut : Option Delta → Change → Change → Type 0
@@ -17,4 +20,8 @@ IsLeftOut delta old new = (new ≡ old) ⊎ ((new ≡ None) × NeedNotRetract de
 
 -- each pair likewise
 abbrev pub EachLeftOut : List (Option Delta) → List Change → List Change → Type 0
-EachLeftOut deltas old new = (k : ℕ) (delta : Option Delta) (c d : Change) → slice_get deltas k ≡ Some delta → slice_get old k ≡ Some c → slice_get new k ≡ Some d → IsLeftOut delta c d
+EachLeftOut deltas old new = (k : ℕ) (delta : Option Delta) (c d : Change)
+    → slice_get deltas k ≡ Some delta
+    → slice_get old k ≡ Some c
+    → slice_get new k ≡ Some d
+    → IsLeftOut delta c d

@@ -10,7 +10,9 @@ use Rattle.far_offload.specs.Columns.{cell_of}
 
 -- a column whose first cells are those of these places. Others may follow
 abbrev pub IsOfPlaces : List Place → ℕ × List Cell → Type 0
-IsOfPlaces here column = (i : ℕ) (place : Place) → slice_get here i ≡ Some place → Some (cell_of i column) ≡ cells_of place.cells column.0
+IsOfPlaces here column = (i : ℕ) (place : Place)
+    → slice_get here i ≡ Some place
+    → Some (cell_of i column) ≡ cells_of place.cells column.0
 
 -- the column of a number; if no number is asked for, a column with the number `other`
 abbrev pub IsLent : List Place → ℕ → Option ℕ → ℕ × List Cell → Type 0

@@ -15,16 +15,20 @@ use Rattle.far_aggregates.specs.Aggregates.{Answers}
 -- what the line with this key has beside it, if a line has the key
 abbrev pub found_in : {A B : Type 0} → List (Option Key × A × B) → Option Key → Option (A × B)
 found_in [] key = None
-found_in (one ∷ lines) key = cond (eq_by_cmp line_cmp key one.0) (Some (one.1, one.2)) (found_in lines key)
+found_in (one ∷ lines) key = cond (eq_by_cmp line_cmp key one.0) (Some (one.1, one.2))
+    (found_in lines key)
 
 -- the line of a key in an answer, if the answer has one
 abbrev pub line_in : Answer → Option Key → Option Line
-line_in (answer.Totals lines) key = option_map (λ found. line.Totals found.0 found.1) (found_in lines key)
-line_in (answer.Extrema lines) key = option_map (λ found. line.Extrema found.0 found.1) (found_in lines key)
+line_in (answer.Totals lines) key = option_map (λ found. line.Totals found.0 found.1)
+    (found_in lines key)
+line_in (answer.Extrema lines) key = option_map (λ found. line.Extrema found.0 found.1)
+    (found_in lines key)
 
 -- an aggregate has an answer over the rows of these places, and in it this line of a key, or none
 abbrev pub AnswersKey : List Place → Option Registered → Option Key → Option Line → Type 0
-AnswersKey places aggregate key found = (all : Answer) × Answers places aggregate all × (found ≡ line_in all key)
+AnswersKey places aggregate key found = (all : Answer) × Answers places aggregate all
+    × (found ≡ line_in all key)
 
 -- without key column nothing is there under a key
 abbrev pub KeysFit : Option ℕ → Totals → Type 0

@@ -49,7 +49,9 @@ with_observed_change extrema (Some pair) = with_observed extrema pair
 
 -- the totals of an accumulator are those of some pairs, which are few
 abbrev pub AccumulatorFolds : Accumulator → Type 0
-AccumulatorFolds (accumulator.Totals live) = (pairs : List Pair) × (live.totals ≡ totals pairs) × PairsFit pairs × (length pairs ≤ 2 ^ 24)
+AccumulatorFolds (accumulator.Totals live) = (pairs : List Pair) × (live.totals ≡ totals pairs)
+    × PairsFit pairs
+    × (length pairs ≤ 2 ^ 24)
 AccumulatorFolds (accumulator.Extrema live) = Unit {0}
 
 -- an entry of the registry has totals of some pairs, which are few

@@ -11,18 +11,22 @@ use Rattle.far_aggregates.specs.Retract.{after_retract, EachMayRetract}
 use Rattle.far_aggregates.specs.Until.{zip_all}
 
 -- the aggregates are those of these places, which are few, and whose numbers fit 64 bits
-pub record AreUpToDate (size : ℕ) (places : List Place) (registry : List RegistryEntry) : Type 0 where
+pub record AreUpToDate (size : ℕ) (places : List Place)
+    (registry : List RegistryEntry) : Type 0 where
   pub kept : Keeps size places registry
   pub few : length places ≤ 2 ^ 24
   pub fit : PlacesFit places
 
 -- the aggregates stay those of the places, whatever they are
 abbrev pub KeepsAsBefore : List RegistryEntry → List RegistryEntry → Type 0
-KeepsAsBefore old new = (size : ℕ) (places : List Place) → Keeps size places old → Keeps size places new
+KeepsAsBefore old new = (size : ℕ) (places : List Place)
+    → Keeps size places old
+    → Keeps size places new
 
 -- a place is alive, and its row has these cells
 abbrev pub IsAliveAt : Cells → ℕ → List Place → Type 0
-IsAliveAt cells place places = (row : List Cell) × (cells ≡ cells_of row) × (slice_get places place ≡ Some (alive_with row))
+IsAliveAt cells place places = (row : List Cell) × (cells ≡ cells_of row)
+    × (slice_get places place ≡ Some (alive_with row))
 
 -- the deltas can be undone
 pub record MayUndoAll (registry : List RegistryEntry) (pending : Pending) : Type 0 where
@@ -39,17 +43,20 @@ pub record UndoesAll (old new : List RegistryEntry) (pending : Pending) : Type 0
   pub kept : KeepsAsBefore old (after_undo_all new pending)
 
 -- the pairs can be retracted, if these are the places of the row group
-pub record MayRetractAll (here : List Place) (registry : List RegistryEntry) (pending : Pending) : Type 0 where
+pub record MayRetractAll (here : List Place) (registry : List RegistryEntry)
+    (pending : Pending) : Type 0 where
   pub len : length pending.to_retract.items ≤ length registry
   pub may : EachMayRetract pending.group here registry pending.to_retract.items
 
 -- the aggregates without the pairs to retract
 abbrev pub after_retract_all : List Place → List RegistryEntry → Pending → List RegistryEntry
-after_retract_all here registry pending = zip_all (after_retract pending.group here) registry pending.to_retract.items
+after_retract_all here registry pending = zip_all (after_retract pending.group here) registry
+    pending.to_retract.items
 
 -- if these are the places after the edit of a row group, the pairs can be retracted. Then the aggregates are those of these
 -- places
-pub record RetractsAll (size g : ℕ) (places : List Place) (registry : List RegistryEntry) (pending : Pending) : Type 0 where
+pub record RetractsAll (size g : ℕ) (places : List Place) (registry : List RegistryEntry)
+    (pending : Pending) : Type 0 where
   pub at : pending.group ≡ g
   pub may : MayRetractAll (in_group size g places) registry pending
   pub kept : Keeps size places (after_retract_all (in_group size g places) registry pending)

@@ -19,4 +19,6 @@ all_values spec places = count_sum (map (λ (pair : Pair). pair.1) (pairs_of spe
 -- an aggregate of totals without key column is plain: if no row group is pending it has one count and one sum
 abbrev pub plain_in : List Place → Option Registered → Option (ℕ × ℤ)
 plain_in places None = None
-plain_in places (Some aggregate) = cond (is_totals aggregate.spec.fold && is_none aggregate.spec.key && left aggregate.pending == 0) (Some (all_values aggregate.spec places)) None
+plain_in places (Some aggregate) = cond
+    (is_totals aggregate.spec.fold && is_none aggregate.spec.key && left aggregate.pending == 0)
+    (Some (all_values aggregate.spec places)) None

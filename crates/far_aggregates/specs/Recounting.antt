@@ -20,19 +20,26 @@ partial_at spec size places g = partial_of spec.fold (group_pairs spec size g pl
 -- the same of some row groups, in order, of which g is the first
 abbrev pub partials_from : Spec → ℕ → List Place → ℕ → ℕ → List PartialDone
 partials_from spec size places g zero = []
-partials_from spec size places g (suc n) = partial_at spec size places g ∷ partials_from spec size places (g + 1) n
+partials_from spec size places g (suc n) = partial_at spec size places g
+    ∷ partials_from spec size places (g + 1) n
 
 -- a partial of the same fold may be merged. A row group is pending. Counts stay small, and extrema have no row of the row group
 abbrev pub AccumulatorMayMerge : ℕ → PartialDone → Accumulator → Type 0
-AccumulatorMayMerge g (partial.Totals done) (accumulator.Totals live) = (live.left ≡ 0 → ⊥) × CanJoin live.totals done.totals
+AccumulatorMayMerge g (partial.Totals done) (accumulator.Totals live) =
+    (live.left ≡ 0 → ⊥) × CanJoin live.totals done.totals
 AccumulatorMayMerge g (partial.Totals done) (accumulator.Extrema live) = ⊥
 AccumulatorMayMerge g (partial.Extrema observed) (accumulator.Totals live) = ⊥
-AccumulatorMayMerge g (partial.Extrema observed) (accumulator.Extrema live) = (live.left ≡ 0 → ⊥) × (group_at live.groups g ≡ fin.empty)
+AccumulatorMayMerge g (partial.Extrema observed) (accumulator.Extrema live) =
+    (live.left ≡ 0 → ⊥) × (group_at live.groups g ≡ fin.empty)
 
 -- the rows of a partial aggregate are merged. Which keys are reserved is left open
 abbrev pub IsMerged : ℕ → PartialDone → Accumulator → Accumulator → Type 0
-IsMerged g (partial.Totals done) (accumulator.Totals live) new = new ≡ accumulator.Totals (record { left = live.left - 1; totals = joined_totals live.totals done.totals })
+IsMerged g (partial.Totals done) (accumulator.Totals live) new =
+    new
+    ≡ accumulator.Totals
+    (record { left = live.left - 1; totals = joined_totals live.totals done.totals })
 IsMerged g (partial.Totals done) (accumulator.Extrema live) new = ⊥
 IsMerged g (partial.Extrema observed) (accumulator.Totals live) new = ⊥
 IsMerged g (partial.Extrema observed) (accumulator.Extrema live) (accumulator.Totals new) = ⊥
-IsMerged g (partial.Extrema observed) (accumulator.Extrema live) (accumulator.Extrema new) = (new.left ≡ live.left - 1) × (new.groups ≡ slice_set (after_reserve g live.groups) g observed)
+IsMerged g (partial.Extrema observed) (accumulator.Extrema live) (accumulator.Extrema new) =
+    (new.left ≡ live.left - 1) × (new.groups ≡ slice_set (after_reserve g live.groups) g observed)

@@ -25,7 +25,8 @@ looks_at column (Some a) = needs a.spec column
 
 -- whether a test or the key of an aggregate looks at a column
 abbrev pub selects_by : ℕ → Spec → Bool
-selects_by column spec = list_any (λ test. column_of test == column) spec.filter || option_map_or (λ key. key == column) spec.key false
+selects_by column spec = list_any (λ test. column_of test == column) spec.filter
+    || option_map_or (λ key. key == column) spec.key false
 
 -- whether an accumulator is of totals
 abbrev pub is_of_totals : Accumulator → Bool
@@ -35,7 +36,8 @@ is_of_totals (accumulator.Extrema live) = false
 -- whether a registry entry looks at a column at most for the values of totals
 abbrev pub keeps_key : ℕ → RegistryEntry → Bool
 keeps_key column None = true
-keeps_key column (Some a) = not (selects_by column a.spec) && (is_of_totals a.accumulator || not (a.spec.value == column))
+keeps_key column (Some a) = not (selects_by column a.spec)
+    && (is_of_totals a.accumulator || not (a.spec.value == column))
 
 -- whether each registry entry does
 abbrev pub keeps_keys : ℕ → List RegistryEntry → Bool
@@ -44,22 +46,26 @@ keeps_keys column registry = list_all (keeps_key column) registry
 -- what a row of place i gives to a registry entry whose values stand in a column
 abbrev pub value_of : ℕ → ℕ → ℕ → ChangeBySpec → RegistryEntry → Change
 value_of column size i gives None = None
-value_of column size i gives (Some a) = cond (a.spec.value == column) (change_of size i gives (Some a)) None
+value_of column size i gives (Some a) = cond (a.spec.value == column)
+    (change_of size i gives (Some a)) None
 
 -- totals have another number in place of a pair's value
 abbrev pub accumulator_with : ℤ → Accumulator → Pair → Accumulator
-accumulator_with to (accumulator.Totals live) pair = accumulator.Totals (record live { totals = with_replaced live.totals pair.0 pair.1 to })
+accumulator_with to (accumulator.Totals live) pair = accumulator.Totals
+    (record live { totals = with_replaced live.totals pair.0 pair.1 to })
 accumulator_with to (accumulator.Extrema live) pair = accumulator.Extrema live
 
 -- an entry of the registry with the value of its pair replaced, if both are there
 abbrev pub after_replace : ℤ → RegistryEntry → Change → RegistryEntry
 after_replace to None change = None
 after_replace to (Some a) None = Some a
-after_replace to (Some a) (Some pair) = Some (record a { accumulator = accumulator_with to a.accumulator pair })
+after_replace to (Some a) (Some pair) = Some
+    (record a { accumulator = accumulator_with to a.accumulator pair })
 
 -- the value of a pair may be replaced: it is in totals
 abbrev pub AccumulatorMayReplace : Accumulator → Pair → Type 0
-AccumulatorMayReplace (accumulator.Totals live) pair = CanRetract pair.1 (fin.get live.totals pair.0)
+AccumulatorMayReplace (accumulator.Totals live) pair = CanRetract pair.1
+    (fin.get live.totals pair.0)
 AccumulatorMayReplace (accumulator.Extrema live) pair = ⊥
 
 -- so may that of the pair of an entry
@@ -70,7 +76,10 @@ MayReplace (Some a) (Some pair) = AccumulatorMayReplace a.accumulator pair
 
 -- and that of the pair of each entry
 abbrev pub EachMayReplace : List RegistryEntry → List Change → Type 0
-EachMayReplace registry pairs = (k : ℕ) (s : RegistryEntry) (c : Change) → slice_get registry k ≡ Some s → slice_get pairs k ≡ Some c → MayReplace s c
+EachMayReplace registry pairs = (k : ℕ) (s : RegistryEntry) (c : Change)
+    → slice_get registry k ≡ Some s
+    → slice_get pairs k ≡ Some c
+    → MayReplace s c
 
 -- the values of the noted pairs may be replaced
 pub record MayReplaceAll (registry : List RegistryEntry) (pending : Pending) : Type 0 where
@@ -83,6 +92,9 @@ after_replace_all to registry pending = zip_all (after_replace to) registry pend
 
 -- the values of the noted pairs may be replaced by any number. Once that stands in a column of the place too, the aggregates are those of
 -- the places
-pub record ReplacesAll (size place column : ℕ) (places : List Place) (registry : List RegistryEntry) (pending : Pending) : Type 0 where
+pub record ReplacesAll (size place column : ℕ) (places : List Place) (registry : List RegistryEntry)
+    (pending : Pending) : Type 0 where
   pub may : MayReplaceAll registry pending
-  pub kept : (to : ℤ) → Keeps size (places_after (edit.Set place column (cell.Int to)) places) (after_replace_all to registry pending)
+  pub kept : (to : ℤ)
+      → Keeps size (places_after (edit.Set place column (cell.Int to)) places)
+      (after_replace_all to registry pending)

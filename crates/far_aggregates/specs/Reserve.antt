@@ -24,9 +24,11 @@ AreReserved g registry = AllByRecursion (IsReserved g) registry
 -- an accumulator that is reserved for a row group
 abbrev pub accumulator_after_reserve : ℕ → Accumulator → Accumulator
 accumulator_after_reserve g (accumulator.Totals live) = accumulator.Totals live
-accumulator_after_reserve g (accumulator.Extrema live) = accumulator.Extrema (record live { groups = after_reserve g live.groups })
+accumulator_after_reserve g (accumulator.Extrema live) = accumulator.Extrema
+    (record live { groups = after_reserve g live.groups })
 
 -- an entry of the registry once it is reserved for a row group
 abbrev pub entry_after_reserve : ℕ → RegistryEntry → RegistryEntry
 entry_after_reserve g None = None
-entry_after_reserve g (Some a) = Some (record a { accumulator = accumulator_after_reserve g a.accumulator })
+entry_after_reserve g (Some a) = Some
+    (record a { accumulator = accumulator_after_reserve g a.accumulator })

@@ -15,20 +15,31 @@ use Rattle.far_aggregates.specs.Accumulators.{RegistryEntry, Change, pairs_here}
 
 -- one pair less: totals subtract it, extrema get the min-max of the rows that are left under its key
 abbrev pub accumulator_less : Spec → ℕ → List Place → Accumulator → Pair → Accumulator
-accumulator_less spec g here (accumulator.Totals live) pair = accumulator.Totals (record live { totals = without_pair live.totals pair })
-accumulator_less spec g here (accumulator.Extrema live) pair = accumulator.Extrema (record live { groups = slice_set live.groups g (put_min_max (group_at live.groups g) pair.0 (fin.get (extrema (pairs_here spec here)) pair.0)) })
+accumulator_less spec g here (accumulator.Totals live) pair =
+    accumulator.Totals (record live { totals = without_pair live.totals pair })
+accumulator_less spec g here (accumulator.Extrema live) pair =
+    accumulator.Extrema
+    (record live {
+      groups = slice_set live.groups g
+          (put_min_max (group_at live.groups g) pair.0
+          (fin.get (extrema (pairs_here spec here)) pair.0));
+    })
 
 -- an entry of the registry with its pair retracted, if both are there
 abbrev pub after_retract : ℕ → List Place → RegistryEntry → Change → RegistryEntry
 after_retract g here None change = None
 after_retract g here (Some a) None = Some a
-after_retract g here (Some a) (Some pair) = Some (record a { accumulator = accumulator_less a.spec g here a.accumulator pair })
+after_retract g here (Some a) (Some pair) = Some
+    (record a { accumulator = accumulator_less a.spec g here a.accumulator pair })
 
 -- a pair may be retracted. Totals have it (`CanRetract`). In extrema the min-max under its key is that of the rows that are left, widened
 -- by its value
 abbrev pub AccumulatorMayRetract : Spec → ℕ → List Place → Accumulator → Pair → Type 0
-AccumulatorMayRetract spec g here (accumulator.Totals live) pair = CanRetract pair.1 (fin.get live.totals pair.0)
-AccumulatorMayRetract spec g here (accumulator.Extrema live) pair = fin.get (group_at live.groups g) pair.0 ≡ Some (min_max_with pair.1 (fin.get (extrema (pairs_here spec here)) pair.0))
+AccumulatorMayRetract spec g here (accumulator.Totals live) pair =
+    CanRetract pair.1 (fin.get live.totals pair.0)
+AccumulatorMayRetract spec g here (accumulator.Extrema live) pair =
+    fin.get (group_at live.groups g) pair.0
+    ≡ Some (min_max_with pair.1 (fin.get (extrema (pairs_here spec here)) pair.0))
 
 -- the pair of an entry may be retracted
 abbrev pub MayRetract : ℕ → List Place → RegistryEntry → Change → Type 0
@@ -38,7 +49,10 @@ MayRetract g here (Some a) (Some pair) = AccumulatorMayRetract a.spec g here a.a
 
 -- the pair of each entry may be retracted
 abbrev pub EachMayRetract : ℕ → List Place → List RegistryEntry → List Change → Type 0
-EachMayRetract g here registry pairs = (k : ℕ) (s : RegistryEntry) (c : Change) → slice_get registry k ≡ Some s → slice_get pairs k ≡ Some c → MayRetract g here s c
+EachMayRetract g here registry pairs = (k : ℕ) (s : RegistryEntry) (c : Change)
+    → slice_get registry k ≡ Some s
+    → slice_get pairs k ≡ Some c
+    → MayRetract g here s c
 
 -- a pair is retracted without reading rows: from totals
 abbrev pub AccumulatorIsPlain : Accumulator → Type 0
@@ -53,4 +67,7 @@ IsPlain (Some a) (Some pair) = AccumulatorIsPlain a.accumulator
 
 -- the pair of each entry is retracted without reading rows
 abbrev pub EachIsPlain : List RegistryEntry → List Change → Type 0
-EachIsPlain registry pairs = (k : ℕ) (s : RegistryEntry) (c : Change) → slice_get registry k ≡ Some s → slice_get pairs k ≡ Some c → IsPlain s c
+EachIsPlain registry pairs = (k : ℕ) (s : RegistryEntry) (c : Change)
+    → slice_get registry k ≡ Some s
+    → slice_get pairs k ≡ Some c
+    → IsPlain s c

@@ -24,21 +24,33 @@ entry_after_scan g (Some aggregate) = Some (after_scan g aggregate)
 
 -- the rows of one row group more, at these places, are scanned. Which keys are reserved is left open
 abbrev pub IsScanned : Spec → ℕ → List Place → Accumulator → Accumulator → Type 0
-IsScanned spec g here (accumulator.Totals live) new = new ≡ accumulator.Totals (record { left = live.left - 1; totals = joined_totals live.totals (totals (pairs_here spec here)) })
+IsScanned spec g here (accumulator.Totals live) new = new
+    ≡ accumulator.Totals
+    (record {
+      left = live.left - 1;
+      totals = joined_totals live.totals (totals (pairs_here spec here));
+    })
 IsScanned spec g here (accumulator.Extrema live) (accumulator.Totals new) = ⊥
-IsScanned spec g here (accumulator.Extrema live) (accumulator.Extrema new) = (new.left ≡ live.left - 1) × (new.groups ≡ slice_set (after_reserve g live.groups) g (extrema (pairs_here spec here)))
+IsScanned spec g here (accumulator.Extrema live) (accumulator.Extrema new) =
+    (new.left ≡ live.left - 1)
+    × (new.groups ≡ slice_set (after_reserve g live.groups) g (extrema (pairs_here spec here)))
 
 -- the same rows are scanned. Which keys are reserved is left open
 abbrev pub IsSame : Accumulator → Accumulator → Type 0
 IsSame (accumulator.Totals live) new = new ≡ accumulator.Totals live
 IsSame (accumulator.Extrema live) (accumulator.Totals new) = ⊥
-IsSame (accumulator.Extrema live) (accumulator.Extrema new) = (new.left ≡ live.left) × (new.groups ≡ live.groups)
+IsSame (accumulator.Extrema live) (accumulator.Extrema new) =
+    (new.left ≡ live.left) × (new.groups ≡ live.groups)
 
 -- a row group is pending; the counts stay small, and no row of the row group is in the extrema
 abbrev pub AccumulatorMayScan : Spec → ℕ → List Place → Accumulator → Type 0
-AccumulatorMayScan spec g here (accumulator.Totals live) = (live.left ≡ 0 → ⊥) × CanJoin live.totals (totals (pairs_here spec here))
-AccumulatorMayScan spec g here (accumulator.Extrema live) = (live.left ≡ 0 → ⊥) × (group_at live.groups g ≡ fin.empty)
+AccumulatorMayScan spec g here (accumulator.Totals live) = (live.left ≡ 0 → ⊥)
+    × CanJoin live.totals (totals (pairs_here spec here))
+AccumulatorMayScan spec g here (accumulator.Extrema live) = (live.left ≡ 0 → ⊥)
+    × (group_at live.groups g ≡ fin.empty)
 
 -- the registry is up to date for a table of at most 2^24 rows in which this row group has these rows
 abbrev pub EntryMayScan : ℕ → ℕ → List Place → RegistryEntry → Type 0
-EntryMayScan size g here entry = (places : List Place) × (here ≡ in_group size g places) × (length places ≤ 2 ^ 24) × KeepsEntry size places entry
+EntryMayScan size g here entry = (places : List Place) × (here ≡ in_group size g places)
+    × (length places ≤ 2 ^ 24)
+    × KeepsEntry size places entry

@@ -127,8 +127,18 @@ impl Aggregates {
         requires size { 0 < size }
         requires few { places ≤ 2 ^ 24 }
         requires free { free_from 0 (registered_of self.old) ≡ Some a }
-        ensures registered { OnOk result (registered_of self.new ≡ slice_set (registered_of self.old) a (Some (record { spec = spec; registration = registration; pending = replicate (groups size places) true }))) }
-        ensures kept { (all : List Place) → length all ≡ places → Keeps size all self.old → Keeps size all self.new }
+        ensures registered { OnOk result
+            (registered_of self.new
+            ≡ slice_set (registered_of self.old) a
+            (Some
+            (record {
+              spec = spec;
+              registration = registration;
+              pending = replicate (groups size places) true;
+            }))) }
+        ensures kept { (all : List Place) → length all ≡ places
+            → Keeps size all self.old
+            → Keeps size all self.new }
         ensures unchanged { OnErr result (self.new ≡ self.old) }
         ensures memory { IfErr result (λ e. e ≡ Refusal.NoMemory) }
     {
@@ -155,7 +165,8 @@ impl Aggregates {
 
     /// Returns what the aggregate of a number computes, or `None` if there is none. Allocates nothing.
     pub fn spec(&self, a: u32) -> Option<&Spec>
-        ensures { option_copied result ≡ option_map (λ aggregate. aggregate.spec) (aggregate_in self.now a) }
+        ensures { option_copied result
+            ≡ option_map (λ aggregate. aggregate.spec) (aggregate_in self.now a) }
     {
         let aggregate = aggregate_at(self.registry.as_slice(), a)?;
         Some(&aggregate.spec)
@@ -163,7 +174,8 @@ impl Aggregates {
 
     /// Returns how many registrations were made before that of a number, or `None` if there is none. Allocates nothing.
     pub fn registration(&self, a: u32) -> Option<u64>
-        ensures { result ≡ option_map (λ aggregate. aggregate.registration) (aggregate_in self.now a) }
+        ensures { result
+            ≡ option_map (λ aggregate. aggregate.registration) (aggregate_in self.now a) }
     {
         let aggregate = aggregate_at(self.registry.as_slice(), a)?;
         Some(aggregate.registration)
@@ -190,8 +202,10 @@ impl Aggregates {
 
     /// Returns an aggregate and a row group that is pending in it, or `None` if there is none. Allocates nothing.
     pub fn first_pending(&self) -> Option<(u32, u32)>
-        ensures some { IfSome result (λ at. is_pending_in (aggregate_in self.now at.0) at.1 ≡ true) }
-        ensures none { IfNone result ((a : ℕ) → (g : ℕ) → is_pending_in (aggregate_in self.now a) g ≡ false) }
+        ensures some { IfSome result
+            (λ at. is_pending_in (aggregate_in self.now at.0) at.1 ≡ true) }
+        ensures none { IfNone result
+            ((a : ℕ) → (g : ℕ) → is_pending_in (aggregate_in self.now a) g ≡ false) }
     {
         first_pending(self.registry.as_slice())
     }
@@ -204,8 +218,13 @@ impl Aggregates {
     /// - `Building` (15): row groups are pending. It says how many.
     /// - `NoMemory` (1): an allocation fails.
     pub fn answer(&self, alloc: Global, a: u32) -> Result<Answer, Refusal>
-        ensures ok { IfOk result (λ answer. (size : ℕ) → (places : List Place) → 0 < size → Keeps size places self.now → Answers places (aggregate_in self.now a) answer) }
-        ensures err { IfErr result (λ e. (size : ℕ) → (places : List Place) → Keeps size places self.now → MayRefuse (ask_refusal (aggregate_in self.now a)) true e) }
+        ensures ok { IfOk result
+            (λ answer. (size : ℕ) → (places : List Place) → 0 < size
+            → Keeps size places self.now
+            → Answers places (aggregate_in self.now a) answer) }
+        ensures err { IfErr result
+            (λ e. (size : ℕ) → (places : List Place) → Keeps size places self.now
+            → MayRefuse (ask_refusal (aggregate_in self.now a)) true e) }
     {
         let Some(aggregate) = aggregate_at(self.registry.as_slice(), a) else {
             return Err(Refusal::NoAggregate);
@@ -221,8 +240,13 @@ impl Aggregates {
     /// - `NoAggregate` (12): there is no such aggregate.
     /// - `Building` (15): row groups are pending. It says how many.
     pub fn line(&self, a: u32, key: &Option<Key>) -> Result<Option<Line>, Refusal>
-        ensures ok { IfOk result (λ line. (size : ℕ) → (places : List Place) → 0 < size → Keeps size places self.now → AnswersKey places (aggregate_in self.now a) key.now line) }
-        ensures err { IfErr result (λ e. (size : ℕ) → (places : List Place) → Keeps size places self.now → MayRefuse (ask_refusal (aggregate_in self.now a)) false e) }
+        ensures ok { IfOk result
+            (λ line. (size : ℕ) → (places : List Place) → 0 < size
+            → Keeps size places self.now
+            → AnswersKey places (aggregate_in self.now a) key.now line) }
+        ensures err { IfErr result
+            (λ e. (size : ℕ) → (places : List Place) → Keeps size places self.now
+            → MayRefuse (ask_refusal (aggregate_in self.now a)) false e) }
     {
         let Some(aggregate) = aggregate_at(self.registry.as_slice(), a) else {
             return Err(Refusal::NoAggregate);
@@ -233,7 +257,8 @@ impl Aggregates {
     /// Returns how many rows the aggregate of a number folds, and the sum of their values, if it is of totals without key
     /// column. `None` for another, and while row groups are pending. Allocates nothing.
     pub fn plain(&self, a: u32) -> Option<(u64, i128)>
-        ensures { (size : ℕ) → (places : List Place) → Keeps size places self.now → result ≡ plain_in places (aggregate_in self.now a) }
+        ensures { (size : ℕ) → (places : List Place) → Keeps size places self.now
+            → result ≡ plain_in places (aggregate_in self.now a) }
     {
         let aggregate = aggregate_at(self.registry.as_slice(), a)?;
         plain(aggregate)
@@ -252,9 +277,15 @@ impl Aggregates {
         requires size { 0 < size }
         requires pending { is_pending_in (aggregate_in self.old a) number ≡ true }
         requires served { EntryIsServed (G.has group.now) (aggregate_in self.old a) }
-        requires kept { (places : List Place) × (G.places group.now ≡ in_group size number places) × AreUpToDate size places self.old }
-        ensures registered { OnOk result (registered_of self.new ≡ slice_set (registered_of self.old) a (entry_after_scan number (aggregate_in self.old a))) }
-        ensures kept { (places : List Place) → G.places group.now ≡ in_group size number places → Keeps size places self.old → Keeps size places self.new }
+        requires kept { (places : List Place) × (G.places group.now ≡ in_group size number places)
+            × AreUpToDate size places self.old }
+        ensures registered { OnOk result
+            (registered_of self.new
+            ≡ slice_set (registered_of self.old) a
+            (entry_after_scan number (aggregate_in self.old a))) }
+        ensures kept { (places : List Place) → G.places group.now ≡ in_group size number places
+            → Keeps size places self.old
+            → Keeps size places self.new }
         ensures unchanged { OnErr result (registered_of self.new ≡ registered_of self.old) }
         ensures memory { IfErr result (λ e. e ≡ Refusal.NoMemory) }
     {
@@ -278,7 +309,11 @@ impl Aggregates {
         requires size { 0 < size }
         requires few { place ≤ 2 ^ 24 }
         requires kept { (places : List Place) × AreUpToDate size places self.old }
-        ensures applied { OnOk result ((places : List Place) → (cells : List Cell) → length places ≡ place → R.cells row.now ≡ cells_of cells → Keeps size places self.old → Keeps size (places_after (edit.Insert cells) places) self.new) }
+        ensures applied { OnOk result
+            ((places : List Place) → (cells : List Cell) → length places ≡ place
+            → R.cells row.now ≡ cells_of cells
+            → Keeps size places self.old
+            → Keeps size (places_after (edit.Insert cells) places) self.new) }
         ensures undo { IfOk result (UndoesAll self.old self.new) }
         ensures unchanged { OnErr result (KeepsAsBefore self.old self.new) }
         ensures registered { registered_of self.new ≡ registered_of self.old }
@@ -327,7 +362,13 @@ impl Aggregates {
         requires few { place ≤ 2 ^ 24 }
         requires column { IsSome (R.cells row.now column) }
         requires kept { (places : List Place) × AreUpToDate size places self.old }
-        ensures retracts { IfOk result (λ pending. (places : List Place) → IsAliveAt (R.cells row.now) place places → AreUpToDate size places self.old → PlacesFit (places_after (edit.Set place column (lent_cell cell.entry)) places) → RetractsAll size (place / size) (places_after (edit.Set place column (lent_cell cell.entry)) places) self.new pending) }
+        ensures retracts { IfOk result
+            (λ pending. (places : List Place) → IsAliveAt (R.cells row.now) place places
+            → AreUpToDate size places self.old
+            → PlacesFit (places_after (edit.Set place column (lent_cell cell.entry)) places)
+            → RetractsAll size (place / size)
+            (places_after (edit.Set place column (lent_cell cell.entry)) places) self.new
+            pending) }
         ensures undo { IfOk result (UndoesAll self.old self.new) }
         ensures unchanged { OnErr result (KeepsAsBefore self.old self.new) }
         ensures registered { registered_of self.new ≡ registered_of self.old }
@@ -377,7 +418,11 @@ impl Aggregates {
     ) -> Result<Pending, Refusal>
         requires size { 0 < size }
         requires few { place ≤ 2 ^ 24 }
-        ensures retracts { IfOk result (λ pending. (places : List Place) → IsAliveAt (R.cells row.now) place places → AreUpToDate size places self.old → RetractsAll size (place / size) (places_after (edit.Remove place) places) self.new pending) }
+        ensures retracts { IfOk result
+            (λ pending. (places : List Place) → IsAliveAt (R.cells row.now) place places
+            → AreUpToDate size places self.old
+            → RetractsAll size (place / size) (places_after (edit.Remove place) places) self.new
+            pending) }
         ensures unchanged { KeepsAsBefore self.old self.new }
         ensures registered { registered_of self.new ≡ registered_of self.old }
         ensures memory { IfErr result (λ e. e ≡ Refusal.NoMemory) }
@@ -457,7 +502,8 @@ impl Aggregates {
     pub fn retract_totals(&mut self, pending: Pending)
         requires may { (here : List Place) × MayRetractAll here self.old pending }
         requires plain { EachIsPlain self.old pending.to_retract.items }
-        ensures retracted { (here : List Place) → self.new ≡ after_retract_all here self.old pending }
+        ensures retracted { (here : List Place)
+            → self.new ≡ after_retract_all here self.old pending }
         ensures registered { registered_of self.new ≡ registered_of self.old }
     {
         retract_totals(self.registry.as_mut_slice(), pending.to_retract.as_slice());

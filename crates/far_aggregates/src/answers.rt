@@ -32,8 +32,14 @@ fn lines_of(alloc: Global, live: &LiveTotals) -> Result<TotalLines, Refusal>
 /// - `Building` (15): row groups are pending. It says how many.
 /// - `NoMemory` (1): an allocation fails.
 pub fn answer(alloc: Global, aggregate: &Aggregate) -> Result<Answer, Refusal>
-    ensures ok { IfOk result (λ answer. (size : ℕ) → (places : List Place) → 0 < size → KeepsEntry size places (Some aggregate.now) → (left aggregate.now.pending ≡ 0) × (answer ≡ answer_over aggregate.now.spec (rows_of places))) }
-    ensures err { IfErr result (λ e. (size : ℕ) → (places : List Place) → KeepsEntry size places (Some aggregate.now) → MayRefuse (ask_refusal (registered_in (Some aggregate.now))) true e) }
+    ensures ok { IfOk result
+        (λ answer. (size : ℕ) → (places : List Place) → 0 < size
+        → KeepsEntry size places (Some aggregate.now)
+        → (left aggregate.now.pending ≡ 0)
+        × (answer ≡ answer_over aggregate.now.spec (rows_of places))) }
+    ensures err { IfErr result
+        (λ e. (size : ℕ) → (places : List Place) → KeepsEntry size places (Some aggregate.now)
+        → MayRefuse (ask_refusal (registered_in (Some aggregate.now))) true e) }
 {
     match &aggregate.accumulator {
         Accumulator::Totals(live) => {

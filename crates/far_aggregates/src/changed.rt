@@ -14,7 +14,8 @@ pub struct Changed<'a, R> {
 }
 
 impl<'a, R: LendCells> LendCells for Changed<'a, R> {
-    ghost cells = { λ changed. with_cell_at changed.column (lent_cell changed.cell) (R.cells changed.row.now) };
+    ghost cells = { λ changed. with_cell_at changed.column (lent_cell changed.cell)
+        (R.cells changed.row.now) };
 
     #[inline(always)]
     fn cell(&self, column: u32) -> Option<CellRef<'_>> {

@@ -63,8 +63,10 @@ fn add_to(
     value: i64,
 ) -> Result<Option<MinMax>, Refusal>
     requires { AccumulatorMayAdd group accumulator.old (key.now, value) }
-    ensures previous { IfOk result (λ previous. previous ≡ previous_in group key.now accumulator.old) }
-    ensures ok { OnOk result (accumulator.new ≡ accumulator_more group accumulator.old (key.now, value)) }
+    ensures previous { IfOk result
+        (λ previous. previous ≡ previous_in group key.now accumulator.old) }
+    ensures ok { OnOk result
+        (accumulator.new ≡ accumulator_more group accumulator.old (key.now, value)) }
     ensures err { OnErr result (accumulator.new ≡ accumulator.old) }
     ensures memory { IfErr result (λ e. e ≡ Refusal.NoMemory) }
 {
@@ -90,8 +92,11 @@ fn apply_under(
     requires folds { Folds entry.old }
     requires reserved { IsReserved group entry.old }
     requires place { vec_len deltas.old < vec_capacity deltas.old }
-    ensures ok { OnOk result (entry.new ≡ with_delta group entry.old (delta_in group entry.old (key_by number, value))) }
-    ensures deltas { OnOk result (deltas.new.items ≡ deltas.old.items ++ delta_in group entry.old (key_by number, value) ∷ []) }
+    ensures ok { OnOk result
+        (entry.new ≡ with_delta group entry.old (delta_in group entry.old (key_by number, value))) }
+    ensures deltas { OnOk result
+        (deltas.new.items
+        ≡ deltas.old.items ++ delta_in group entry.old (key_by number, value) ∷ []) }
     ensures capacity { vec_capacity deltas.new ≡ vec_capacity deltas.old }
     ensures err { OnErr result (entry.new ≡ entry.old) }
     ensures before { OnErr result (deltas.new.items ≡ deltas.old.items) }
@@ -129,8 +134,13 @@ fn apply_under_text(
     requires folds { Folds entry.old }
     requires reserved { IsReserved group entry.old }
     requires place { vec_len deltas.old < vec_capacity deltas.old }
-    ensures ok { OnOk result (entry.new ≡ with_delta group entry.old (delta_in group entry.old (Some (variants.Text text.now), value))) }
-    ensures deltas { OnOk result (deltas.new.items ≡ deltas.old.items ++ delta_in group entry.old (Some (variants.Text text.now), value) ∷ []) }
+    ensures ok { OnOk result
+        (entry.new
+        ≡ with_delta group entry.old
+        (delta_in group entry.old (Some (variants.Text text.now), value))) }
+    ensures deltas { OnOk result
+        (deltas.new.items
+        ≡ deltas.old.items ++ delta_in group entry.old (Some (variants.Text text.now), value) ∷ []) }
     ensures capacity { vec_capacity deltas.new ≡ vec_capacity deltas.old }
     ensures err { OnErr result (entry.new ≡ entry.old) }
     ensures before { OnErr result (deltas.new.items ≡ deltas.old.items) }
@@ -168,8 +178,13 @@ fn apply_next<R: LendCells>(
     requires folds { Folds entry.old }
     requires reserved { IsReserved (place / size) entry.old }
     requires place { vec_len deltas.old < vec_capacity deltas.old }
-    ensures ok { OnOk result (entry.new ≡ with_delta (place / size) entry.old (row_delta size place (row_gives (R.cells row.now)) entry.old)) }
-    ensures deltas { OnOk result (deltas.new.items ≡ deltas.old.items ++ row_delta size place (row_gives (R.cells row.now)) entry.old ∷ []) }
+    ensures ok { OnOk result
+        (entry.new
+        ≡ with_delta (place / size) entry.old
+        (row_delta size place (row_gives (R.cells row.now)) entry.old)) }
+    ensures deltas { OnOk result
+        (deltas.new.items
+        ≡ deltas.old.items ++ row_delta size place (row_gives (R.cells row.now)) entry.old ∷ []) }
     ensures capacity { vec_capacity deltas.new ≡ vec_capacity deltas.old }
     ensures err { OnErr result (entry.new ≡ entry.old) }
     ensures before { OnErr result (deltas.new.items ≡ deltas.old.items) }
@@ -209,11 +224,18 @@ pub fn apply_deltas<R: LendCells>(
     requires group { group ≡ place / size }
     requires folds { EachFolds registry.old }
     requires reserved { AreReserved (place / size) registry.old }
-    ensures ok { OnOk result (registry.new ≡ zip_all (with_delta (place / size)) registry.old (map (row_delta size place (row_gives (R.cells row.now))) registry.old)) }
-    ensures deltas { IfOk result (λ deltas. deltas.items ≡ map (row_delta size place (row_gives (R.cells row.now))) registry.old) }
+    ensures ok { OnOk result
+        (registry.new
+        ≡ zip_all (with_delta (place / size)) registry.old
+        (map (row_delta size place (row_gives (R.cells row.now))) registry.old)) }
+    ensures deltas { IfOk result
+        (λ deltas. deltas.items
+        ≡ map (row_delta size place (row_gives (R.cells row.now))) registry.old) }
     ensures len { IfOk result (λ deltas. length deltas.items ≡ length registry.new) }
-    ensures may_undo { IfOk result (λ deltas. EachMayUndo (place / size) (length registry.new) registry.new deltas.items) }
-    ensures undo { IfOk result (λ deltas. zip_all (undo (place / size)) registry.new deltas.items ≡ registry.old) }
+    ensures may_undo { IfOk result
+        (λ deltas. EachMayUndo (place / size) (length registry.new) registry.new deltas.items) }
+    ensures undo { IfOk result
+        (λ deltas. zip_all (undo (place / size)) registry.new deltas.items ≡ registry.old) }
     ensures err { OnErr result (registry.new ≡ registry.old) }
     ensures memory { IfErr result (λ e. e ≡ Refusal.NoMemory) }
 {

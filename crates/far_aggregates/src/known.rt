@@ -70,7 +70,8 @@ fn noted_in(plain: &[Option<MinMax>], group: usize) -> Option<MinMax>
 /// Returns whether a value is within a min-max, if there is one.
 #[inline(always)]
 fn is_within_noted(value: i64, min_max: &Option<MinMax>) -> bool
-    ensures { IsTrue result → (s : ℤ × ℤ) × (min_max.now ≡ Some s) × (s.0 ≤ℤ value) × (value ≤ℤ s.1) }
+    ensures { IsTrue result
+        → (s : ℤ × ℤ) × (min_max.now ≡ Some s) × (s.0 ≤ℤ value) × (value ≤ℤ s.1) }
 {
     match min_max {
         Some(min_max) => min_max.is_within(value),
@@ -86,9 +87,16 @@ fn observe_noted(
     noted: Option<MinMax>,
 ) -> Result<Option<MinMax>, Refusal>
     requires reserved { group < length live.old.groups }
-    requires noted { IfSome noted (λ min_max. fin.get (group_at live.old.groups group) None ≡ Some min_max) }
-    ensures previous { IfOk result (λ previous. previous ≡ fin.get (group_at live.old.groups group) None) }
-    ensures ok { OnOk result (live.new ≡ record live.old { groups = slice_set live.old.groups group (with_observed (group_at live.old.groups group) (None, value)) }) }
+    requires noted { IfSome noted
+        (λ min_max. fin.get (group_at live.old.groups group) None ≡ Some min_max) }
+    ensures previous { IfOk result
+        (λ previous. previous ≡ fin.get (group_at live.old.groups group) None) }
+    ensures ok { OnOk result
+        (live.new
+        ≡ record live.old {
+          groups = slice_set live.old.groups group
+              (with_observed (group_at live.old.groups group) (None, value));
+        }) }
     ensures err { OnErr result (live.new ≡ live.old) }
     ensures only_new { OnErr result (fin.get (group_at live.old.groups group) None ≡ None) }
     ensures memory { IfErr result (λ e. e ≡ Refusal.NoMemory) }
@@ -152,8 +160,14 @@ impl KnownExtrema {
     /// written.
     fn observe_plain(&mut self, group: u32, value: i64) -> Result<Option<MinMax>, Refusal>
         requires { group < length self.old.groups }
-        ensures previous { IfOk result (λ previous. previous ≡ fin.get (group_at self.old.groups group) None) }
-        ensures ok { OnOk result (self.new ≡ record self.old { groups = slice_set self.old.groups group (with_observed (group_at self.old.groups group) (None, value)) }) }
+        ensures previous { IfOk result
+            (λ previous. previous ≡ fin.get (group_at self.old.groups group) None) }
+        ensures ok { OnOk result
+            (self.new
+            ≡ record self.old {
+              groups = slice_set self.old.groups group
+                  (with_observed (group_at self.old.groups group) (None, value));
+            }) }
         ensures err { OnErr result (self.new ≡ self.old) }
         ensures only_new { OnErr result (fin.get (group_at self.old.groups group) None ≡ None) }
         ensures memory { IfErr result (λ e. e ≡ Refusal.NoMemory) }
@@ -181,8 +195,14 @@ impl KnownExtrema {
         value: i64,
     ) -> Result<Option<MinMax>, Refusal>
         requires { group < length self.old.groups }
-        ensures previous { IfOk result (λ previous. previous ≡ fin.get (group_at self.old.groups group) key.now) }
-        ensures ok { OnOk result (self.new ≡ record self.old { groups = slice_set self.old.groups group (with_observed (group_at self.old.groups group) (key.now, value)) }) }
+        ensures previous { IfOk result
+            (λ previous. previous ≡ fin.get (group_at self.old.groups group) key.now) }
+        ensures ok { OnOk result
+            (self.new
+            ≡ record self.old {
+              groups = slice_set self.old.groups group
+                  (with_observed (group_at self.old.groups group) (key.now, value));
+            }) }
         ensures err { OnErr result (self.new ≡ self.old) }
         ensures only_new { OnErr result (fin.get (group_at self.old.groups group) key.now ≡ None) }
         ensures memory { IfErr result (λ e. e ≡ Refusal.NoMemory) }
@@ -197,7 +217,11 @@ impl KnownExtrema {
     pub fn put_min_max(&mut self, group: u32, key: &Option<Key>, min_max: &Option<MinMax>)
         requires reserved { group < length self.old.groups }
         requires there { fin.get (group_at self.old.groups group) key.now ≢ None }
-        ensures { self.new ≡ record self.old { groups = slice_set self.old.groups group (put_min_max (group_at self.old.groups group) key.now min_max.now) } }
+        ensures { self.new
+            ≡ record self.old {
+              groups = slice_set self.old.groups group
+                  (put_min_max (group_at self.old.groups group) key.now min_max.now);
+            } }
     {
         self.live.put_min_max(group, key, *min_max);
         if key.is_none() {
@@ -209,8 +233,13 @@ impl KnownExtrema {
     fn shrink_plain<R: RowsLeft>(&mut self, group: u32, value: i64, rows: &R)
         requires reserved { group < length self.old.groups }
         requires at_hand { R.at_hand rows.now }
-        requires previous { fin.get (group_at self.old.groups group) None ≡ Some (min_max_with value (R.extremes rows.now)) }
-        ensures { self.new ≡ record self.old { groups = slice_set self.old.groups group (put_min_max (group_at self.old.groups group) None (R.extremes rows.now)) } }
+        requires previous { fin.get (group_at self.old.groups group) None
+            ≡ Some (min_max_with value (R.extremes rows.now)) }
+        ensures { self.new
+            ≡ record self.old {
+              groups = slice_set self.old.groups group
+                  (put_min_max (group_at self.old.groups group) None (R.extremes rows.now));
+            } }
     {
         if let Some(min_max) = noted_in(self.plain.as_slice(), group as usize) {
             if min_max.is_strictly_within(value) {
@@ -225,8 +254,13 @@ impl KnownExtrema {
     pub fn shrink<R: RowsLeft>(&mut self, group: u32, key: &Option<Key>, value: i64, rows: &R)
         requires reserved { group < length self.old.groups }
         requires at_hand { R.at_hand rows.now }
-        requires previous { fin.get (group_at self.old.groups group) key.now ≡ Some (min_max_with value (R.extremes rows.now)) }
-        ensures { self.new ≡ record self.old { groups = slice_set self.old.groups group (put_min_max (group_at self.old.groups group) key.now (R.extremes rows.now)) } }
+        requires previous { fin.get (group_at self.old.groups group) key.now
+            ≡ Some (min_max_with value (R.extremes rows.now)) }
+        ensures { self.new
+            ≡ record self.old {
+              groups = slice_set self.old.groups group
+                  (put_min_max (group_at self.old.groups group) key.now (R.extremes rows.now));
+            } }
     {
         match key {
             None => self.shrink_plain(group, value, rows),
@@ -252,7 +286,8 @@ impl KnownExtrema {
 
     /// Does what `LiveExtrema::answer` does.
     pub fn answer(&self, alloc: Global) -> Result<Answer, Refusal>
-        ensures ok { IfOk result (λ answer. answer ≡ Answer.Extrema (extrema_lines (all_groups self.now.groups))) }
+        ensures ok { IfOk result
+            (λ answer. answer ≡ Answer.Extrema (extrema_lines (all_groups self.now.groups))) }
         ensures all_scanned { OnOk result (self.now.left ≡ 0) }
         ensures building { self.now.left ≢ 0 → result ≡ Err (Refusal.Building self.now.left) }
         ensures memory { self.now.left ≡ 0 → IfErr result (λ e. e ≡ Refusal.NoMemory) }

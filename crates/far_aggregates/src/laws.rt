@@ -7,5 +7,8 @@ ghost use Rattle.far_aggregates.specs.Lending.{IsServed};
 
 /// An aggregate that may be had over a schema is served if all columns of the schema are available.
 pub fn an_aggregate_is_served_by_the_columns_of_its_schema()
-    ensures { (schema : List Kind) → (spec : Spec) → (has : ℕ → Bool) → spec_refusal schema spec ≡ None → ((c : ℕ) → c < length schema → has c ≡ true) → IsServed has spec }
+    ensures { (schema : List Kind) → (spec : Spec) → (has : ℕ → Bool)
+        → spec_refusal schema spec ≡ None
+        → ((c : ℕ) → c < length schema → has c ≡ true)
+        → IsServed has spec }
 {}

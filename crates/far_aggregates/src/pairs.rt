@@ -41,7 +41,8 @@ fn give_value<'a, R: LendCells>(
 ) -> PairRef<'a>
     requires size { 0 < size }
     requires group { group ≡ place / size }
-    ensures { lent_pair result ≡ value_of column size place (row_gives (R.cells row.now)) entry.now }
+    ensures { lent_pair result
+        ≡ value_of column size place (row_gives (R.cells row.now)) entry.now }
 {
     match entry {
         Some(aggregate) if aggregate.spec.value == column => {
@@ -91,7 +92,9 @@ pub fn row_pairs<R: LendCells>(
 ) -> Result<Vec<Option<Pair>>, Refusal>
     requires size { 0 < size }
     requires group { group ≡ place / size }
-    ensures ok { IfOk result (λ pairs. pairs.items ≡ map (change_of size place (row_gives (R.cells row.now))) registry.now) }
+    ensures ok { IfOk result
+        (λ pairs. pairs.items
+        ≡ map (change_of size place (row_gives (R.cells row.now))) registry.now) }
     ensures memory { IfErr result (λ e. e ≡ Refusal.NoMemory) }
 {
     let mut pairs = list;
@@ -118,7 +121,9 @@ pub fn value_pairs<R: LendCells>(
 ) -> Result<Vec<Option<Pair>>, Refusal>
     requires size { 0 < size }
     requires group { group ≡ place / size }
-    ensures ok { IfOk result (λ pairs. pairs.items ≡ map (value_of column size place (row_gives (R.cells row.now))) registry.now) }
+    ensures ok { IfOk result
+        (λ pairs. pairs.items
+        ≡ map (value_of column size place (row_gives (R.cells row.now))) registry.now) }
     ensures memory { IfErr result (λ e. e ≡ Refusal.NoMemory) }
 {
     let mut pairs = list;

@@ -20,8 +20,10 @@ use far_types::{Key, Refusal};
 /// Returns the first row group that is pending, with the lowest number of an aggregate that lacks it.
 pub fn first_pending(registry: &[Option<Aggregate>]) -> Option<(u32, u32)>
     requires { length registry.now ≤ 32 }
-    ensures some { IfSome result (λ at. has_pending at.1 (flattened (slice_get registry.now at.0)) ≡ true) }
-    ensures none { IfNone result ((a : ℕ) → (g : ℕ) → has_pending g (flattened (slice_get registry.now a)) ≡ false) }
+    ensures some { IfSome result
+        (λ at. has_pending at.1 (flattened (slice_get registry.now at.0)) ≡ true) }
+    ensures none { IfNone result
+        ((a : ℕ) → (g : ℕ) → has_pending g (flattened (slice_get registry.now a)) ≡ false) }
 {
     for i in 0..registry.len() {
         if let Some(aggregate) = &registry[i] {
@@ -35,7 +37,8 @@ pub fn first_pending(registry: &[Option<Aggregate>]) -> Option<(u32, u32)>
 
 /// Returns the count and the sum of an aggregate of totals without key column, if no row group is pending.
 pub fn plain(aggregate: &Aggregate) -> Option<(u64, i128)>
-    ensures { (size : ℕ) → (places : List Place) → KeepsEntry size places (Some aggregate.now) → result ≡ plain_in places (registered_in (Some aggregate.now)) }
+    ensures { (size : ℕ) → (places : List Place) → KeepsEntry size places (Some aggregate.now)
+        → result ≡ plain_in places (registered_in (Some aggregate.now)) }
 {
     match &aggregate.accumulator {
         Accumulator::Totals(live) => {
@@ -61,7 +64,8 @@ fn left_in(accumulator: &Accumulator) -> u32
 
 // Returns the line of a key of totals. Without key column they always have a line.
 fn total_line(live: &LiveTotals, column: Option<u32>, key: &Option<Key>) -> Option<Line>
-    ensures { KeysFit column live.now.totals → result ≡ line_in (answer.Totals (or_zero column (total_lines live.now.totals))) key.now }
+    ensures { KeysFit column live.now.totals
+        → result ≡ line_in (answer.Totals (or_zero column (total_lines live.now.totals))) key.now }
 {
     match live.get(key) {
         Some(found) => Some(Line::of_totals(found)),
@@ -77,7 +81,8 @@ fn total_line(live: &LiveTotals, column: Option<u32>, key: &Option<Key>) -> Opti
 
 // Returns the line of a key of extrema.
 fn extrema_line(live: &KnownExtrema, key: &Option<Key>) -> Option<Line>
-    ensures { result ≡ line_in (answer.Extrema (extrema_lines (all_groups live.now.groups))) key.now }
+    ensures { result
+        ≡ line_in (answer.Extrema (extrema_lines (all_groups live.now.groups))) key.now }
 {
     match live.get(key) {
         Some(found) => Some(Line::of_extrema(found)),
@@ -90,8 +95,13 @@ fn extrema_line(live: &KnownExtrema, key: &Option<Key>) -> Option<Line>
 ///
 /// Refused with `Building` (15) exactly if row groups are pending. It says how many.
 pub fn line(aggregate: &Aggregate, key: &Option<Key>) -> Result<Option<Line>, Refusal>
-    ensures ok { IfOk result (λ line. (size : ℕ) → (places : List Place) → 0 < size → KeepsEntry size places (Some aggregate.now) → AnswersKey places (registered_in (Some aggregate.now)) key.now line) }
-    ensures err { IfErr result (λ e. (size : ℕ) → (places : List Place) → KeepsEntry size places (Some aggregate.now) → MayRefuse (ask_refusal (registered_in (Some aggregate.now))) false e) }
+    ensures ok { IfOk result
+        (λ line. (size : ℕ) → (places : List Place) → 0 < size
+        → KeepsEntry size places (Some aggregate.now)
+        → AnswersKey places (registered_in (Some aggregate.now)) key.now line) }
+    ensures err { IfErr result
+        (λ e. (size : ℕ) → (places : List Place) → KeepsEntry size places (Some aggregate.now)
+        → MayRefuse (ask_refusal (registered_in (Some aggregate.now))) false e) }
 {
     let left = left_in(&aggregate.accumulator);
     if left != 0 {

@@ -22,10 +22,16 @@ fn merge_next(
 ) -> Result<(), Refusal>
     requires size { 0 < size }
     requires pending { is_pending aggregate.old.pending number ≡ true }
-    requires may { (places : List Place) × (length places ≤ 2 ^ 24) × (partial ≡ partial_at aggregate.old.spec size places number) × KeepsEntry size places (Some aggregate.old) }
+    requires may { (places : List Place) × (length places ≤ 2 ^ 24)
+        × (partial ≡ partial_at aggregate.old.spec size places number)
+        × KeepsEntry size places (Some aggregate.old) }
     ensures spec { OnOk result (aggregate.new.spec ≡ aggregate.old.spec) }
-    ensures pending { OnOk result (aggregate.new.pending ≡ slice_set aggregate.old.pending number false) }
-    ensures kept { OnOk result ((places : List Place) → partial ≡ partial_at aggregate.old.spec size places number → KeepsEntry size places (Some aggregate.old) → KeepsEntry size places (Some aggregate.new)) }
+    ensures pending { OnOk result
+        (aggregate.new.pending ≡ slice_set aggregate.old.pending number false) }
+    ensures kept { OnOk result
+        ((places : List Place) → partial ≡ partial_at aggregate.old.spec size places number
+        → KeepsEntry size places (Some aggregate.old)
+        → KeepsEntry size places (Some aggregate.new)) }
     ensures memory { IfErr result (λ e. e ≡ Refusal.NoMemory) }
 {
     merge_in(&mut aggregate.accumulator, number, partial)?;
@@ -45,8 +51,12 @@ pub fn answer_of(
 ) -> Result<Answer, Refusal>
     requires size { 0 < size }
     requires few { places ≤ 2 ^ 24 }
-    requires partials { (all : List Place) × (length all ≡ places) × (partials.items ≡ partials_from spec.now size all 0 (groups size places)) }
-    ensures answer { IfOk result (λ answer. (all : List Place) → length all ≡ places → partials.items ≡ partials_from spec.now size all 0 (groups size places) → answer ≡ answer_over spec.now (rows_of all)) }
+    requires partials { (all : List Place) × (length all ≡ places)
+        × (partials.items ≡ partials_from spec.now size all 0 (groups size places)) }
+    ensures answer { IfOk result
+        (λ answer. (all : List Place) → length all ≡ places
+        → partials.items ≡ partials_from spec.now size all 0 (groups size places)
+        → answer ≡ answer_over spec.now (rows_of all)) }
     ensures memory { IfErr result (λ e. e ≡ Refusal.NoMemory) }
 {
     let mut aggregate = new_aggregate(alloc, spec.clone()?, 0, size, places)?;

@@ -71,8 +71,16 @@ pub fn new_aggregate(
 ) -> Result<Aggregate, Refusal>
     requires size { 0 < size }
     requires few { places ≤ 2 ^ 24 }
-    ensures registered { IfOk result (λ a. registered_in (Some a) ≡ Some (record { spec = spec; registration = registration; pending = replicate (groups size places) true })) }
-    ensures kept { IfOk result (λ a. (all : List Place) → length all ≡ places → KeepsEntry size all (Some a)) }
+    ensures registered { IfOk result
+        (λ a. registered_in (Some a)
+        ≡ Some
+        (record {
+          spec = spec;
+          registration = registration;
+          pending = replicate (groups size places) true;
+        })) }
+    ensures kept { IfOk result
+        (λ a. (all : List Place) → length all ≡ places → KeepsEntry size all (Some a)) }
     ensures memory { IfErr result (λ e. e ≡ Refusal.NoMemory) }
 {
     let groups = group_count(size, places);
@@ -94,8 +102,12 @@ pub fn put(
     requires number { a < 32 }
     requires within { a ≤ length registry.old.items }
     requires numbers { length registry.old.items ≤ 32 }
-    ensures registered { OnOk result (registered_of registry.new.items ≡ slice_set (registered_of registry.old.items) a (registered_in (Some aggregate))) }
-    ensures kept { (size : ℕ) → (places : List Place) → Keeps size places registry.old.items → KeepsEntry size places (Some aggregate) → Keeps size places registry.new.items }
+    ensures registered { OnOk result
+        (registered_of registry.new.items
+        ≡ slice_set (registered_of registry.old.items) a (registered_in (Some aggregate))) }
+    ensures kept { (size : ℕ) → (places : List Place) → Keeps size places registry.old.items
+        → KeepsEntry size places (Some aggregate)
+        → Keeps size places registry.new.items }
     ensures numbers { length registry.new.items ≤ 32 }
     ensures unchanged { OnErr result (registry.new.items ≡ registry.old.items) }
     ensures memory { IfErr result (λ e. e ≡ Refusal.NoMemory) }
@@ -123,8 +135,18 @@ pub fn register(
     requires number { a < 32 }
     requires within { a ≤ length registry.old.items }
     requires numbers { length registry.old.items ≤ 32 }
-    ensures registered { OnOk result (registered_of registry.new.items ≡ slice_set (registered_of registry.old.items) a (Some (record { spec = spec; registration = registration; pending = replicate (groups size places) true }))) }
-    ensures kept { (all : List Place) → length all ≡ places → Keeps size all registry.old.items → Keeps size all registry.new.items }
+    ensures registered { OnOk result
+        (registered_of registry.new.items
+        ≡ slice_set (registered_of registry.old.items) a
+        (Some
+        (record {
+          spec = spec;
+          registration = registration;
+          pending = replicate (groups size places) true;
+        }))) }
+    ensures kept { (all : List Place) → length all ≡ places
+        → Keeps size all registry.old.items
+        → Keeps size all registry.new.items }
     ensures numbers { length registry.new.items ≤ 32 }
     ensures unchanged { OnErr result (registry.new.items ≡ registry.old.items) }
     ensures memory { IfErr result (λ e. e ≡ Refusal.NoMemory) }
@@ -136,8 +158,10 @@ pub fn register(
 /// Forgets the aggregate of a number.
 pub fn forget(registry: &mut Vec<Option<Aggregate>>, a: u32)
     requires { a < length registry.old.items }
-    ensures registered { registered_of registry.new.items ≡ slice_set (registered_of registry.old.items) a None }
-    ensures kept { (size : ℕ) → (places : List Place) → Keeps size places registry.old.items → Keeps size places registry.new.items }
+    ensures registered { registered_of registry.new.items
+        ≡ slice_set (registered_of registry.old.items) a None }
+    ensures kept { (size : ℕ) → (places : List Place) → Keeps size places registry.old.items
+        → Keeps size places registry.new.items }
     ensures numbers { length registry.new.items ≡ length registry.old.items }
 {
     registry[a as usize] = None;

@@ -21,7 +21,8 @@ fn reserve_one(entry: &mut Option<Aggregate>, group: u32)
 pub fn reserve_all(registry: &mut [Option<Aggregate>], group: u32)
     ensures reserved { AreReserved group registry.new }
     ensures registered { map registered_in registry.new ≡ map registered_in registry.old }
-    ensures kept { (size : ℕ) → (places : List Place) → Keeps size places registry.old → Keeps size places registry.new }
+    ensures kept { (size : ℕ) → (places : List Place) → Keeps size places registry.old
+        → Keeps size places registry.new }
 {
     for i in 0..registry.len() {
         reserve_one(&mut registry[i], group);

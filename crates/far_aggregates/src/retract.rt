@@ -43,7 +43,8 @@ struct Left<'a, G> {
 impl<'a, G: LendGroup> RowsLeft for Left<'a, G> {
     ghost at_hand = { λ left. IsServed (G.has left.group.now) left.spec.now };
 
-    ghost extremes = { λ left. fin.get (extrema (pairs_here left.spec.now (G.places left.group.now))) left.key.now };
+    ghost extremes = { λ left. fin.get
+        (extrema (pairs_here left.spec.now (G.places left.group.now))) left.key.now };
 
     /// Reads the rows that are left. It is not inlined, so that its callers keep no stack space for columns that are rarely read.
     #[inline(never)]
@@ -56,8 +57,16 @@ impl<'a, G: LendGroup> RowsLeft for Left<'a, G> {
 /// greatest under its key.
 fn shrink<G: LendGroup>(live: &mut KnownExtrema, spec: &Spec, group: &G, number: u32, pair: &Pair)
     requires served { IsServed (G.has group.now) spec.now }
-    requires observed { fin.get (group_at live.old.groups number) pair.now.0 ≡ Some (min_max_with pair.now.1 (fin.get (extrema (pairs_here spec.now (G.places group.now))) pair.now.0)) }
-    ensures { live.new ≡ record live.old { groups = slice_set live.old.groups number (put_min_max (group_at live.old.groups number) pair.now.0 (fin.get (extrema (pairs_here spec.now (G.places group.now))) pair.now.0)) } }
+    requires observed { fin.get (group_at live.old.groups number) pair.now.0
+        ≡ Some
+        (min_max_with pair.now.1
+        (fin.get (extrema (pairs_here spec.now (G.places group.now))) pair.now.0)) }
+    ensures { live.new
+        ≡ record live.old {
+          groups = slice_set live.old.groups number
+              (put_min_max (group_at live.old.groups number) pair.now.0
+              (fin.get (extrema (pairs_here spec.now (G.places group.now))) pair.now.0));
+        } }
 {
     let left = Left {
         spec,
@@ -98,7 +107,8 @@ pub fn retract_all<G: LendGroup>(
     requires served { AreServed (G.has group.now) (map registered_in registry.old) }
     requires len { length to_retract.now ≤ length registry.old }
     requires may { EachMayRetract number (G.places group.now) registry.old to_retract.now }
-    ensures { registry.new ≡ zip_all (after_retract number (G.places group.now)) registry.old to_retract.now }
+    ensures { registry.new
+        ≡ zip_all (after_retract number (G.places group.now)) registry.old to_retract.now }
 {
     for i in 0..to_retract.len() {
         retract_one(&mut registry[i], group, number, &to_retract[i]);

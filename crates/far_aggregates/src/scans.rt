@@ -25,7 +25,8 @@ use std::alloc::Global;
 fn fold_group<G: LendGroup>(alloc: Global, spec: &Spec, group: &G) -> Result<PartialDone, Refusal>
     requires few { length (G.places group.now) ≤ 2 ^ 24 }
     requires served { IsServed (G.has group.now) spec.now }
-    ensures partial { IfOk result (λ done. done ≡ partial_of spec.now.fold (pairs_here spec.now (G.places group.now))) }
+    ensures partial { IfOk result
+        (λ done. done ≡ partial_of spec.now.fold (pairs_here spec.now (G.places group.now))) }
     ensures memory { IfErr result (λ e. e ≡ Refusal.NoMemory) }
 {
     let columns = needed_columns(spec, group);
@@ -71,8 +72,15 @@ pub fn scan_totals<G: LendGroup>(
     requires served { IsServed (G.has group.now) spec.now }
     requires fold { spec.now.fold ≡ folds.Totals }
     requires left { live.old.left ≢ 0 }
-    requires can_join { CanJoin live.old.totals (totals (pairs_here spec.now (G.places group.now))) }
-    ensures ok { OnOk result (live.new ≡ record { left = live.old.left - 1; totals = joined_totals live.old.totals (totals (pairs_here spec.now (G.places group.now))) }) }
+    requires can_join { CanJoin live.old.totals
+        (totals (pairs_here spec.now (G.places group.now))) }
+    ensures ok { OnOk result
+        (live.new
+        ≡ record {
+          left = live.old.left - 1;
+          totals = joined_totals live.old.totals
+              (totals (pairs_here spec.now (G.places group.now)));
+        }) }
     ensures err { OnErr result (live.new ≡ live.old) }
     ensures memory { IfErr result (λ e. e ≡ Refusal.NoMemory) }
 {
@@ -89,7 +97,9 @@ pub fn observe_group<G: LendGroup>(
     group: &G,
 ) -> Result<(), Refusal>
     requires served { IsServed (G.has group.now) spec.now }
-    ensures ok { OnOk result (observed.new ≡ joined_extrema observed.old (extrema (pairs_here spec.now (G.places group.now)))) }
+    ensures ok { OnOk result
+        (observed.new
+        ≡ joined_extrema observed.old (extrema (pairs_here spec.now (G.places group.now)))) }
     ensures memory { IfErr result (λ e. e ≡ Refusal.NoMemory) }
 {
     let columns = needed_columns(spec, group);
@@ -108,7 +118,8 @@ fn scan<G: LendGroup>(
     requires served { IsServed (G.has group.now) spec.now }
     requires fold { fold_of accumulator.old ≡ spec.now.fold }
     requires may_scan { AccumulatorMayScan spec.now number (G.places group.now) accumulator.old }
-    ensures ok { OnOk result (IsScanned spec.now number (G.places group.now) accumulator.old accumulator.new) }
+    ensures ok { OnOk result
+        (IsScanned spec.now number (G.places group.now) accumulator.old accumulator.new) }
     ensures err { OnErr result (IsSame accumulator.old accumulator.new) }
     ensures memory { IfErr result (λ e. e ≡ Refusal.NoMemory) }
 {
@@ -132,8 +143,11 @@ fn scan_in<G: LendGroup>(
     requires pending { has_pending number entry.old ≡ true }
     requires served { EntryIsServed (G.has group.now) (registered_in entry.old) }
     requires may { EntryMayScan size number (G.places group.now) entry.old }
-    ensures registered { OnOk result (registered_in entry.new ≡ entry_after_scan number (registered_in entry.old)) }
-    ensures kept { (places : List Place) → G.places group.now ≡ in_group size number places → KeepsEntry size places entry.old → KeepsEntry size places entry.new }
+    ensures registered { OnOk result
+        (registered_in entry.new ≡ entry_after_scan number (registered_in entry.old)) }
+    ensures kept { (places : List Place) → G.places group.now ≡ in_group size number places
+        → KeepsEntry size places entry.old
+        → KeepsEntry size places entry.new }
     ensures unchanged { OnErr result (registered_in entry.new ≡ registered_in entry.old) }
     ensures memory { IfErr result (λ e. e ≡ Refusal.NoMemory) }
 {
@@ -162,11 +176,20 @@ pub fn scan_at<G: LendGroup>(
 ) -> Result<(), Refusal>
     requires size { 0 < size }
     requires pending { has_pending number (flattened (slice_get registry.old.items a)) ≡ true }
-    requires served { EntryIsServed (G.has group.now) (registered_in (flattened (slice_get registry.old.items a))) }
-    requires may { EntryMayScan size number (G.places group.now) (flattened (slice_get registry.old.items a)) }
-    ensures registered { OnOk result (registered_of registry.new.items ≡ slice_set (registered_of registry.old.items) a (entry_after_scan number (registered_in (flattened (slice_get registry.old.items a))))) }
-    ensures kept { (places : List Place) → G.places group.now ≡ in_group size number places → Keeps size places registry.old.items → Keeps size places registry.new.items }
-    ensures unchanged { OnErr result (registered_of registry.new.items ≡ registered_of registry.old.items) }
+    requires served { EntryIsServed (G.has group.now)
+        (registered_in (flattened (slice_get registry.old.items a))) }
+    requires may { EntryMayScan size number (G.places group.now)
+        (flattened (slice_get registry.old.items a)) }
+    ensures registered { OnOk result
+        (registered_of registry.new.items
+        ≡ slice_set (registered_of registry.old.items) a
+        (entry_after_scan number
+        (registered_in (flattened (slice_get registry.old.items a))))) }
+    ensures kept { (places : List Place) → G.places group.now ≡ in_group size number places
+        → Keeps size places registry.old.items
+        → Keeps size places registry.new.items }
+    ensures unchanged { OnErr result
+        (registered_of registry.new.items ≡ registered_of registry.old.items) }
     ensures memory { IfErr result (λ e. e ≡ Refusal.NoMemory) }
 {
     scan_in(alloc, &mut registry[a as usize], group, size, number)?;

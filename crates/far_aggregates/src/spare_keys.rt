@@ -51,8 +51,10 @@ impl SpareKeys {
 
     /// Keeps the key of a pair that is no longer needed, if it is a text and the list has capacity for it. Allocates nothing.
     pub fn keep(&mut self, pair: Pair)
-        ensures kept { vec_len self.old.keys < vec_capacity self.old.keys → self.new.keys.items ≡ self.old.keys.items ++ text_key pair.0 }
-        ensures full { vec_capacity self.old.keys ≤ vec_len self.old.keys → self.new.keys.items ≡ self.old.keys.items }
+        ensures kept { vec_len self.old.keys < vec_capacity self.old.keys
+            → self.new.keys.items ≡ self.old.keys.items ++ text_key pair.0 }
+        ensures full { vec_capacity self.old.keys ≤ vec_len self.old.keys
+            → self.new.keys.items ≡ self.old.keys.items }
         ensures capacity { vec_capacity self.new.keys ≡ vec_capacity self.old.keys }
     {
         if self.keys.len() == self.keys.capacity() {

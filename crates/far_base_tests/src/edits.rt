@@ -50,8 +50,11 @@ fn append(
     place: usize,
 ) -> Result<(), Refusal>
     requires few { place < 2 ^ 24 }
-    requires kept { (places : List Place) × (length places ≡ place) × AreUpToDate 4 places aggregates.old }
-    ensures { OnOk result ((places : List Place) × (length places ≡ place + 1) × AreUpToDate 4 places aggregates.new) }
+    requires kept { (places : List Place) × (length places ≡ place)
+        × AreUpToDate 4 places aggregates.old }
+    ensures { OnOk result
+        ((places : List Place) × (length places ≡ place + 1)
+        × AreUpToDate 4 places aggregates.new) }
 {
     let pending = aggregates.apply_deltas(alloc, sale, 4, place)?;
     aggregates.end(pending);

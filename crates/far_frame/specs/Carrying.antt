@@ -29,10 +29,12 @@ module _ {K : Type 0} where
 
   -- the ticket with this number, among those whose contents a work has yet to read
   abbrev pub wanted_of : (K → ℕ) → WorkOf K → ℕ → Option K
-  wanted_of number_of (work.Fetch fetch) number = ticket_with number_of ((of_either fetch).ticket ∷ []) number
+  wanted_of number_of (work.Fetch fetch) number = ticket_with number_of
+      ((of_either fetch).ticket ∷ []) number
   wanted_of number_of (work.Offload build) number = ticket_with number_of (tickets_of build) number
   wanted_of number_of _ number = None
 
   -- the number of the ticket at an index, among those whose contents a work has yet to read
   abbrev pub number_wanted : (K → ℕ) → WorkOf K → ℕ → Option ℕ
-  number_wanted number_of w index = cond (is_carried w) None (option_map number_of (slice_get (tickets_of_work w) index))
+  number_wanted number_of w index = cond (is_carried w) None
+      (option_map number_of (slice_get (tickets_of_work w) index))

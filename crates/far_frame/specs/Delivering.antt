@@ -15,7 +15,8 @@ DeliveryRefusal None given = IsOneOf (21 ∷ 1 ∷ []) given
 module _ {K : Type 0} where
   -- the ticket with this number, among those whose contents job n has yet to read
   abbrev pub wanted_by : (K → ℕ) → World K → ℕ → ℕ → Option K
-  wanted_by number_of world n number = option_and_then (λ (job : JobRecord K). wanted_of number_of job.work number) (job_at world.jobs n)
+  wanted_by number_of world n number = option_and_then
+      (λ (job : JobRecord K). wanted_of number_of job.work number) (job_at world.jobs n)
 
   -- the bytes are the content of the wanted ticket
   abbrev pub IsContentOf : (K → List ℕ) → Option K → List ℕ → Type 0
@@ -28,4 +29,5 @@ module _ {K : Type 0} where
 
     -- if the bytes match what the store noted, they are the wanted content
     abbrev pub HasNoCollision : (K → List ℕ) → Option K → List ℕ → Type 0
-    HasNoCollision content wanted bytes = IfSome wanted (λ ticket. matches ticket bytes → bytes ≡ content ticket)
+    HasNoCollision content wanted bytes = IfSome wanted
+        (λ ticket. matches ticket bytes → bytes ≡ content ticket)

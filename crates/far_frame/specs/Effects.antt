@@ -54,20 +54,28 @@ edit_reply table (edit.Remove place) = reply.Done
 module _ {K : Type 0} where
   -- why compacting a segment is refused: there is no such segment, every other segment has a part, or memory ran out
   abbrev pub CompactRefusal : Kind → ℕ → Rows K → Refusal → Type 0
-  CompactRefusal kind segment r given = ((given ≡ refusal.OutOfRange) × (segments_of kind r ≤ segment))
+  CompactRefusal kind segment r given =
+      ((given ≡ refusal.OutOfRange) × (segments_of kind r ≤ segment))
       ⊎ (((given ≡ refusal.RegionFull) × (segment < segments_of kind r) × HasNoOther kind segment r)
-      ⊎ ((given ≡ refusal.NoMemory) × (segment < segments_of kind r) × ¬ (HasNoOther kind segment r)))
+      ⊎ ((given ≡ refusal.NoMemory)
+      × (segment < segments_of kind r)
+      × ¬ (HasNoOther kind segment r)))
 
   -- why a step on the table is refused; the steps of jobs are not among these
   abbrev pub WhyRefused : State K → Step → Refusal → Type 0
   WhyRefused s (step.Edit e) given = MayRefuse (edit_due (live s) e) true given
   WhyRefused s (step.Watch spec) given = MayRefuse (watch_refusal s.table spec) true given
-  WhyRefused s (step.Unwatch a) given = MayRefuse (unwatch_refusal (aggregate_at s.table a)) false given
-  WhyRefused s (step.ScanGroup a g) given = MayRefuse (scan_refusal (live s) (aggregate_at s.table a) g) true given
+  WhyRefused s (step.Unwatch a) given = MayRefuse (unwatch_refusal (aggregate_at s.table a)) false
+      given
+  WhyRefused s (step.ScanGroup a g) given = MayRefuse
+      (scan_refusal (live s) (aggregate_at s.table a) g) true given
   WhyRefused s (step.Ask a) given = MayRefuse (ask_refusal (aggregate_at s.table a)) true given
-  WhyRefused s (step.Lend column from to) given = MayRefuse (lend_refusal s.rows column from to) true given
-  WhyRefused s (step.Pin column group) given = MayRefuse (pin_refusal s.rows column group) false given
-  WhyRefused s (step.Unpin column group) given = MayRefuse (unpin_refusal s.rows column group) false given
+  WhyRefused s (step.Lend column from to) given = MayRefuse (lend_refusal s.rows column from to)
+      true given
+  WhyRefused s (step.Pin column group) given = MayRefuse (pin_refusal s.rows column group) false
+      given
+  WhyRefused s (step.Unpin column group) given = MayRefuse (unpin_refusal s.rows column group) false
+      given
   WhyRefused s (step.Compact kind segment) given = CompactRefusal kind segment s.rows given
   WhyRefused s (step.Prefetch column) given = MayRefuse (prefetch_refusal s.table column) true given
   WhyRefused s (step.BeginEvac column group) given = ⊥
@@ -86,16 +94,29 @@ module _ {K : Type 0} where
     -- an accepted step: nothing refuses it, and its reply and its effect are those of the plain table. An answer is computed from scratch
     -- from the rows as they are now
     abbrev pub Accepts : State K → Step → Reply → State K → Type 0
-    Accepts old (step.Edit e) given new = (given ≡ edit_reply old.table e) × Alters (λ before after. IsEdited content before e after) old new
-    Accepts old (step.Watch spec) given new = (a : ℕ) × (given ≡ reply.Aggregate a) × Alters (λ before after. IsWatched before after spec a) old new
-    Accepts old (step.Unwatch a) given new = (given ≡ reply.Done) × Alters (λ before after. IsUnwatched before after a) old new
-    Accepts old (step.ScanGroup a g) given new = (given ≡ reply.Done) × Alters (λ before after. IsScanned before after a g) old new
-    Accepts old (step.Ask a) given new = (answer : Answer) × (given ≡ reply.Answer answer) × Answers old.table.places (aggregate_at old.table a) answer × (new ≡ old)
+    Accepts old (step.Edit e) given new = (given ≡ edit_reply old.table e)
+        × Alters (λ before after. IsEdited content before e after) old new
+    Accepts old (step.Watch spec) given new = (a : ℕ) × (given ≡ reply.Aggregate a)
+        × Alters (λ before after. IsWatched before after spec a) old new
+    Accepts old (step.Unwatch a) given new = (given ≡ reply.Done)
+        × Alters (λ before after. IsUnwatched before after a) old new
+    Accepts old (step.ScanGroup a g) given new = (given ≡ reply.Done)
+        × Alters (λ before after. IsScanned before after a g) old new
+    Accepts old (step.Ask a) given new = (answer : Answer) × (given ≡ reply.Answer answer)
+        × Answers old.table.places (aggregate_at old.table a) answer
+        × (new ≡ old)
     Accepts old (step.Lend column from to) given new = IsLent column from to old given new
-    Accepts old (step.Pin column group) given new = (given ≡ reply.Done) × (pin_refusal old.rows column group ≡ None) × Alters (IsMoved (IsPinned column group)) old new
-    Accepts old (step.Unpin column group) given new = (given ≡ reply.Done) × (unpin_refusal old.rows column group ≡ None) × Alters (IsMoved (IsUnpinned column group)) old new
-    Accepts old (step.Compact kind segment) given new = (given ≡ reply.Done) × Alters (IsMoved (IsCompactedOf kind segment)) old new
-    Accepts old (step.Prefetch column) given new = (prefetch_refusal old.table column ≡ None) × Proposes (next_groups old.table old.accesses column) given × (new ≡ old)
+    Accepts old (step.Pin column group) given new = (given ≡ reply.Done)
+        × (pin_refusal old.rows column group ≡ None)
+        × Alters (IsMoved (IsPinned column group)) old new
+    Accepts old (step.Unpin column group) given new = (given ≡ reply.Done)
+        × (unpin_refusal old.rows column group ≡ None)
+        × Alters (IsMoved (IsUnpinned column group)) old new
+    Accepts old (step.Compact kind segment) given new = (given ≡ reply.Done)
+        × Alters (IsMoved (IsCompactedOf kind segment)) old new
+    Accepts old (step.Prefetch column) given new = (prefetch_refusal old.table column ≡ None)
+        × Proposes (next_groups old.table old.accesses column) given
+        × (new ≡ old)
     Accepts old (step.BeginEvac column group) given new = ⊥
     Accepts old (step.BeginFetch column group) given new = ⊥
     Accepts old (step.BeginOffload a g) given new = ⊥
@@ -106,4 +127,5 @@ module _ {K : Type 0} where
 
     -- the effect on the table and its objects of a step with this reply
     abbrev pub Changes : State K → Step → Reply → State K → Type 0
-    Changes old s given new = Replies (λ served. Accepts old s served new) (λ why. Refuses old s why new) given
+    Changes old s given new = Replies (λ served. Accepts old s served new)
+        (λ why. Refuses old s why new) given

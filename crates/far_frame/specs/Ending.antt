@@ -17,4 +17,5 @@ module _ {K : Type 0} where
   -- the coldest object's evacuation begins, with the next job number; or there is no such object, and nothing changes
   abbrev pub IsColdestBegun : World K → Option ℕ → World K → Type 0
   IsColdestBegun old None new = (coldest old.state.rows ≡ None) × (new ≡ old)
-  IsColdestBegun old (Some n) new = IsBegun (λ job. IsColdestJob old.state.rows (Some job)) old (reply.Job n) new
+  IsColdestBegun old (Some n) new = IsBegun (λ job. IsColdestJob old.state.rows (Some job)) old
+      (reply.Job n) new

@@ -21,7 +21,9 @@ use Rattle.far_frame.specs.declared.job.JobPhase.TheVariants as work
 
 -- the work of a job, by kind and phase
 abbrev pub WorkOf : Type 0 → Type 0
-WorkOf K = JobPhase (ByKind (Evacuation K) (Evacuation K)) (ByKind (CarriedEvacuation K) (CarriedEvacuation K)) (ByKind (Fetch K) (Fetch K)) (ByKind (CarriedFetch K) (CarriedFetch K)) (Build K) (Build K)
+WorkOf K = JobPhase (ByKind (Evacuation K) (Evacuation K))
+    (ByKind (CarriedEvacuation K) (CarriedEvacuation K)) (ByKind (Fetch K) (Fetch K))
+    (ByKind (CarriedFetch K) (CarriedFetch K)) (Build K) (Build K)
 
 -- a job: the column and the row group of its object, if it moves one, and its work
 pub record JobRecord (K : Type 0) : Type 0 where
@@ -82,7 +84,8 @@ module _ {K : Type 0} where
 
   -- why carrying a work is refused
   abbrev pub WorkRefusal : WorkOf K → Refusal → Type 0
-  WorkRefusal (work.Evac evac) given = IsDirtyForm (of_either evac).form × IsOneOf (21 ∷ 22 ∷ 1 ∷ []) given
+  WorkRefusal (work.Evac evac) given = IsDirtyForm (of_either evac).form
+      × IsOneOf (21 ∷ 22 ∷ 1 ∷ []) given
   WorkRefusal (work.Fetch fetch) given = IsOneOf (21 ∷ 1 ∷ []) given
   WorkRefusal (work.Carried carried) given = given ≡ refusal.StaleJob
   WorkRefusal (work.Fetched fetched) given = given ≡ refusal.StaleJob
@@ -133,7 +136,8 @@ module _ {K : Type 0} where
     -- the coldest object's evacuation begins; or there is no such object, and no job
     abbrev pub IsColdestJob : Option (JobRecord K) → Type 0
     IsColdestJob None = coldest r ≡ None
-    IsColdestJob (Some job) = IsSomeAnd job.name (λ name. (coldest r ≡ Some name) × IsEvacJob r name.column name.group job)
+    IsColdestJob (Some job) = IsSomeAnd job.name
+        (λ name. (coldest r ≡ Some name) × IsEvacJob r name.column name.group job)
 
   -- the job is an offloaded build whose aggregate is no longer registered
   abbrev pub IsForgotten : State K → WorkOf K → Type 0
@@ -165,35 +169,49 @@ module _ {K : Type 0} where
     -- why a commit is refused: the job's assumptions no longer hold, or its object has a pin. A job that is not a carried evacuation is
     -- stale
     abbrev pub CommitRefusal : WorkOf K → Refusal → Type 0
-    CommitRefusal (work.Carried carried) given = ((given ≡ refusal.StaleJob) × ¬ (IsEvacAccepted number_of old.rows carried))
-        ⊎ ((given ≡ refusal.Pinned) × IsEvacAccepted number_of old.rows carried × (pins_by old.rows carried ≢ 0))
+    CommitRefusal (work.Carried carried) given =
+        ((given ≡ refusal.StaleJob) × ¬ (IsEvacAccepted number_of old.rows carried))
+        ⊎ ((given ≡ refusal.Pinned)
+        × IsEvacAccepted number_of old.rows carried
+        × (pins_by old.rows carried ≢ 0))
     CommitRefusal _ given = given ≡ refusal.StaleJob
 
     -- the job is a carried offloaded build that is accepted: its row group is scanned
     abbrev pub Merges : WorkOf K → State K → Type 0
-    Merges (work.Offloaded build) new = Alters (λ before after. IsMerged number_of before build after) old new
+    Merges (work.Offloaded build) new = Alters
+        (λ before after. IsMerged number_of before build after) old new
     Merges _ new = ⊥
 
     -- why a merge is refused: the job's aggregate is not registered, its assumptions no longer hold, or memory ran out. A build that was
     -- not carried is stale if its aggregate is registered. A job of another kind is stale
     abbrev pub MergeRefusal : WorkOf K → Refusal → Type 0
-    MergeRefusal (work.Offload build) given = ((given ≡ refusal.NoAggregate) × (aggregate_at old.table build.aggregate ≡ None))
+    MergeRefusal (work.Offload build) given =
+        ((given ≡ refusal.NoAggregate) × (aggregate_at old.table build.aggregate ≡ None))
         ⊎ ((given ≡ refusal.StaleJob) × IsSome (aggregate_at old.table build.aggregate))
-    MergeRefusal (work.Offloaded build) given = ((given ≡ refusal.NoAggregate) × (aggregate_at old.table build.aggregate ≡ None))
-        ⊎ (((given ≡ refusal.StaleJob) × IsSome (aggregate_at old.table build.aggregate) × ¬ (IsMergeable number_of (live old) build))
+    MergeRefusal (work.Offloaded build) given =
+        ((given ≡ refusal.NoAggregate) × (aggregate_at old.table build.aggregate ≡ None))
+        ⊎ (((given ≡ refusal.StaleJob)
+        × IsSome (aggregate_at old.table build.aggregate)
+        × ¬ (IsMergeable number_of (live old) build))
         ⊎ ((given ≡ refusal.NoMemory) × ¬ (¬ (IsMergeable number_of (live old) build))))
     MergeRefusal _ given = given ≡ refusal.StaleJob
 
     module _ (content : K → List ℕ) where
       -- the job is a carried fetch that is accepted: its object is local again
       abbrev pub Installs : WorkOf K → State K → Type 0
-      Installs (work.Fetched fetched) new = Alters (IsMoved (IsInstalled content number_of fetched)) old new
+      Installs (work.Fetched fetched) new = Alters (IsMoved (IsInstalled content number_of fetched))
+          old new
       Installs _ new = ⊥
 
       -- why an install is refused: the job's assumptions no longer hold, its object does not fit, or memory ran out. A job that is not a
       -- carried fetch is stale
       abbrev pub InstallRefusal : WorkOf K → Refusal → Type 0
-      InstallRefusal (work.Fetched fetched) given = ((given ≡ refusal.StaleJob) × ¬ (IsFetchAccepted number_of old.rows fetched))
-          ⊎ (((given ≡ refusal.RegionFull) × IsFetchAccepted number_of old.rows fetched × HasNoSpace content old.rows fetched)
-          ⊎ ((given ≡ refusal.NoMemory) × ¬ (¬ (IsFetchAccepted number_of old.rows fetched)) × ¬ (HasNoSpace content old.rows fetched)))
+      InstallRefusal (work.Fetched fetched) given =
+          ((given ≡ refusal.StaleJob) × ¬ (IsFetchAccepted number_of old.rows fetched))
+          ⊎ (((given ≡ refusal.RegionFull)
+          × IsFetchAccepted number_of old.rows fetched
+          × HasNoSpace content old.rows fetched)
+          ⊎ ((given ≡ refusal.NoMemory)
+          × ¬ (¬ (IsFetchAccepted number_of old.rows fetched))
+          × ¬ (HasNoSpace content old.rows fetched)))
       InstallRefusal _ given = given ≡ refusal.StaleJob

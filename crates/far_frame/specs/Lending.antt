@@ -36,7 +36,8 @@ piece_of column places = record { cells = column_of column places; flags = flags
 
 -- a lent part of a column: a piece for each row group that has some of its places
 abbrev pub lent_part : Table → ℕ → ℕ → ℕ → List Piece
-lent_part table column from to = map (piece_of column) (pieces_of table.places table.limits.group from to)
+lent_part table column from to = map (piece_of column)
+    (pieces_of table.places table.limits.group from to)
 
 -- a lent piece of numbers
 abbrev pub ints_lent : List (Option ℤ) × List Bool → Piece
@@ -44,7 +45,8 @@ ints_lent lent = record { cells = map int_cell lent.0; flags = lent.1 }
 
 -- a lent piece of texts
 abbrev pub texts_lent : List (Option (List ℕ) × Bool) → Piece
-texts_lent lent = record { cells = map (λ cell. text_cell cell.0) lent; flags = map (λ cell. cell.1) lent }
+texts_lent lent = record
+    { cells = map (λ cell. text_cell cell.0) lent; flags = map (λ cell. cell.1) lent }
 
 -- a copied piece of numbers
 abbrev pub int_piece : IntPiece → Piece
@@ -62,31 +64,40 @@ pieces_in _ = []
 
 -- the reply has these pieces, of a column of this kind
 abbrev pub IsReplyOf : Option Kind → List Piece → Reply → Type 0
-IsReplyOf of pieces (reply.Ints copies) = (of ≡ Some kind.Int) × (map int_piece copies.items ≡ pieces)
-IsReplyOf of pieces (reply.Texts copies) = (of ≡ Some kind.Text) × (map text_piece copies.items ≡ pieces)
+IsReplyOf of pieces (reply.Ints copies) = (of ≡ Some kind.Int)
+    × (map int_piece copies.items ≡ pieces)
+IsReplyOf of pieces (reply.Texts copies) = (of ≡ Some kind.Text)
+    × (map text_piece copies.items ≡ pieces)
 IsReplyOf of pieces _ = ⊥
 
 -- the access histories after some row groups of a column were accessed, in order
 abbrev pub after_access_all : List (List ℕ) → ℕ → List ℕ → List (List ℕ)
-after_access_all accesses column lent = fold (λ histories g. slice_set histories column (with_access (history_of histories column) g)) accesses lent
+after_access_all accesses column lent = fold
+    (λ histories g. slice_set histories column (with_access (history_of histories column) g))
+    accesses lent
 
 -- why a prefetch is refused: there is no such column
 abbrev pub prefetch_refusal : Table → ℕ → Option Refusal
-prefetch_refusal table column = first_of ((not (nat_lt column (length table.schema)), refusal.NoColumn) ∷ [])
+prefetch_refusal table column = first_of
+    ((not (nat_lt column (length table.schema)), refusal.NoColumn) ∷ [])
 
 -- the row groups of a column to fetch next
 abbrev pub next_groups : Table → List (List ℕ) → ℕ → List ℕ
-next_groups table accesses column = proposed (groups table.limits.group (length table.places)) (history_of accesses column)
+next_groups table accesses column = proposed (groups table.limits.group (length table.places))
+    (history_of accesses column)
 
 module _ {K : Type 0} where
   -- the objects after those of some row groups of a column were marked as recently used, in order
   abbrev pub after_touch_all : Rows K → ℕ → List ℕ → Rows K
-  after_touch_all r column lent = fold (λ rows g. option_map_or (after_touch rows) (object_at rows column g) rows) r lent
+  after_touch_all r column lent = fold
+      (λ rows g. option_map_or (after_touch rows) (object_at rows column g) rows) r lent
 
   -- why lending a part of a column is refused: there is no such column, the places do not all exist, or the object of a row group with some
   -- of them is away. The refusal names the first such object
   abbrev pub lend_refusal : Rows K → ℕ → ℕ → ℕ → Option Refusal
-  lend_refusal r column from to = first_of (no_column r column ∷ no_range r from to ∷ map (absent_in r column) (overlapped_groups r.size from to))
+  lend_refusal r column from to = first_of
+      (no_column r column ∷ no_range r from to
+      ∷ map (absent_in r column) (overlapped_groups r.size from to))
 
   -- row groups of a column were accessed, in order: their objects are marked as recently used, and the history has them
   pub record AreObserved (column : ℕ) (lent : List ℕ) (old new : State K) : Type 0 where
@@ -95,7 +106,9 @@ module _ {K : Type 0} where
     pub accesses : new.accesses ≡ after_access_all old.accesses column lent
 
   -- a part of a column is lent
-  pub record IsLent (column from to : ℕ) (old : State K) (given : Reply) (new : State K) : Type 0 where
+  pub record IsLent (column from to : ℕ) (old : State K) (given : Reply)
+      (new : State K) : Type 0 where
     pub due : lend_refusal old.rows column from to ≡ None
-    pub says : IsReplyOf (slice_get old.table.schema column) (lent_part old.table column from to) given
+    pub says : IsReplyOf (slice_get old.table.schema column) (lent_part old.table column from to)
+        given
     pub used : AreObserved column (overlapped_groups old.rows.size from to) old new

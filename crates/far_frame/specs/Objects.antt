@@ -14,7 +14,14 @@ use Rattle.far_frame.specs.State.{State}
 module _ {K : Type 0} (number_of : K → ℕ) where
   -- the state of an object of one kind
   abbrev pub state_in : {X : Type 0} → Movement X K → ℕ → ObjectState
-  state_in m o = record { local = is_local m o; dirty = dirty m o; hot = hot m o; pins = pins_of m o; version = version_of m o; copy = option_map number_of (ticket_of m o) }
+  state_in m o = record {
+    local = is_local m o;
+    dirty = dirty m o;
+    hot = hot m o;
+    pins = pins_of m o;
+    version = version_of m o;
+    copy = option_map number_of (ticket_of m o);
+  }
 
   -- the state of an object of either kind
   abbrev pub state_of : Rows K → Object → ObjectState
@@ -23,9 +30,16 @@ module _ {K : Type 0} (number_of : K → ℕ) where
 
 -- the space of a region, and the number and the size of its segments
 abbrev pub space_with : {X : Type 0} → RegionState X → ℕ → ℕ → Space
-space_with region segments size = record { used = capacity_of region - space_of region; free = space_of region; segments = segments; size = size }
+space_with region segments size = record {
+  used = capacity_of region - space_of region;
+  free = space_of region;
+  segments = segments;
+  size = size;
+}
 
 -- the space of the local region for objects of one kind
 abbrev pub space_at : {K : Type 0} → State K → Kind → Space
-space_at s kind.Int = space_with s.rows.number_objects.memory.state s.table.limits.int_segments s.table.limits.int_size
-space_at s kind.Text = space_with s.rows.text_objects.memory.state s.table.limits.text_segments s.table.limits.text_size
+space_at s kind.Int = space_with s.rows.number_objects.memory.state s.table.limits.int_segments
+    s.table.limits.int_size
+space_at s kind.Text = space_with s.rows.text_objects.memory.state s.table.limits.text_segments
+    s.table.limits.text_size

@@ -16,5 +16,6 @@ IsOfObjects given = IsOneOf (16 ∷ 17 ∷ []) given
 -- plain list accepts it, and memory ran out
 abbrev pub IsPlainRefusal : Table → Edit → Refusal → Type 0
 IsPlainRefusal table e given = (edit_refusal table e ≡ Some given)
-    ⊎ (((first_of (edit_faults table.schema table.limits table.places e) ≡ None) × IsOfObjects given)
+    ⊎ (((first_of (edit_faults table.schema table.limits table.places e) ≡ None)
+    × IsOfObjects given)
     ⊎ ((edit_refusal table e ≡ None) × (given ≡ refusal.NoMemory)))

@@ -10,9 +10,13 @@ module _ {K L : Type 0} (content : K → List ℕ) (new_content : L → List ℕ
   pub record IsMigrated (old : State K) (new : State L) : Type 0 where
     pub tickets : RowsTickets L
     pub renews : RenewsRows content new_content old.rows tickets
-    pub state : new ≡ record { table = old.table; rows = renewed_rows old.rows tickets; accesses = old.accesses }
+    pub state : new
+        ≡ record
+        { table = old.table; rows = renewed_rows old.rows tickets; accesses = old.accesses }
 
   -- the same for a world: the numbers of all jobs begun so far are spent, and the counts of jobs and faults continue
   pub record IsMigratedTo (id : List ℕ) (old : World K) (new : World L) : Type 0 where
     pub migrated : IsMigrated old.state new.state
-    pub world : new ≡ record { state = new.state; store = id; begun = old.begun; jobs = []; faults = old.faults }
+    pub world : new
+        ≡ record
+        { state = new.state; store = id; begun = old.begun; jobs = []; faults = old.faults }

@@ -43,7 +43,8 @@ rows_after (step.Merge n) places = places
 abbrev pub plain_rows : List Step → List Reply → List Place → List Place
 plain_rows [] replies places = places
 plain_rows (s ∷ steps) [] places = places
-plain_rows (s ∷ steps) (given ∷ replies) places = plain_rows steps replies (cond (is_refused given) places (rows_after s places))
+plain_rows (s ∷ steps) (given ∷ replies) places = plain_rows steps replies
+    (cond (is_refused given) places (rows_after s places))
 
 -- whether the step lends a part of a column, pins or moves objects, proposes which to move next, or concerns a job that does
 abbrev pub is_movement : Step → Bool

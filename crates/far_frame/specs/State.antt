@@ -16,7 +16,11 @@ pub record State (K : Type 0) : Type 0 where
 
 -- a new table
 abbrev pub empty_state : {K : Type 0} → List Kind → Limits → ℕ → State K
-empty_state schema limits number = record { table = empty_table schema limits; rows = empty_rows schema limits number; accesses = replicate (length schema) [] }
+empty_state schema limits number = record {
+  table = empty_table schema limits;
+  rows = empty_rows schema limits number;
+  accesses = replicate (length schema) [];
+}
 
 module _ {K : Type 0} where
   -- the table and its rows, without the access history

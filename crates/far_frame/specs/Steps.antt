@@ -14,7 +14,8 @@ use Rattle.far_frame.specs.Worlds.{World, IsBegun, IsNotBegun, IsCarry, IsNoCarr
 module _ {K : Type 0} (content : K → List ℕ) (number_of : K → ℕ) (old : World K) where
   -- only the state changes: not the jobs, the store or the faults
   abbrev pub OnTable : Step → Reply → World K → Type 0
-  OnTable s given new = Changes content old.state s given new.state × (new ≡ record old { state = new.state })
+  OnTable s given new = Changes content old.state s given new.state
+      × (new ≡ record old { state = new.state })
 
   -- the world `old` becomes `new` by a step with this reply
   abbrev pub IsStep : Step → Reply → World K → Type 0
@@ -28,13 +29,27 @@ module _ {K : Type 0} (content : K → List ℕ) (number_of : K → ℕ) (old : 
   IsStep (step.Unpin column group) given new = OnTable (step.Unpin column group) given new
   IsStep (step.Compact kind segment) given new = OnTable (step.Compact kind segment) given new
   IsStep (step.Prefetch column) given new = OnTable (step.Prefetch column) given new
-  IsStep (step.BeginEvac column group) given new = Replies (λ served. IsBegun (IsEvacJob old.state.rows column group) old served new) (λ why. IsNotBegun (evac_refusal old.state.rows column group) old why new) given
-  IsStep (step.BeginFetch column group) given new = Replies (λ served. IsBegun (IsFetchJob old.state.rows column group) old served new) (λ why. IsNotBegun (fetch_refusal old.state.rows column group) old why new) given
-  IsStep (step.BeginOffload a g) given new = Replies (λ served. IsBegun (IsOffloadJob old.state a g) old served new) (λ why. IsNotBegun (offload_refusal (live old.state) (aggregate_at old.state.table a) g) old why new) given
-  IsStep (step.Carry n) given new = Replies (λ served. IsCarry content n old served new) (λ why. IsNoCarry n old why new) given
-  IsStep (step.Commit n) given new = Replies (λ served. IsEnded (Commits number_of old.state) n old served new) (λ why. IsNotEnded (CommitRefusal number_of old.state) n old why new) given
-  IsStep (step.Install n) given new = Replies (λ served. IsEnded (Installs number_of old.state content) n old served new) (λ why. IsNotEnded (InstallRefusal number_of old.state content) n old why new) given
-  IsStep (step.Merge n) given new = Replies (λ served. IsEnded (Merges number_of old.state) n old served new) (λ why. IsNotEnded (MergeRefusal number_of old.state) n old why new) given
+  IsStep (step.BeginEvac column group) given new = Replies
+      (λ served. IsBegun (IsEvacJob old.state.rows column group) old served new)
+      (λ why. IsNotBegun (evac_refusal old.state.rows column group) old why new) given
+  IsStep (step.BeginFetch column group) given new = Replies
+      (λ served. IsBegun (IsFetchJob old.state.rows column group) old served new)
+      (λ why. IsNotBegun (fetch_refusal old.state.rows column group) old why new) given
+  IsStep (step.BeginOffload a g) given new = Replies
+      (λ served. IsBegun (IsOffloadJob old.state a g) old served new)
+      (λ why. IsNotBegun (offload_refusal (live old.state) (aggregate_at old.state.table a) g) old
+      why new) given
+  IsStep (step.Carry n) given new = Replies (λ served. IsCarry content n old served new)
+      (λ why. IsNoCarry n old why new) given
+  IsStep (step.Commit n) given new = Replies
+      (λ served. IsEnded (Commits number_of old.state) n old served new)
+      (λ why. IsNotEnded (CommitRefusal number_of old.state) n old why new) given
+  IsStep (step.Install n) given new = Replies
+      (λ served. IsEnded (Installs number_of old.state content) n old served new)
+      (λ why. IsNotEnded (InstallRefusal number_of old.state content) n old why new) given
+  IsStep (step.Merge n) given new = Replies
+      (λ served. IsEnded (Merges number_of old.state) n old served new)
+      (λ why. IsNotEnded (MergeRefusal number_of old.state) n old why new) given
 
 module _ {K : Type 0} (content : K → List ℕ) (number_of : K → ℕ) where
   -- the world `old` becomes `new` by these steps with these replies, one for each
@@ -42,4 +57,6 @@ module _ {K : Type 0} (content : K → List ℕ) (number_of : K → ℕ) where
   IsRun old [] [] new = new ≡ old
   IsRun old [] (given ∷ replies) new = ⊥
   IsRun old (s ∷ steps) [] new = ⊥
-  IsRun old (s ∷ steps) (given ∷ replies) new = (mid : World K) × IsStep content number_of old s given mid × IsRun mid steps replies new
+  IsRun old (s ∷ steps) (given ∷ replies) new = (mid : World K)
+      × IsStep content number_of old s given mid
+      × IsRun mid steps replies new

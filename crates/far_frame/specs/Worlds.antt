@@ -27,16 +27,19 @@ pub record World (K : Type 0) : Type 0 where
 
 module _ {K : Type 0} where
   -- what is always true: every ticket is of the world's store
-  pub record IsWorld (is_of : K → List ℕ → Type 0) (id : List ℕ) (state : State K) (jobs : Waiting K) : Type 0 where
+  pub record IsWorld (is_of : K → List ℕ → Type 0) (id : List ℕ) (state : State K)
+      (jobs : Waiting K) : Type 0 where
     pub rows_at : AreAt is_of id state.rows
     pub jobs_at : AreJobsAt is_of id jobs
 
   -- as many jobs were begun as the limits allow
   abbrev pub used_up : World K → Option Refusal
-  used_up world = first_of ((not (nat_lt world.begun world.state.table.limits.edits), refusal.EditsUsedUp) ∷ [])
+  used_up world = first_of
+      ((not (nat_lt world.begun world.state.table.limits.edits), refusal.EditsUsedUp) ∷ [])
 
   -- a job begins, with the next number
-  pub record IsBegun (begins : JobRecord K → Type 0) (old : World K) (given : Reply) (new : World K) : Type 0 where
+  pub record IsBegun (begins : JobRecord K → Type 0) (old : World K) (given : Reply)
+      (new : World K) : Type 0 where
     pub says : given ≡ reply.Job old.begun
     pub few : old.begun < old.state.table.limits.edits
     pub job : JobRecord K
@@ -44,12 +47,14 @@ module _ {K : Type 0} where
     pub world : new ≡ record old { begun = old.begun + 1; jobs = one_more old.jobs old.begun job }
 
   -- no job begins: it is refused, the numbers are used up, or memory ran out
-  pub record IsNotBegun (due : Option Refusal) (old : World K) (given : Refusal) (new : World K) : Type 0 where
+  pub record IsNotBegun (due : Option Refusal) (old : World K) (given : Refusal)
+      (new : World K) : Type 0 where
     pub refused : MayRefuse (option_or due (used_up old)) true given
     pub world : new ≡ old
 
   -- the job with this number was carried, and nothing else changed
-  pub record IsCarry (content : K → List ℕ) (n : ℕ) (old : World K) (given : Reply) (new : World K) : Type 0 where
+  pub record IsCarry (content : K → List ℕ) (n : ℕ) (old : World K) (given : Reply)
+      (new : World K) : Type 0 where
     pub says : given ≡ reply.Done
     pub carried : IsCarriedAt content n old.jobs new.jobs
     pub world : new ≡ record old { jobs = new.jobs }
@@ -61,15 +66,18 @@ module _ {K : Type 0} where
     pub world : new ≡ record old { faults = old.faults + faults_of given }
 
   -- the job with this number is accepted at its end, and the number is spent
-  pub record IsEnded (ends : WorkOf K → State K → Type 0) (n : ℕ) (old : World K) (given : Reply) (new : World K) : Type 0 where
+  pub record IsEnded (ends : WorkOf K → State K → Type 0) (n : ℕ) (old : World K) (given : Reply)
+      (new : World K) : Type 0 where
     pub says : given ≡ reply.Done
     pub ended : IsSomeAnd (job_at old.jobs n) (λ job. ends job.work new.state)
     pub world : new ≡ record old { state = new.state; jobs = without_job old.jobs n }
 
   -- the end of the job with this number is refused, and the number is spent exactly if the job is stale
-  pub record IsNotEnded (why : WorkOf K → Refusal → Type 0) (n : ℕ) (old : World K) (given : Refusal) (new : World K) : Type 0 where
+  pub record IsNotEnded (why : WorkOf K → Refusal → Type 0) (n : ℕ) (old : World K)
+      (given : Refusal) (new : World K) : Type 0 where
     pub refused : RefusalAt (λ job. why job.work) (job_at old.jobs n) given
-    pub world : new ≡ record old { jobs = cond (spends (Err given)) (without_job old.jobs n) old.jobs }
+    pub world : new
+        ≡ record old { jobs = cond (spends (Err given)) (without_job old.jobs n) old.jobs }
 
   -- each job has a number of its own, which was given out: it is below the count of jobs begun
   pub record AreNumbered (world : World K) : Type 0 where

@@ -83,7 +83,8 @@ impl<S: FarTickets> Model for Frame<S> {
 
     ghost Value = { State S.Ticket };
 
-    ghost view = { λ f. record { table = f.table.table; rows = f.table.rows; accesses = f.prefetcher } };
+    ghost view = { λ f. record
+        { table = f.table.table; rows = f.table.rows; accesses = f.prefetcher } };
 }
 
 impl<S: FarTickets> Frame<S> {
@@ -102,7 +103,9 @@ impl<S: FarTickets> Frame<S> {
         ensures ok { IfOk result (λ frame. frame ≡ empty_state schema limits number) }
         ensures limits { OnOk result (AreLimits limits) }
         ensures here { IfOk result (λ frame. (id : List ℕ) → AreAt S.is_of id frame.rows) }
-        ensures bad { IfErr result (λ e. ((e ≡ Refusal.BadSchema) × ¬ (AreLimits limits)) ⊎ ((e ≡ Refusal.NoMemory) × AreLimits limits)) }
+        ensures bad { IfErr result
+            (λ e. ((e ≡ Refusal.BadSchema) × ¬ (AreLimits limits))
+            ⊎ ((e ≡ Refusal.NoMemory) × AreLimits limits)) }
     {
         let columns = schema.len();
         let table = LiveTable::open(alloc, schema, limits, number)?;
@@ -130,9 +133,13 @@ impl<S: FarTickets> Frame<S> {
     /// - `Absent` (16): the last row group is begun, and an object of it is away.
     /// - `ChunkFull` (11), `RegionFull` (17), `EditsUsedUp` (24), `NoMemory` (1)
     pub fn insert(&mut self, row: Row) -> Result<u32, Refusal>
-        ensures ok { IfOk result (λ place. Accepts S.content self.old (step.Edit (edit.Insert row)) (reply.Place place) self.new) }
-        ensures err { IfErr result (λ e. Refuses self.old (step.Edit (edit.Insert row)) e self.new) }
-        ensures here { (id : List ℕ) → AreAt S.is_of id self.old.rows → AreAt S.is_of id self.new.rows }
+        ensures ok { IfOk result
+            (λ place. Accepts S.content self.old (step.Edit (edit.Insert row)) (reply.Place place)
+            self.new) }
+        ensures err { IfErr result
+            (λ e. Refuses self.old (step.Edit (edit.Insert row)) e self.new) }
+        ensures here { (id : List ℕ) → AreAt S.is_of id self.old.rows
+            → AreAt S.is_of id self.new.rows }
     {
         self.table.insert(row)
     }
@@ -145,9 +152,13 @@ impl<S: FarTickets> Frame<S> {
     /// - `Absent` (16): an object of the place's row group is away.
     /// - `ChunkFull` (11), `RegionFull` (17), `EditsUsedUp` (24), `NoMemory` (1)
     pub fn set(&mut self, place: u32, column: u32, cell: Cell) -> Result<(), Refusal>
-        ensures ok { OnOk result (Accepts S.content self.old (step.Edit (edit.Set place column cell)) reply.Done self.new) }
-        ensures err { IfErr result (λ e. Refuses self.old (step.Edit (edit.Set place column cell)) e self.new) }
-        ensures here { (id : List ℕ) → AreAt S.is_of id self.old.rows → AreAt S.is_of id self.new.rows }
+        ensures ok { OnOk result
+            (Accepts S.content self.old (step.Edit (edit.Set place column cell)) reply.Done
+            self.new) }
+        ensures err { IfErr result
+            (λ e. Refuses self.old (step.Edit (edit.Set place column cell)) e self.new) }
+        ensures here { (id : List ℕ) → AreAt S.is_of id self.old.rows
+            → AreAt S.is_of id self.new.rows }
     {
         self.table.set(column, place, cell)
     }
@@ -160,9 +171,12 @@ impl<S: FarTickets> Frame<S> {
     /// - `Absent` (16): an object of the place's row group is away.
     /// - `EditsUsedUp` (24), `NoMemory` (1)
     pub fn remove(&mut self, place: u32) -> Result<(), Refusal>
-        ensures ok { OnOk result (Accepts S.content self.old (step.Edit (edit.Remove place)) reply.Done self.new) }
-        ensures err { IfErr result (λ e. Refuses self.old (step.Edit (edit.Remove place)) e self.new) }
-        ensures here { (id : List ℕ) → AreAt S.is_of id self.old.rows → AreAt S.is_of id self.new.rows }
+        ensures ok { OnOk result
+            (Accepts S.content self.old (step.Edit (edit.Remove place)) reply.Done self.new) }
+        ensures err { IfErr result
+            (λ e. Refuses self.old (step.Edit (edit.Remove place)) e self.new) }
+        ensures here { (id : List ℕ) → AreAt S.is_of id self.old.rows
+            → AreAt S.is_of id self.new.rows }
     {
         self.table.remove(place)
     }
@@ -176,7 +190,8 @@ impl<S: FarTickets> Frame<S> {
     /// - `TooManyAggregates` (13): 32 are registered now, or 2^32 were registered in all.
     /// - `NoMemory` (1): an allocation fails.
     pub fn watch(&mut self, spec: Spec) -> Result<u32, Refusal>
-        ensures ok { IfOk result (λ a. Accepts S.content self.old (step.Watch spec) (reply.Aggregate a) self.new) }
+        ensures ok { IfOk result
+            (λ a. Accepts S.content self.old (step.Watch spec) (reply.Aggregate a) self.new) }
         ensures err { IfErr result (λ e. Refuses self.old (step.Watch spec) e self.new) }
     {
         self.table.watch(spec)
@@ -200,7 +215,8 @@ impl<S: FarTickets> Frame<S> {
     /// - `Absent` (16): the object of a column that the aggregate needs is away. The refusal names the lowest such column.
     /// - `NoMemory` (1): an allocation fails.
     pub fn scan_group(&mut self, a: u32, group: u32) -> Result<(), Refusal>
-        ensures ok { OnOk result (Accepts S.content self.old (step.ScanGroup a group) reply.Done self.new) }
+        ensures ok { OnOk result
+            (Accepts S.content self.old (step.ScanGroup a group) reply.Done self.new) }
         ensures err { IfErr result (λ e. Refuses self.old (step.ScanGroup a group) e self.new) }
     {
         self.table.scan_group(a, group)
@@ -214,7 +230,8 @@ impl<S: FarTickets> Frame<S> {
     /// - `Building` (15): row groups are pending. The refusal says how many.
     /// - `NoMemory` (1): an allocation fails.
     pub fn ask(&self, a: u32) -> Result<Answer, Refusal>
-        ensures ok { IfOk result (λ answer. Accepts S.content self.now (step.Ask a) (reply.Answer answer) self.now) }
+        ensures ok { IfOk result
+            (λ answer. Accepts S.content self.now (step.Ask a) (reply.Answer answer) self.now) }
         ensures err { IfErr result (λ e. Refuses self.now (step.Ask a) e self.now) }
     {
         self.table.ask(a)
@@ -264,7 +281,8 @@ impl<S: FarTickets> Frame<S> {
 
     /// Returns the specification of an aggregate, or `None` if there is none of this number. Allocates nothing.
     pub fn spec(&self, a: u32) -> Option<&Spec>
-        ensures { option_copied result ≡ option_map (λ aggregate. aggregate.spec) (aggregate_at self.now.table a) }
+        ensures { option_copied result
+            ≡ option_map (λ aggregate. aggregate.spec) (aggregate_at self.now.table a) }
     {
         self.table.spec(a)
     }
@@ -272,8 +290,10 @@ impl<S: FarTickets> Frame<S> {
     /// Returns an aggregate and a row group that is pending in it, or `None` if no row group is pending in any. Allocates
     /// nothing.
     pub fn unbuilt(&self) -> Option<(u32, u32)>
-        ensures some { IfSome result (λ at. is_pending_in (aggregate_at self.now.table at.0) at.1 ≡ true) }
-        ensures none { IfNone result ((a : ℕ) → (g : ℕ) → is_pending_in (aggregate_at self.now.table a) g ≡ false) }
+        ensures some { IfSome result
+            (λ at. is_pending_in (aggregate_at self.now.table at.0) at.1 ≡ true) }
+        ensures none { IfNone result
+            ((a : ℕ) → (g : ℕ) → is_pending_in (aggregate_at self.now.table a) g ≡ false) }
     {
         self.table.unbuilt()
     }

@@ -111,8 +111,10 @@ impl<S: FarTickets> Job<S> {
     /// nothing.
     pub fn outgoing(&self, store: &S) -> Option<(u64, &[u8])>
         requires here { IsJobAt S.is_of (S.store_id store.now) self.now }
-        ensures number { option_map (λ out. out.0) result ≡ option_map S.number_of (outgoing_of self.now.work) }
-        ensures bytes { option_map (λ out. out.1.now) result ≡ option_map S.content (outgoing_of self.now.work) }
+        ensures number { option_map (λ out. out.0) result
+            ≡ option_map S.number_of (outgoing_of self.now.work) }
+        ensures bytes { option_map (λ out. out.1.now) result
+            ≡ option_map S.content (outgoing_of self.now.work) }
     {
         match &self.work {
             JobPhase::Carried(carried) => carried.outgoing(store),

@@ -48,15 +48,24 @@ use far_store::FarTickets;
 /// After any list of steps, the rows are those of the plain list after the accepted edits, whatever was registered, scanned
 /// and asked in between.
 pub fn rows_are_those_of_the_plain_list<S: FarTickets>()
-    ensures { (old : World S.Ticket) → (steps : List Step) → (replies : List Reply) → (new : World S.Ticket) → IsRun S.content S.number_of old steps replies new → new.state.table.places ≡ plain_rows steps replies old.state.table.places }
+    ensures { (old : World S.Ticket) → (steps : List Step) → (replies : List Reply)
+        → (new : World S.Ticket) → IsRun S.content S.number_of old steps replies new
+        → new.state.table.places ≡ plain_rows steps replies old.state.table.places }
 {}
 
 /// An answer of an aggregate is the fold over the table's rows as they are now, and no row group is pending in it. `Ask`
 /// changes nothing.
 pub fn an_answer_is_over_the_rows_now<S: FarTickets>()
-    ensures answer { (old : World S.Ticket) → (a : ℕ) → (answer : Answer) → (new : World S.Ticket) → IsStep S.content S.number_of old (step.Ask a) (reply.Answer answer) new → IsAnswerNow old.state.table a answer }
-    ensures all_scanned { (old : World S.Ticket) → (a : ℕ) → (answer : Answer) → (new : World S.Ticket) → IsStep S.content S.number_of old (step.Ask a) (reply.Answer answer) new → IsSomeAnd (aggregate_at old.state.table a) (λ aggregate. left aggregate.pending ≡ 0) }
-    ensures same { (old : World S.Ticket) → (a : ℕ) → (answer : Answer) → (new : World S.Ticket) → IsStep S.content S.number_of old (step.Ask a) (reply.Answer answer) new → new ≡ old }
+    ensures answer { (old : World S.Ticket) → (a : ℕ) → (answer : Answer) → (new : World S.Ticket)
+        → IsStep S.content S.number_of old (step.Ask a) (reply.Answer answer) new
+        → IsAnswerNow old.state.table a answer }
+    ensures all_scanned { (old : World S.Ticket) → (a : ℕ) → (answer : Answer)
+        → (new : World S.Ticket)
+        → IsStep S.content S.number_of old (step.Ask a) (reply.Answer answer) new
+        → IsSomeAnd (aggregate_at old.state.table a) (λ aggregate. left aggregate.pending ≡ 0) }
+    ensures same { (old : World S.Ticket) → (a : ℕ) → (answer : Answer) → (new : World S.Ticket)
+        → IsStep S.content S.number_of old (step.Ask a) (reply.Answer answer) new
+        → new ≡ old }
 {}
 
 /// An accepted edit does to the rows what it does to the plain list, and has the same reply.
@@ -64,13 +73,27 @@ pub fn an_answer_is_over_the_rows_now<S: FarTickets>()
 /// An edit is refused for the reason for which the plain list refuses it; or because an object is away or does not fit; or,
 /// if the plain list accepts it and no such reason holds, because memory ran out.
 pub fn an_edit_is_that_of_the_plain_list<S: FarTickets>()
-    ensures inserted { (old : World S.Ticket) → (e : Edit) → (place : ℕ) → (new : World S.Ticket) → IsStep S.content S.number_of old (step.Edit e) (reply.Place place) new → new.state.table ≡ after_edit e old.state.table }
-    ensures done { (old : World S.Ticket) → (e : Edit) → (new : World S.Ticket) → IsStep S.content S.number_of old (step.Edit e) reply.Done new → new.state.table ≡ after_edit e old.state.table }
+    ensures inserted { (old : World S.Ticket) → (e : Edit) → (place : ℕ) → (new : World S.Ticket)
+        → IsStep S.content S.number_of old (step.Edit e) (reply.Place place) new
+        → new.state.table ≡ after_edit e old.state.table }
+    ensures done { (old : World S.Ticket) → (e : Edit) → (new : World S.Ticket)
+        → IsStep S.content S.number_of old (step.Edit e) reply.Done new
+        → new.state.table ≡ after_edit e old.state.table }
     ensures placed { (old : World S.Ticket) → (e : Edit) → (place : ℕ) → (new : World S.Ticket) → IsStep S.content S.number_of old (step.Edit e) (reply.Place place) new → reply.Place place ≡ edit_reply old.state.table e }
-    ensures returned { (old : World S.Ticket) → (e : Edit) → (new : World S.Ticket) → IsStep S.content S.number_of old (step.Edit e) reply.Done new → reply.Done ≡ edit_reply old.state.table e }
-    ensures accepted { (old : World S.Ticket) → (e : Edit) → (given : Reply) → (new : World S.Ticket) → is_refused given ≡ false → IsStep S.content S.number_of old (step.Edit e) given new → edit_refusal old.state.table e ≡ None }
-    ensures refused { (old : World S.Ticket) → (e : Edit) → (given : Refusal) → (new : World S.Ticket) → IsStep S.content S.number_of old (step.Edit e) (reply.Refused given) new → MayRefuse (edit_due (live old.state) e) true given }
-    ensures plain { (old : World S.Ticket) → (e : Edit) → (given : Refusal) → (new : World S.Ticket) → IsStep S.content S.number_of old (step.Edit e) (reply.Refused given) new → IsPlainRefusal old.state.table e given }
+    ensures returned { (old : World S.Ticket) → (e : Edit) → (new : World S.Ticket)
+        → IsStep S.content S.number_of old (step.Edit e) reply.Done new
+        → reply.Done ≡ edit_reply old.state.table e }
+    ensures accepted { (old : World S.Ticket) → (e : Edit) → (given : Reply)
+        → (new : World S.Ticket) → is_refused given ≡ false
+        → IsStep S.content S.number_of old (step.Edit e) given new
+        → edit_refusal old.state.table e ≡ None }
+    ensures refused { (old : World S.Ticket) → (e : Edit) → (given : Refusal)
+        → (new : World S.Ticket)
+        → IsStep S.content S.number_of old (step.Edit e) (reply.Refused given) new
+        → MayRefuse (edit_due (live old.state) e) true given }
+    ensures plain { (old : World S.Ticket) → (e : Edit) → (given : Refusal) → (new : World S.Ticket)
+        → IsStep S.content S.number_of old (step.Edit e) (reply.Refused given) new
+        → IsPlainRefusal old.state.table e given }
 {}
 
 /// An answer of a recount is the fold of the aggregate over the table's rows as they are now. That holds for every answer
@@ -79,16 +102,31 @@ pub fn an_edit_is_that_of_the_plain_list<S: FarTickets>()
 /// So recounts have the same answer as long as the rows and the specification do not change. When no row group is pending,
 /// `Ask` has that answer too.
 pub fn a_recount_is_over_the_rows_now<S: FarTickets>()
-    ensures answer { (table : Table) → (a : ℕ) → (answer : Answer) → (aggregate : Registered) → aggregate_at table a ≡ Some aggregate → IsAnswerNow table a answer → answer ≡ answer_now aggregate.spec table }
-    ensures same { (table : Table) → (a : ℕ) → (one other : Answer) → IsAnswerNow table a one → IsAnswerNow table a other → one ≡ other }
-    ensures asked { (table : Table) → (a : ℕ) → (counted : Answer) → IsAnswerNow table a counted → (old : World S.Ticket) → old.state.table.places ≡ table.places → option_map (λ aggregate. aggregate.spec) (aggregate_at old.state.table a) ≡ option_map (λ aggregate. aggregate.spec) (aggregate_at table a) → (answer : Answer) → (new : World S.Ticket) → IsStep S.content S.number_of old (step.Ask a) (reply.Answer answer) new → answer ≡ counted }
+    ensures answer { (table : Table) → (a : ℕ) → (answer : Answer) → (aggregate : Registered)
+        → aggregate_at table a ≡ Some aggregate
+        → IsAnswerNow table a answer
+        → answer ≡ answer_now aggregate.spec table }
+    ensures same { (table : Table) → (a : ℕ) → (one other : Answer) → IsAnswerNow table a one
+        → IsAnswerNow table a other
+        → one ≡ other }
+    ensures asked { (table : Table) → (a : ℕ) → (counted : Answer) → IsAnswerNow table a counted
+        → (old : World S.Ticket) → old.state.table.places ≡ table.places
+        → option_map (λ aggregate. aggregate.spec) (aggregate_at old.state.table a)
+        ≡ option_map (λ aggregate. aggregate.spec) (aggregate_at table a)
+        → (answer : Answer) → (new : World S.Ticket)
+        → IsStep S.content S.number_of old (step.Ask a) (reply.Answer answer) new
+        → answer ≡ counted }
 {}
 
 /// A table that moves to another store, by `World::migrate` or by `migrate`, keeps its rows and aggregates, and so its
 /// answers.
 pub fn a_migration_keeps_the_table<S: FarTickets, N: FarTickets>()
-    ensures world { (id : List ℕ) → (old : World S.Ticket) → (new : World N.Ticket) → IsMigratedTo S.content N.content id old new → new.state.table ≡ old.state.table }
-    ensures frame { (old : State S.Ticket) → (new : State N.Ticket) → IsMigrated S.content N.content old new → new.table ≡ old.table }
+    ensures world { (id : List ℕ) → (old : World S.Ticket) → (new : World N.Ticket)
+        → IsMigratedTo S.content N.content id old new
+        → new.state.table ≡ old.state.table }
+    ensures frame { (old : State S.Ticket) → (new : State N.Ticket)
+        → IsMigrated S.content N.content old new
+        → new.table ≡ old.table }
 {}
 
 /// The pieces of a part of a column (`lent_part`), joined, are that part of the column with the flags of its places. Dead
@@ -97,26 +135,47 @@ pub fn a_migration_keeps_the_table<S: FarTickets, N: FarTickets>()
 /// The contracts of `View::ints` and of the two `record_lending` cite `lent_part`, as does the step `Lend`. `View::texts`
 /// returns the part in one piece, for which its contract says the same. `View::text` returns the cell of one place.
 pub fn a_lent_part_is_that_of_its_column()
-    ensures cells { (table : Table) → AreLimits table.limits → (column from to : ℕ) → from ≤ to → flat_map (λ piece. piece.cells) (lent_part table column from to) ≡ part column from to table.places }
-    ensures flags { (table : Table) → AreLimits table.limits → (column from to : ℕ) → from ≤ to → flat_map (λ piece. piece.flags) (lent_part table column from to) ≡ slice_range (flags_of table.places) from to }
-    ensures one { (table : Table) → (column place : ℕ) → (cell : Cell) → slice_get (column_of column table.places) place ≡ Some cell → part column place (place + 1) table.places ≡ cell ∷ [] }
+    ensures cells { (table : Table) → AreLimits table.limits
+        → (column from to : ℕ) → from ≤ to
+        → flat_map (λ piece. piece.cells) (lent_part table column from to)
+        ≡ part column from to table.places }
+    ensures flags { (table : Table) → AreLimits table.limits
+        → (column from to : ℕ) → from ≤ to
+        → flat_map (λ piece. piece.flags) (lent_part table column from to)
+        ≡ slice_range (flags_of table.places) from to }
+    ensures one { (table : Table) → (column place : ℕ) → (cell : Cell)
+        → slice_get (column_of column table.places) place ≡ Some cell
+        → part column place (place + 1) table.places ≡ cell ∷ [] }
 {}
 
 /// The pieces in the reply to a lending, joined, are that part of the column, with the flags of its places.
 pub fn a_lent_reply_is_that_part<S: FarTickets>()
-    ensures cells { (old : World S.Ticket) → AreLimits old.state.table.limits → (column from to : ℕ) → (given : Reply) → (new : World S.Ticket) → is_refused given ≡ false → IsStep S.content S.number_of old (step.Lend column from to) given new → flat_map (λ piece. piece.cells) (pieces_in given) ≡ part column from to old.state.table.places }
-    ensures flags { (old : World S.Ticket) → AreLimits old.state.table.limits → (column from to : ℕ) → (given : Reply) → (new : World S.Ticket) → is_refused given ≡ false → IsStep S.content S.number_of old (step.Lend column from to) given new → flat_map (λ piece. piece.flags) (pieces_in given) ≡ slice_range (flags_of old.state.table.places) from to }
+    ensures cells { (old : World S.Ticket) → AreLimits old.state.table.limits
+        → (column from to : ℕ) → (given : Reply) → (new : World S.Ticket) → is_refused given ≡ false
+        → IsStep S.content S.number_of old (step.Lend column from to) given new
+        → flat_map (λ piece. piece.cells) (pieces_in given)
+        ≡ part column from to old.state.table.places }
+    ensures flags { (old : World S.Ticket) → AreLimits old.state.table.limits
+        → (column from to : ℕ) → (given : Reply) → (new : World S.Ticket) → is_refused given ≡ false
+        → IsStep S.content S.number_of old (step.Lend column from to) given new
+        → flat_map (λ piece. piece.flags) (pieces_in given)
+        ≡ slice_range (flags_of old.state.table.places) from to }
 {}
 
 /// A refused step changes no row, column, aggregate or object, and no access history.
 pub fn a_refused_step_changes_nothing<S: FarTickets>()
-    ensures { (old : World S.Ticket) → (s : Step) → (given : Refusal) → (new : World S.Ticket) → IsStep S.content S.number_of old s (reply.Refused given) new → new.state ≡ old.state }
+    ensures { (old : World S.Ticket) → (s : Step) → (given : Refusal) → (new : World S.Ticket)
+        → IsStep S.content S.number_of old s (reply.Refused given) new
+        → new.state ≡ old.state }
 {}
 
 /// None of these changes a row, an aggregate or an answer: lendings, pins, jobs that move objects in any phase, beginnings
 /// and carries of offloaded builds, compactions and proposals.
 pub fn movement_changes_no_row<S: FarTickets>()
-    ensures { (old : World S.Ticket) → (s : Step) → (given : Reply) → (new : World S.Ticket) → is_movement s ≡ true → IsStep S.content S.number_of old s given new → new.state.table ≡ old.state.table }
+    ensures { (old : World S.Ticket) → (s : Step) → (given : Reply) → (new : World S.Ticket)
+        → is_movement s ≡ true
+        → IsStep S.content S.number_of old s given new
+        → new.state.table ≡ old.state.table }
 {}
 
 /// No step evicts an object that has a pin: a commit of its eviction is refused. Only `Pin` and `Unpin` change how many
@@ -124,31 +183,79 @@ pub fn movement_changes_no_row<S: FarTickets>()
 ///
 /// So from the opening of a table on, every object that has a pin is local, and no lending is refused for it.
 pub fn a_pinned_object_stays<S: FarTickets, N: FarTickets>()
-    ensures stays { (old : World S.Ticket) → (s : Step) → (given : Reply) → (new : World S.Ticket) → IsStep S.content S.number_of old s given new → (o : Object) → pins_at old.state.rows o ≢ 0 → is_here old.state.rows o ≡ true → is_here new.state.rows o ≡ true }
-    ensures pins { (old : World S.Ticket) → (s : Step) → (given : Reply) → (new : World S.Ticket) → is_pinning s ≡ false → IsStep S.content S.number_of old s given new → (o : Object) → pins_at new.state.rows o ≡ pins_at old.state.rows o }
-    ensures run { (old : World S.Ticket) → (steps : List Step) → (replies : List Reply) → (new : World S.Ticket) → ArePinnedHere old.state.rows → IsRun S.content S.number_of old steps replies new → ArePinnedHere new.state.rows }
+    ensures stays { (old : World S.Ticket) → (s : Step) → (given : Reply) → (new : World S.Ticket)
+        → IsStep S.content S.number_of old s given new
+        → (o : Object) → pins_at old.state.rows o ≢ 0
+        → is_here old.state.rows o ≡ true
+        → is_here new.state.rows o ≡ true }
+    ensures pins { (old : World S.Ticket) → (s : Step) → (given : Reply) → (new : World S.Ticket)
+        → is_pinning s ≡ false
+        → IsStep S.content S.number_of old s given new
+        → (o : Object) → pins_at new.state.rows o ≡ pins_at old.state.rows o }
+    ensures run { (old : World S.Ticket) → (steps : List Step) → (replies : List Reply)
+        → (new : World S.Ticket) → ArePinnedHere old.state.rows
+        → IsRun S.content S.number_of old steps replies new
+        → ArePinnedHere new.state.rows }
     ensures opened { (schema : List Kind) → (limits : Limits) → (number : ℕ) → ArePinnedHere (empty_rows {K = S.Ticket} schema limits number) }
-    ensures lent { (old : World S.Ticket) → ArePinnedHere old.state.rows → (column from to c g : ℕ) → (new : World S.Ticket) → IsStep S.content S.number_of old (step.Lend column from to) (reply.Refused (refusal.Absent c g)) new → IfSome (object_at old.state.rows c g) (λ o. pins_at old.state.rows o ≡ 0) }
-    ensures committed { (old : World S.Ticket) → (n : ℕ) → (job : JobRecord S.Ticket) → (carried : ByKind (CarriedEvacuation S.Ticket) (CarriedEvacuation S.Ticket)) → job_at old.jobs n ≡ Some job → job.work ≡ work.Carried carried → pins_by old.state.rows carried ≢ 0 → (new : World S.Ticket) → ¬ (IsStep S.content S.number_of old (step.Commit n) reply.Done new) }
+    ensures lent { (old : World S.Ticket) → ArePinnedHere old.state.rows
+        → (column from to c g : ℕ) → (new : World S.Ticket)
+        → IsStep S.content S.number_of old (step.Lend column from to)
+        (reply.Refused (refusal.Absent c g)) new
+        → IfSome (object_at old.state.rows c g) (λ o. pins_at old.state.rows o ≡ 0) }
+    ensures committed { (old : World S.Ticket) → (n : ℕ) → (job : JobRecord S.Ticket)
+        → (carried : ByKind (CarriedEvacuation S.Ticket) (CarriedEvacuation S.Ticket))
+        → job_at old.jobs n ≡ Some job
+        → job.work ≡ work.Carried carried
+        → pins_by old.state.rows carried ≢ 0
+        → (new : World S.Ticket)
+        → ¬ (IsStep S.content S.number_of old (step.Commit n) reply.Done new) }
     ensures migrated { (id : List ℕ) → (old : World S.Ticket) → (new : World N.Ticket) → ArePinnedHere old.state.rows → IsMigratedTo S.content N.content id old new → ArePinnedHere new.state.rows }
-    ensures migrated_pins { (id : List ℕ) → (old : World S.Ticket) → (new : World N.Ticket) → IsMigratedTo S.content N.content id old new → (o : Object) → pins_at new.state.rows o ≡ pins_at old.state.rows o }
-    ensures migrated_places { (id : List ℕ) → (old : World S.Ticket) → (new : World N.Ticket) → IsMigratedTo S.content N.content id old new → (o : Object) → is_here new.state.rows o ≡ is_here old.state.rows o }
+    ensures migrated_pins { (id : List ℕ) → (old : World S.Ticket) → (new : World N.Ticket)
+        → IsMigratedTo S.content N.content id old new
+        → (o : Object) → pins_at new.state.rows o ≡ pins_at old.state.rows o }
+    ensures migrated_places { (id : List ℕ) → (old : World S.Ticket) → (new : World N.Ticket)
+        → IsMigratedTo S.content N.content id old new
+        → (o : Object) → is_here new.state.rows o ≡ is_here old.state.rows o }
 {}
 
 /// An accepted merge does to the table exactly what a scan of its row group does, and changes no row and no object.
 pub fn a_merge_is_a_scan<S: FarTickets>()
-    ensures table { (old : World S.Ticket) → (n : ℕ) → (job : JobRecord S.Ticket) → (build : Build S.Ticket) → job_at old.jobs n ≡ Some job → job.work ≡ work.Offloaded build → (new : World S.Ticket) → IsStep S.content S.number_of old (step.Merge n) reply.Done new → new.state ≡ record old.state { table = after_scan_at build.aggregate build.group old.state.table } }
-    ensures scan { (old : World S.Ticket) → (n : ℕ) → (job : JobRecord S.Ticket) → (build : Build S.Ticket) → job_at old.jobs n ≡ Some job → job.work ≡ work.Offloaded build → (new : World S.Ticket) → IsStep S.content S.number_of old (step.Merge n) reply.Done new → (scanned : World S.Ticket) → IsStep S.content S.number_of old (step.ScanGroup build.aggregate build.group) reply.Done scanned → new.state ≡ scanned.state }
+    ensures table { (old : World S.Ticket) → (n : ℕ) → (job : JobRecord S.Ticket)
+        → (build : Build S.Ticket) → job_at old.jobs n ≡ Some job
+        → job.work ≡ work.Offloaded build
+        → (new : World S.Ticket) → IsStep S.content S.number_of old (step.Merge n) reply.Done new
+        → new.state
+        ≡ record old.state
+        { table = after_scan_at build.aggregate build.group old.state.table } }
+    ensures scan { (old : World S.Ticket) → (n : ℕ) → (job : JobRecord S.Ticket)
+        → (build : Build S.Ticket) → job_at old.jobs n ≡ Some job
+        → job.work ≡ work.Offloaded build
+        → (new : World S.Ticket) → IsStep S.content S.number_of old (step.Merge n) reply.Done new
+        → (scanned : World S.Ticket)
+        → IsStep S.content S.number_of old (step.ScanGroup build.aggregate build.group) reply.Done
+        scanned
+        → new.state ≡ scanned.state }
 {}
 
 /// A stale job changes nothing, except that its number is spent; a stale carry changes nothing at all. A number without a
 /// job, since it is spent or was never given out, is stale in every step that names it.
 pub fn a_stale_job_changes_nothing<S: FarTickets>()
-    ensures committed { (old : World S.Ticket) → (n : ℕ) → (new : World S.Ticket) → IsStep S.content S.number_of old (step.Commit n) (reply.Refused Refusal.StaleJob) new → new ≡ record old { jobs = without_job old.jobs n } }
-    ensures installed { (old : World S.Ticket) → (n : ℕ) → (new : World S.Ticket) → IsStep S.content S.number_of old (step.Install n) (reply.Refused Refusal.StaleJob) new → new ≡ record old { jobs = without_job old.jobs n } }
-    ensures merged { (old : World S.Ticket) → (n : ℕ) → (new : World S.Ticket) → IsStep S.content S.number_of old (step.Merge n) (reply.Refused Refusal.StaleJob) new → new ≡ record old { jobs = without_job old.jobs n } }
-    ensures carried { (old : World S.Ticket) → (n : ℕ) → (new : World S.Ticket) → IsStep S.content S.number_of old (step.Carry n) (reply.Refused Refusal.StaleJob) new → new ≡ old }
-    ensures spent { (old : World S.Ticket) → (s : Step) → IsSomeAnd (job_of s) (λ n. job_at old.jobs n ≡ None) → (given : Reply) → (new : World S.Ticket) → IsStep S.content S.number_of old s given new → given ≡ reply.Refused refusal.StaleJob }
+    ensures committed { (old : World S.Ticket) → (n : ℕ) → (new : World S.Ticket)
+        → IsStep S.content S.number_of old (step.Commit n) (reply.Refused Refusal.StaleJob) new
+        → new ≡ record old { jobs = without_job old.jobs n } }
+    ensures installed { (old : World S.Ticket) → (n : ℕ) → (new : World S.Ticket)
+        → IsStep S.content S.number_of old (step.Install n) (reply.Refused Refusal.StaleJob) new
+        → new ≡ record old { jobs = without_job old.jobs n } }
+    ensures merged { (old : World S.Ticket) → (n : ℕ) → (new : World S.Ticket)
+        → IsStep S.content S.number_of old (step.Merge n) (reply.Refused Refusal.StaleJob) new
+        → new ≡ record old { jobs = without_job old.jobs n } }
+    ensures carried { (old : World S.Ticket) → (n : ℕ) → (new : World S.Ticket)
+        → IsStep S.content S.number_of old (step.Carry n) (reply.Refused Refusal.StaleJob) new
+        → new ≡ old }
+    ensures spent { (old : World S.Ticket) → (s : Step)
+        → IsSomeAnd (job_of s) (λ n. job_at old.jobs n ≡ None)
+        → (given : Reply) → (new : World S.Ticket) → IsStep S.content S.number_of old s given new
+        → given ≡ reply.Refused refusal.StaleJob }
 {}
 
 /// A job is stale at its end if its premise no longer holds. These jobs are stale:
@@ -160,12 +267,41 @@ pub fn a_stale_job_changes_nothing<S: FarTickets>()
 ///
 /// A build whose aggregate is not registered is not stale: it is refused with `NoAggregate`, and keeps its number.
 pub fn a_job_is_stale_once_what_it_rests_on_changed<S: FarTickets>()
-    ensures committed { (old : World S.Ticket) → (n : ℕ) → (job : JobRecord S.Ticket) → job_at old.jobs n ≡ Some job → ¬ (MayCommit S.number_of old.state job.work) → (given : Reply) → (new : World S.Ticket) → IsStep S.content S.number_of old (step.Commit n) given new → given ≡ reply.Refused refusal.StaleJob }
-    ensures installed { (old : World S.Ticket) → (n : ℕ) → (job : JobRecord S.Ticket) → job_at old.jobs n ≡ Some job → ¬ (MayInstall S.number_of old.state job.work) → (given : Reply) → (new : World S.Ticket) → IsStep S.content S.number_of old (step.Install n) given new → given ≡ reply.Refused refusal.StaleJob }
-    ensures merged { (old : World S.Ticket) → (n : ℕ) → (job : JobRecord S.Ticket) → job_at old.jobs n ≡ Some job → ¬ (MayMerge S.number_of old.state job.work) → ¬ (IsForgotten old.state job.work) → (given : Reply) → (new : World S.Ticket) → IsStep S.content S.number_of old (step.Merge n) given new → given ≡ reply.Refused refusal.StaleJob }
-    ensures forgotten { (old : World S.Ticket) → (n : ℕ) → (job : JobRecord S.Ticket) → job_at old.jobs n ≡ Some job → IsForgotten old.state job.work → (given : Reply) → (new : World S.Ticket) → IsStep S.content S.number_of old (step.Merge n) given new → given ≡ reply.Refused refusal.NoAggregate }
-    ensures kept { (old : World S.Ticket) → (n : ℕ) → (new : World S.Ticket) → IsStep S.content S.number_of old (step.Merge n) (reply.Refused refusal.NoAggregate) new → new ≡ old }
-    ensures again { (old : World S.Ticket) → AreNumbered old → (s : Step) → (n : ℕ) → end_of s ≡ Some n → (mid : World S.Ticket) → IsStep S.content S.number_of old s reply.Done mid → (other : Step) → job_of other ≡ Some n → (given : Reply) → (new : World S.Ticket) → IsStep S.content S.number_of mid other given new → given ≡ reply.Refused refusal.StaleJob }
+    ensures committed { (old : World S.Ticket) → (n : ℕ) → (job : JobRecord S.Ticket)
+        → job_at old.jobs n ≡ Some job
+        → ¬ (MayCommit S.number_of old.state job.work)
+        → (given : Reply) → (new : World S.Ticket)
+        → IsStep S.content S.number_of old (step.Commit n) given new
+        → given ≡ reply.Refused refusal.StaleJob }
+    ensures installed { (old : World S.Ticket) → (n : ℕ) → (job : JobRecord S.Ticket)
+        → job_at old.jobs n ≡ Some job
+        → ¬ (MayInstall S.number_of old.state job.work)
+        → (given : Reply) → (new : World S.Ticket)
+        → IsStep S.content S.number_of old (step.Install n) given new
+        → given ≡ reply.Refused refusal.StaleJob }
+    ensures merged { (old : World S.Ticket) → (n : ℕ) → (job : JobRecord S.Ticket)
+        → job_at old.jobs n ≡ Some job
+        → ¬ (MayMerge S.number_of old.state job.work)
+        → ¬ (IsForgotten old.state job.work)
+        → (given : Reply) → (new : World S.Ticket)
+        → IsStep S.content S.number_of old (step.Merge n) given new
+        → given ≡ reply.Refused refusal.StaleJob }
+    ensures forgotten { (old : World S.Ticket) → (n : ℕ) → (job : JobRecord S.Ticket)
+        → job_at old.jobs n ≡ Some job
+        → IsForgotten old.state job.work
+        → (given : Reply) → (new : World S.Ticket)
+        → IsStep S.content S.number_of old (step.Merge n) given new
+        → given ≡ reply.Refused refusal.NoAggregate }
+    ensures kept { (old : World S.Ticket) → (n : ℕ) → (new : World S.Ticket)
+        → IsStep S.content S.number_of old (step.Merge n) (reply.Refused refusal.NoAggregate) new
+        → new ≡ old }
+    ensures again { (old : World S.Ticket) → AreNumbered old
+        → (s : Step) → (n : ℕ) → end_of s ≡ Some n
+        → (mid : World S.Ticket) → IsStep S.content S.number_of old s reply.Done mid
+        → (other : Step) → job_of other ≡ Some n
+        → (given : Reply) → (new : World S.Ticket)
+        → IsStep S.content S.number_of mid other given new
+        → given ≡ reply.Refused refusal.StaleJob }
 {}
 
 /// A number names one job. All jobs of a world have different numbers: when `World::new` or `World::migrate` makes it, and
@@ -176,17 +312,40 @@ pub fn a_job_is_stale_once_what_it_rests_on_changed<S: FarTickets>()
 /// of `run`.
 pub fn a_number_names_one_job<S: FarTickets, N: FarTickets>()
     ensures opened { (old : World S.Ticket) → old.jobs ≡ [] → AreNumbered old }
-    ensures run { (old : World S.Ticket) → (steps : List Step) → (replies : List Reply) → (new : World S.Ticket) → AreNumbered old → IsRun S.content S.number_of old steps replies new → AreNumbered new }
-    ensures accepted { (old : World S.Ticket) → AreNumbered old → (s : Step) → (n : ℕ) → end_of s ≡ Some n → (new : World S.Ticket) → IsStep S.content S.number_of old s reply.Done new → IsSpent n new }
-    ensures stale { (old : World S.Ticket) → AreNumbered old → (s : Step) → (n : ℕ) → end_of s ≡ Some n → IsSome (job_at old.jobs n) → (new : World S.Ticket) → IsStep S.content S.number_of old s (reply.Refused refusal.StaleJob) new → IsSpent n new }
-    ensures spent { (n : ℕ) → (old : World S.Ticket) → (steps : List Step) → (replies : List Reply) → (new : World S.Ticket) → IsSpent n old → IsRun S.content S.number_of old steps replies new → IsSpent n new }
-    ensures named { (old : World S.Ticket) → (s : Step) → IsSomeAnd (job_of s) (λ n. IsSpent n old) → (given : Reply) → (new : World S.Ticket) → IsStep S.content S.number_of old s given new → given ≡ reply.Refused refusal.StaleJob }
-    ensures migrated { (id : List ℕ) → (old : World S.Ticket) → (new : World N.Ticket) → IsMigratedTo S.content N.content id old new → (n : ℕ) → n < old.begun → IsSpent n new }
+    ensures run { (old : World S.Ticket) → (steps : List Step) → (replies : List Reply)
+        → (new : World S.Ticket) → AreNumbered old
+        → IsRun S.content S.number_of old steps replies new
+        → AreNumbered new }
+    ensures accepted { (old : World S.Ticket) → AreNumbered old
+        → (s : Step) → (n : ℕ) → end_of s ≡ Some n
+        → (new : World S.Ticket) → IsStep S.content S.number_of old s reply.Done new
+        → IsSpent n new }
+    ensures stale { (old : World S.Ticket) → AreNumbered old
+        → (s : Step) → (n : ℕ) → end_of s ≡ Some n
+        → IsSome (job_at old.jobs n)
+        → (new : World S.Ticket)
+        → IsStep S.content S.number_of old s (reply.Refused refusal.StaleJob) new
+        → IsSpent n new }
+    ensures spent { (n : ℕ) → (old : World S.Ticket) → (steps : List Step) → (replies : List Reply)
+        → (new : World S.Ticket) → IsSpent n old
+        → IsRun S.content S.number_of old steps replies new
+        → IsSpent n new }
+    ensures named { (old : World S.Ticket) → (s : Step) → IsSomeAnd (job_of s) (λ n. IsSpent n old)
+        → (given : Reply) → (new : World S.Ticket) → IsStep S.content S.number_of old s given new
+        → given ≡ reply.Refused refusal.StaleJob }
+    ensures migrated { (id : List ℕ) → (old : World S.Ticket) → (new : World N.Ticket)
+        → IsMigratedTo S.content N.content id old new
+        → (n : ℕ) → n < old.begun
+        → IsSpent n new }
 {}
 
 /// Serving two lists of steps one after the other is the same as serving them joined.
 pub fn runs_join<S: FarTickets>()
-    ensures { (old : World S.Ticket) → (steps : List Step) → (replies : List Reply) → (mid : World S.Ticket) → (more : List Step) → (others : List Reply) → (new : World S.Ticket) → IsRun S.content S.number_of old steps replies mid → IsRun S.content S.number_of mid more others new → IsRun S.content S.number_of old (steps ++ more) (replies ++ others) new }
+    ensures { (old : World S.Ticket) → (steps : List Step) → (replies : List Reply)
+        → (mid : World S.Ticket) → (more : List Step) → (others : List Reply)
+        → (new : World S.Ticket) → IsRun S.content S.number_of old steps replies mid
+        → IsRun S.content S.number_of mid more others new
+        → IsRun S.content S.number_of old (steps ++ more) (replies ++ others) new }
 {}
 
 /// A step of a world is also a step of its table in a user's words.

@@ -29,7 +29,8 @@ use std::marker::Model;
 ///     from: u32,
 ///     to: u32,
 /// ) -> Result<Vec<IntPiece>, Refusal>
-///     ensures pieces { IfOk result (λ copies. map int_piece copies.items ≡ lent_part frame.now.table column from to) }
+///     ensures pieces { IfOk result
+///         (λ copies. map int_piece copies.items ≡ lent_part frame.now.table column from to) }
 ///     ensures due { OnOk result (ints_refusal frame.now.rows column from to ≡ None) }
 ///     ensures refused { IfErr result (MayRefuse (ints_refusal frame.now.rows column from to) true) }
 /// {
@@ -76,7 +77,9 @@ impl<'a, S: FarTickets> View<'a, S> {
     /// there of the lowest column.
     pub fn all(&self) -> Result<(), Refusal>
         ensures refused { refusal_in result ≡ away self.now }
-        ensures here { OnOk result ((place : ℕ) → place < length self.now.table.places → first_of (absents self.now.rows (place / self.now.table.limits.group)) ≡ None) }
+        ensures here { OnOk result
+            ((place : ℕ) → place < length self.now.table.places
+            → first_of (absents self.now.rows (place / self.now.table.limits.group)) ≡ None) }
     {
         // For the proof: shows `AreLimits`, and that there are few places.
         let rows = self.table.rows();
@@ -97,9 +100,13 @@ impl<'a, S: FarTickets> View<'a, S> {
     /// - `Absent` (16): an object of the place's row group is away. The refusal names the first in the order of the
     ///   columns.
     pub fn row(&self, place: u32) -> Result<LentRow<'a>, Refusal>
-        ensures row { IfOk result (λ row. option_map (λ p. p.cells) (slice_get self.now.table.places place) ≡ Some row) }
-        ensures past { length self.now.table.places ≤ place → refusal_in result ≡ Some Refusal.NoRow }
-        ensures refused { place < length self.now.table.places → refusal_in result ≡ first_of (absents self.now.rows (place / self.now.table.limits.group)) }
+        ensures row { IfOk result
+            (λ row. option_map (λ p. p.cells) (slice_get self.now.table.places place) ≡ Some row) }
+        ensures past { length self.now.table.places ≤ place
+            → refusal_in result ≡ Some Refusal.NoRow }
+        ensures refused { place < length self.now.table.places
+            → refusal_in result
+            ≡ first_of (absents self.now.rows (place / self.now.table.limits.group)) }
     {
         let rows = self.table.rows();
         if place as usize >= rows.len() {
@@ -112,9 +119,13 @@ impl<'a, S: FarTickets> View<'a, S> {
     ///
     /// Refused as `row` is, with `NoRow` (8) and `Absent` (16).
     pub fn row_ref(&self, place: u32) -> Result<RowRef<'_, S>, Refusal>
-        ensures row { IfOk result (λ row. option_map (λ p. p.cells) (slice_get self.now.table.places place) ≡ Some row) }
-        ensures past { length self.now.table.places ≤ place → refusal_in result ≡ Some Refusal.NoRow }
-        ensures refused { place < length self.now.table.places → refusal_in result ≡ first_of (absents self.now.rows (place / self.now.table.limits.group)) }
+        ensures row { IfOk result
+            (λ row. option_map (λ p. p.cells) (slice_get self.now.table.places place) ≡ Some row) }
+        ensures past { length self.now.table.places ≤ place
+            → refusal_in result ≡ Some Refusal.NoRow }
+        ensures refused { place < length self.now.table.places
+            → refusal_in result
+            ≡ first_of (absents self.now.rows (place / self.now.table.limits.group)) }
     {
         let rows = self.table.rows();
         if place as usize >= rows.len() {
@@ -126,7 +137,8 @@ impl<'a, S: FarTickets> View<'a, S> {
     /// Returns the kind of a column; `None` if there is no such column. Allocates nothing.
     pub(crate) fn kind(&self, column: u32) -> Option<Kind>
         ensures schema { result ≡ slice_get self.now.table.schema column }
-        ensures column_index { result ≡ option_map kind_of (slice_get self.now.rows.column_indexes column) }
+        ensures column_index { result
+            ≡ option_map kind_of (slice_get self.now.rows.column_indexes column) }
     {
         let rows = self.table.rows();
         // For the proof: shows that the schema has the kinds of the columns.
@@ -157,7 +169,8 @@ impl<'a, S: FarTickets> View<'a, S> {
     /// - `OutOfRange` (14): `from` is above `to`, or `to` is past the places.
     /// - `Absent` (16): the object of one of the row groups is away. The refusal names the first.
     pub fn ints(&self, column: u32, from: u32, to: u32) -> Result<Lents<'a, S>, Refusal>
-        ensures lent { IfOk result (λ lents. map ints_lent lents ≡ lent_part self.now.table column from to) }
+        ensures lent { IfOk result
+            (λ lents. map ints_lent lents ≡ lent_part self.now.table column from to) }
         ensures refused { refusal_in result ≡ ints_refusal self.now.rows column from to }
     {
         let rows = self.table.rows();
@@ -177,8 +190,12 @@ impl<'a, S: FarTickets> View<'a, S> {
     /// - `OutOfRange` (14): `from` is above `to`, or `to` is past the places.
     /// - `Absent` (16): the object of one of the row groups is away. The refusal names the first.
     pub fn texts(&self, column: u32, from: u32, to: u32) -> Result<TextCells<'a, S>, Refusal>
-        ensures cells { IfOk result (λ lent. map (λ cell. text_cell cell.0) lent ≡ part column from to self.now.table.places) }
-        ensures flags { IfOk result (λ lent. map (λ cell. cell.1) lent ≡ slice_range (flags_of self.now.table.places) from to) }
+        ensures cells { IfOk result
+            (λ lent. map (λ cell. text_cell cell.0) lent
+            ≡ part column from to self.now.table.places) }
+        ensures flags { IfOk result
+            (λ lent. map (λ cell. cell.1) lent
+            ≡ slice_range (flags_of self.now.table.places) from to) }
         ensures refused { refusal_in result ≡ texts_refusal self.now.rows column from to }
     {
         let rows = self.table.rows();
@@ -197,7 +214,9 @@ impl<'a, S: FarTickets> View<'a, S> {
     /// - `NoRow` (8): the place is past the end.
     /// - `Absent` (16): the object of the place's row group is away.
     pub fn text(&self, column: u32, place: u32) -> Result<Option<&'a str>, Refusal>
-        ensures text { IfOk result (λ text. slice_get (column_of column self.now.table.places) place ≡ Some (text_cell (option_copied text))) }
+        ensures text { IfOk result
+            (λ text. slice_get (column_of column self.now.table.places) place
+            ≡ Some (text_cell (option_copied text))) }
         ensures refused { refusal_in result ≡ text_refusal self.now.rows column place }
     {
         let rows = self.table.rows();

@@ -56,7 +56,13 @@ impl<S: FarStore> Model for World<S> {
 
     ghost Value = { World S.Ticket };
 
-    ghost view = { λ w. record { state = w.frame; store = S.store_id w.store; begun = w.begun; jobs = w.jobs; faults = w.meter } };
+    ghost view = { λ w. record {
+      state = w.frame;
+      store = S.store_id w.store;
+      begun = w.begun;
+      jobs = w.jobs;
+      faults = w.meter;
+    } };
 
     ghost invariant = { λ w. IsWorld S.is_of (S.store_id w.store) w.frame w.jobs };
 }
@@ -67,7 +73,10 @@ impl<S: FarStore> World<S> {
     pub fn new(alloc: Global, frame: Frame<S>, store: S) -> Result<World<S>, (Refusal, Frame<S>, S)>
         requires here { AreAt S.is_of (S.store_id store) frame.rows }
         ensures made { IsOk result }
-        ensures new { IfOk result (λ world. world ≡ record { state = frame; store = S.store_id store; begun = 0; jobs = []; faults = 0 }) }
+        ensures new { IfOk result
+            (λ world. world
+            ≡ record
+            { state = frame; store = S.store_id store; begun = 0; jobs = []; faults = 0 }) }
     {
         Ok(World {
             alloc,
@@ -114,7 +123,8 @@ impl<S: FarStore> World<S> {
     #[inline(always)]
     pub fn edit(&mut self, edit: Edit) -> Reply
         ensures step { IsStep S.content S.number_of self.old (Step.Edit edit) result self.new }
-        ensures table { IsTableStep (table_of self.old.state) (Step.Edit edit) result (table_of self.new.state) }
+        ensures table { IsTableStep (table_of self.old.state) (Step.Edit edit) result
+            (table_of self.new.state) }
         ensures faults { self.new.faults ≡ self.old.faults }
     {
         // For the proof: shows the invariant of the table.
@@ -133,7 +143,11 @@ impl<S: FarStore> World<S> {
     ///
     /// A refused call changes nothing.
     pub fn record_lending(&mut self, column: u32, from: u32, to: u32) -> Result<(), Refusal>
-        ensures ok { OnOk result ((given : Reply) × IsReplyOf (slice_get self.old.state.table.schema column) (lent_part self.old.state.table column from to) given × IsStep S.content S.number_of self.old (Step.Lend column from to) given self.new) }
+        ensures ok { OnOk result
+            ((given : Reply)
+            × IsReplyOf (slice_get self.old.state.table.schema column)
+            (lent_part self.old.state.table column from to) given
+            × IsStep S.content S.number_of self.old (Step.Lend column from to) given self.new) }
         ensures refused { refusal_in result ≡ lend_refusal self.old.state.rows column from to }
         ensures due { refusal_in result ≡ due (table_of self.old.state) (Step.Lend column from to) }
         ensures err { OnErr result (self.new ≡ self.old) }
@@ -149,7 +163,8 @@ impl<S: FarStore> World<S> {
     pub fn serve(&mut self, step: Step) -> Reply
         requires few { self.old.faults < 2 ^ 63 }
         ensures step { IsStep S.content S.number_of self.old step result self.new }
-        ensures table { IsTableStep (table_of self.old.state) step result (table_of self.new.state) }
+        ensures table { IsTableStep (table_of self.old.state) step result
+            (table_of self.new.state) }
         ensures faults { self.new.faults ≤ self.old.faults + 1 }
     {
         // For the proof: shows the invariant of the table.
@@ -205,8 +220,11 @@ impl<S: FarStore> World<S> {
 /// Refused only with `NoMemory` (1), before any step. A refused call changes nothing.
 pub fn run<S: FarStore>(world: &mut World<S>, steps: Vec<Step>) -> Result<Vec<Reply>, Refusal>
     requires few { world.old.faults + length steps.items < 2 ^ 63 }
-    ensures run { IfOk result (λ replies. IsRun S.content S.number_of world.old steps.items replies.items world.new) }
-    ensures table { IfOk result (λ replies. IsTableRun (table_of world.old.state) steps.items replies.items (table_of world.new.state)) }
+    ensures run { IfOk result
+        (λ replies. IsRun S.content S.number_of world.old steps.items replies.items world.new) }
+    ensures table { IfOk result
+        (λ replies. IsTableRun (table_of world.old.state) steps.items replies.items
+        (table_of world.new.state)) }
     ensures spent { (n : ℕ) → IsSpent n world.old → IsSpent n world.new }
     ensures unchanged { OnErr result (world.new ≡ world.old) }
     ensures memory { IfErr result (λ e. e ≡ Refusal.NoMemory) }

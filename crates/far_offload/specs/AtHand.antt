@@ -8,4 +8,7 @@ use Rattle.far_offload.specs.Columns.{Columns, cells_at}
 
 -- each column that the aggregate needs begins with the cells of these places, and may have more
 abbrev pub AreAtHand : Spec → Columns → List Place → Type 0
-AreAtHand spec columns places = (c i : ℕ) (place : Place) → needs spec c ≡ true → slice_get places i ≡ Some place → cells_at columns i c ≡ cells_of place.cells c
+AreAtHand spec columns places = (c i : ℕ) (place : Place)
+    → needs spec c ≡ true
+    → slice_get places i ≡ Some place
+    → cells_at columns i c ≡ cells_of place.cells c

@@ -41,8 +41,12 @@ cells_at columns place number = option_map (cell_of place) (column_of columns nu
 
 -- the numbers are those of the key column, if the aggregate has one
 abbrev pub AreKeys : Columns → Option ℕ → List (Option ℤ) → Type 0
-AreKeys columns key numbers = (column : ℕ × List Cell) × (option_and_then (column_of columns) key ≡ Some column) × (column.1 ≡ map int_cell numbers)
+AreKeys columns key numbers = (column : ℕ × List Cell)
+    × (option_and_then (column_of columns) key ≡ Some column)
+    × (column.1 ≡ map int_cell numbers)
 
 -- the numbers are those of the column with this number
 abbrev pub AreValues : Columns → ℕ → List (Option ℤ) → Type 0
-AreValues columns number numbers = (column : ℕ × List Cell) × (column_of columns number ≡ Some column) × (column.1 ≡ map int_cell numbers)
+AreValues columns number numbers = (column : ℕ × List Cell)
+    × (column_of columns number ≡ Some column)
+    × (column.1 ≡ map int_cell numbers)

@@ -23,7 +23,9 @@ pairs_over spec columns flags = filter_map (pair_at spec columns) (enumerate_fro
 
 -- the value of a place that is alive and passes the filter, if it has one
 abbrev pub value_at : Spec → Columns → ℕ × Bool → Option ℤ
-value_at spec columns place = cond place.1 (cond (keeps spec.filter (cells_at columns place.0)) (number_in (cells_at columns place.0 spec.value)) None) None
+value_at spec columns place = cond place.1
+    (cond (keeps spec.filter (cells_at columns place.0))
+    (number_in (cells_at columns place.0 spec.value)) None) None
 
 -- the values of the first places that are alive and pass the filter, in order
 abbrev pub values_over : Spec → Columns → List Bool → List ℤ

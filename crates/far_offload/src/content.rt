@@ -51,7 +51,8 @@ fn content_under<S: FarRead>(
     requires few { meter.old < 2 ^ 63 }
     requires here { S.is_of ticket.now (S.store_id store.now) }
     requires form { IsForm (S.content ticket.now) }
-    ensures content { IfOk result (λ content. content ≡ (number, cells_meant (S.content ticket.now))) }
+    ensures content { IfOk result
+        (λ content. content ≡ (number, cells_meant (S.content ticket.now))) }
     ensures faults { meter.new ≡ meter.old + faults_in result }
     ensures refused { RefusedBy (21 ∷ 1 ∷ []) result }
 {
@@ -70,7 +71,8 @@ pub(crate) fn contents_under<S: FarRead>(
     requires few { meter.old < 2 ^ 63 }
     requires here { All (λ ticket. S.is_of ticket.1 (S.store_id store.now)) tickets.now }
     requires forms { AreForms S.content tickets.now }
-    ensures contents { IfOk result (λ contents. contents.items ≡ columns_under S.content tickets.now) }
+    ensures contents { IfOk result
+        (λ contents. contents.items ≡ columns_under S.content tickets.now) }
     ensures faults { meter.new ≡ meter.old + faults_in result }
     ensures refused { RefusedBy (21 ∷ 1 ∷ []) result }
 {

@@ -66,7 +66,8 @@ pub(crate) fn value_at(
 /// Returns the number at a place in the column of the values, if the place is alive and has one.
 #[inline(always)]
 fn number_alive(values: Option<&Column<'_>>, place: usize, alive: bool) -> Option<i64>
-    ensures number { result ≡ cond alive (number_in (option_map (cell_of place) (option_copied values.entry))) None }
+    ensures number { result
+        ≡ cond alive (number_in (option_map (cell_of place) (option_copied values.entry))) None }
     ensures fits { IfSome result (FitsSigned w64) }
 {
     if alive {
@@ -99,8 +100,10 @@ pub(crate) fn value_beyond(
     min_max: &Option<MinMax>,
 ) -> Option<i64>
     requires { option_copied values ≡ column_of columns.now spec.now.value }
-    ensures beyond { IfSome result (λ value. Some value ≡ value_at spec.now columns.now (place, alive)) }
-    ensures within { IfNone result (IsWithin min_max.now (value_at spec.now columns.now (place, alive))) }
+    ensures beyond { IfSome result
+        (λ value. Some value ≡ value_at spec.now columns.now (place, alive)) }
+    ensures within { IfNone result
+        (IsWithin min_max.now (value_at spec.now columns.now (place, alive))) }
     ensures fits { IfSome result (FitsSigned w64) }
 {
     let Some(value) = number_alive(values, place, alive) else {

@@ -24,7 +24,9 @@ fn plain_totals(
 ) -> Result<LiveTotals, Refusal>
     requires few { length alive.now ≤ 2 ^ 26 }
     requires plain { spec.now.key ≡ None }
-    ensures totals { IfOk result (λ live. live ≡ record { left = 0; totals = totals (pairs_over spec.now columns.now alive.now) }) }
+    ensures totals { IfOk result
+        (λ live. live
+        ≡ record { left = 0; totals = totals (pairs_over spec.now columns.now alive.now) }) }
     ensures memory { IfErr result (λ e. e ≡ Refusal.NoMemory) }
 {
     let mut live = LiveTotals::new(alloc, 0);
@@ -45,7 +47,9 @@ fn keyed_totals(
 ) -> Result<LiveTotals, Refusal>
     requires few { length alive.now ≤ 2 ^ 26 }
     requires keyed { spec.now.key ≡ Some column }
-    ensures totals { IfOk result (λ live. live ≡ record { left = 0; totals = totals (pairs_over spec.now columns.now alive.now) }) }
+    ensures totals { IfOk result
+        (λ live. live
+        ≡ record { left = 0; totals = totals (pairs_over spec.now columns.now alive.now) }) }
     ensures memory { IfErr result (λ e. e ≡ Refusal.NoMemory) }
 {
     let values = find(columns, spec.value);
@@ -71,7 +75,9 @@ fn totals_of(
     alive: &[bool],
 ) -> Result<LiveTotals, Refusal>
     requires few { length alive.now ≤ 2 ^ 26 }
-    ensures totals { IfOk result (λ live. live ≡ record { left = 0; totals = totals (pairs_over spec.now columns.now alive.now) }) }
+    ensures totals { IfOk result
+        (λ live. live
+        ≡ record { left = 0; totals = totals (pairs_over spec.now columns.now alive.now) }) }
     ensures memory { IfErr result (λ e. e ≡ Refusal.NoMemory) }
 {
     match spec.key {
@@ -87,7 +93,8 @@ fn extrema_of(
     columns: &[Column<'_>],
     alive: &[bool],
 ) -> Result<GroupExtrema, Refusal>
-    ensures extrema { IfOk result (λ observed. observed ≡ extrema (pairs_over spec.now columns.now alive.now)) }
+    ensures extrema { IfOk result
+        (λ observed. observed ≡ extrema (pairs_over spec.now columns.now alive.now)) }
     ensures memory { IfErr result (λ e. e ≡ Refusal.NoMemory) }
 {
     let mut observed = GroupExtrema::new(alloc);
@@ -106,7 +113,8 @@ pub fn fold(
     alive: &[bool],
 ) -> Result<PartialDone, Refusal>
     requires few { length alive.now ≤ 2 ^ 26 }
-    ensures partial { IfOk result (λ done. done ≡ partial_of spec.now.fold (pairs_over spec.now columns.now alive.now)) }
+    ensures partial { IfOk result
+        (λ done. done ≡ partial_of spec.now.fold (pairs_over spec.now columns.now alive.now)) }
     ensures memory { IfErr result (λ e. e ≡ Refusal.NoMemory) }
 {
     match spec.fold {

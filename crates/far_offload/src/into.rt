@@ -31,8 +31,15 @@ pub fn fold_into(
     requires few { length alive.now ≤ 2 ^ 26 }
     requires fold { spec.now.fold ≡ folds.Totals }
     requires left { live.old.left ≢ 0 }
-    requires can_join { CanJoin live.old.totals (totals (pairs_over spec.now columns.now alive.now)) }
-    ensures ok { OnOk result (live.new ≡ record { left = live.old.left - 1; totals = joined_totals live.old.totals (totals (pairs_over spec.now columns.now alive.now)) }) }
+    requires can_join { CanJoin live.old.totals
+        (totals (pairs_over spec.now columns.now alive.now)) }
+    ensures ok { OnOk result
+        (live.new
+        ≡ record {
+          left = live.old.left - 1;
+          totals = joined_totals live.old.totals
+              (totals (pairs_over spec.now columns.now alive.now));
+        }) }
     ensures err { OnErr result (live.new ≡ live.old) }
     ensures memory { IfErr result (λ e. e ≡ Refusal.NoMemory) }
 {

@@ -31,9 +31,11 @@ impl<S: FarTickets> Model for OffloadJob<S> {
 
     ghost Value = { Job S.Ticket };
 
-    ghost view = { λ job. record { spec = job.spec; tickets = job.tickets.items; alive = job.alive.items } };
+    ghost view = { λ job. record
+        { spec = job.spec; tickets = job.tickets.items; alive = job.alive.items } };
 
-    ghost invariant = { λ job. AreForms S.content job.tickets.items × (length job.alive.items ≤ 2 ^ 26) };
+    ghost invariant = { λ job. AreForms S.content job.tickets.items
+        × (length job.alive.items ≤ 2 ^ 26) };
 }
 
 impl<S: FarTickets> OffloadJob<S> {
@@ -90,7 +92,10 @@ impl<S: FarRead> OffloadJob<S> {
     ) -> Result<PartialDone, (Refusal, OffloadJob<S>)>
         requires few { meter.old < 2 ^ 63 }
         requires here { All (λ ticket. S.is_of ticket.1 (S.store_id store.now)) self.tickets }
-        ensures partial { IfOk result (λ done. done ≡ partial_of self.spec.fold (pairs_over self.spec (columns_under S.content self.tickets) self.alive)) }
+        ensures partial { IfOk result
+            (λ done. done
+            ≡ partial_of self.spec.fold
+            (pairs_over self.spec (columns_under S.content self.tickets) self.alive)) }
         ensures back { IfErr result (λ refused. refused.1 ≡ self) }
         ensures faults { meter.new ≡ meter.old + faults_in (outcome result) }
         ensures refused { RefusedBy (21 ∷ 1 ∷ []) (outcome result) }
@@ -110,7 +115,11 @@ impl<S: FarRead> OffloadJob<S> {
     ) -> Result<PartialDone, Refusal>
         requires few { meter.old < 2 ^ 63 }
         requires here { All (λ ticket. S.is_of ticket.1 (S.store_id store.now)) self.now.tickets }
-        ensures partial { IfOk result (λ done. done ≡ partial_of self.now.spec.fold (pairs_over self.now.spec (columns_under S.content self.now.tickets) self.now.alive)) }
+        ensures partial { IfOk result
+            (λ done. done
+            ≡ partial_of self.now.spec.fold
+            (pairs_over self.now.spec (columns_under S.content self.now.tickets)
+            self.now.alive)) }
         ensures faults { meter.new ≡ meter.old + faults_in result }
         ensures refused { RefusedBy (21 ∷ 1 ∷ []) result }
     {

@@ -16,7 +16,8 @@ pub(crate) fn key_at(
     place: usize,
     earlier: Option<Key>,
 ) -> Result<Option<Key>, Refusal>
-    ensures key { IfOk result (λ key. key ≡ key_in (option_map (cell_of place) (option_copied column.entry))) }
+    ensures key { IfOk result
+        (λ key. key ≡ key_in (option_map (cell_of place) (option_copied column.entry))) }
     ensures memory { IfErr result (λ e. e ≡ Refusal.NoMemory) }
 {
     let Some(column) = column else {

@@ -11,5 +11,8 @@ ghost use Rattle.far_offload.specs.Partials.{pairs_over};
 /// in order. For that, each column that the aggregate needs begins with the cells of those places, and the flags are those of the
 /// places.
 pub fn columns_at_hand_give_the_pairs_of_their_places()
-    ensures { (spec : Spec) → (columns : Columns) → (size g : ℕ) → (places : List Place) → AreAtHand spec columns (in_group size g places) → pairs_over spec columns (map (λ place. place.alive) (in_group size g places)) ≡ filter_map (place_pair spec) (in_group size g places) }
+    ensures { (spec : Spec) → (columns : Columns) → (size g : ℕ) → (places : List Place)
+        → AreAtHand spec columns (in_group size g places)
+        → pairs_over spec columns (map (λ place. place.alive) (in_group size g places))
+        ≡ filter_map (place_pair spec) (in_group size g places) }
 {}

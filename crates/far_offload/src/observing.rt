@@ -20,7 +20,9 @@ fn observe_plain(
     alive: &[bool],
 ) -> Result<(), Refusal>
     requires { spec.now.key ≡ None }
-    ensures ok { OnOk result (observed.new ≡ joined_extrema observed.old (extrema (pairs_over spec.now columns.now alive.now))) }
+    ensures ok { OnOk result
+        (observed.new
+        ≡ joined_extrema observed.old (extrema (pairs_over spec.now columns.now alive.now))) }
     ensures memory { IfErr result (λ e. e ≡ Refusal.NoMemory) }
 {
     match min_max_of(spec, columns, alive) {
@@ -39,7 +41,9 @@ fn observe_keyed(
     alive: &[bool],
 ) -> Result<(), Refusal>
     requires { spec.now.key ≡ Some column }
-    ensures ok { OnOk result (observed.new ≡ joined_extrema observed.old (extrema (pairs_over spec.now columns.now alive.now))) }
+    ensures ok { OnOk result
+        (observed.new
+        ≡ joined_extrema observed.old (extrema (pairs_over spec.now columns.now alive.now))) }
     ensures memory { IfErr result (λ e. e ≡ Refusal.NoMemory) }
 {
     let values = find(columns, spec.value);
@@ -67,7 +71,9 @@ pub fn observe_into(
     columns: &[Column<'_>],
     alive: &[bool],
 ) -> Result<(), Refusal>
-    ensures ok { OnOk result (observed.new ≡ joined_extrema observed.old (extrema (pairs_over spec.now columns.now alive.now))) }
+    ensures ok { OnOk result
+        (observed.new
+        ≡ joined_extrema observed.old (extrema (pairs_over spec.now columns.now alive.now))) }
     ensures memory { IfErr result (λ e. e ≡ Refusal.NoMemory) }
 {
     match spec.key {

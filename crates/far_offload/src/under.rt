@@ -30,7 +30,8 @@ fn key_column<'a, 'b>(columns: &'a [Column<'b>], key: Option<u32>) -> Option<&'a
 /// Returns whether a column's key at a place is this one.
 #[inline(always)]
 fn gives(column: Option<&Column<'_>>, place: usize, key: &Key) -> bool
-    ensures { IsTrue result ↔ (key_in (option_map (cell_of place) (option_copied column.entry)) ≡ Some key.now) }
+    ensures { IsTrue result
+        ↔ (key_in (option_map (cell_of place) (option_copied column.entry)) ≡ Some key.now) }
 {
     match column {
         Some(column) => column.cell(place).is_key(key),
@@ -66,7 +67,9 @@ trait NumberKeys {
 
     /// Returns whether the number at a place is this one.
     fn is_at(&self, place: usize, number: &i64) -> bool
-        ensures { IsTrue result ↔ (slice_index_or (map int_cell (numbers self.now)) place Missing ≡ cell.Int number.now) };
+        ensures { IsTrue result
+            ↔ (slice_index_or (map int_cell (numbers self.now)) place Missing
+            ≡ cell.Int number.now) };
 }
 
 impl<'a> NumberKeys for LentInts<'a> {
@@ -103,7 +106,9 @@ fn min_max_under_number<N: NumberKeys>(
     number: &i64,
 ) -> Option<MinMax>
     requires { AreKeys columns.now spec.now.key (N.numbers keys.now) }
-    ensures min_max { result ≡ fin.get (extrema (pairs_over spec.now columns.now alive.now)) (Some (key_of.Int number.now)) }
+    ensures min_max { result
+        ≡ fin.get (extrema (pairs_over spec.now columns.now alive.now))
+        (Some (key_of.Int number.now)) }
     ensures fits { MinMaxFits result }
 {
     let values = find(columns, spec.value);
@@ -125,7 +130,8 @@ fn min_max_under_key(
     alive: &[bool],
     key: &Option<Key>,
 ) -> Option<MinMax>
-    ensures min_max { result ≡ fin.get (extrema (pairs_over spec.now columns.now alive.now)) key.now }
+    ensures min_max { result
+        ≡ fin.get (extrema (pairs_over spec.now columns.now alive.now)) key.now }
     ensures fits { MinMaxFits result }
 {
     let values = find(columns, spec.value);
@@ -162,7 +168,8 @@ fn untested_numbers<'a>(spec: &Spec, columns: &[Column<'a>]) -> Option<&'a [Opti
 /// Returns the number in a list at a place, if there is one.
 #[inline(always)]
 fn number_at(numbers: &[Option<i64>], place: usize) -> Option<i64>
-    ensures number { result ≡ number_in (Some (slice_index_or (map int_cell numbers.now) place Missing)) }
+    ensures number { result
+        ≡ number_in (Some (slice_index_or (map int_cell numbers.now) place Missing)) }
     ensures fits { IfSome result (FitsSigned w64) }
 {
     match numbers.get(place) {
@@ -223,7 +230,8 @@ pub fn min_max_under(
     alive: &[bool],
     key: &Option<Key>,
 ) -> Option<MinMax>
-    ensures min_max { result ≡ fin.get (extrema (pairs_over spec.now columns.now alive.now)) key.now }
+    ensures min_max { result
+        ≡ fin.get (extrema (pairs_over spec.now columns.now alive.now)) key.now }
     ensures fits { MinMaxFits result }
 {
     if let (Some(column), Some(Key::Int(number))) = (key_column(columns, spec.key), key) {

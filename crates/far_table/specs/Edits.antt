@@ -25,19 +25,28 @@ module _ {K : Type 0} (s : LiveState K) where
 
   -- how long the text object of a column is that the edit writes
   abbrev pub length_after : Edit → ℕ → ℕ
-  length_after e column = text_object_length s.table.limits column (group_of e) (places_after e s.table.places)
+  length_after e column = text_object_length s.table.limits column (group_of e)
+      (places_after e s.table.places)
 
   -- what the edit writes does not fit into the free space. An insert places the texts of all columns and then, if a row group begins,
   -- numbers. A set places its text
   abbrev pub no_space : Edit → List (Bool × Refusal)
-  no_space (edit.Insert row) = no_space_for_texts s.rows (map (λ c. length_after (edit.Insert row) c.column) s.rows.texts) ∷ no_space_for_numbers s.rows ∷ []
-  no_space (edit.Set p c cell) = (is_text (slice_get s.table.schema c) && not (fits_in s.rows.text_objects.memory.state (length_after (edit.Set p c cell) c)), refusal.RegionFull) ∷ []
+  no_space (edit.Insert row) = no_space_for_texts s.rows
+      (map (λ c. length_after (edit.Insert row) c.column) s.rows.texts)
+      ∷ no_space_for_numbers s.rows ∷ []
+  no_space (edit.Set p c cell) = (
+    is_text (slice_get s.table.schema c)
+        && not (fits_in s.rows.text_objects.memory.state (length_after (edit.Set p c cell) c)),
+    refusal.RegionFull,
+  ) ∷ []
   no_space (edit.Remove p) = []
 
   -- why an edit without a fault of its own may be refused. The object of some column is away. A text object would be too long. There is
   -- no space. The edits are used up
   abbrev pub obstacles : Edit → List (Bool × Refusal)
-  obstacles e = absents s.rows (group_of e) ++ ((overfills s.table.schema s.table.limits e s.table.places, refusal.ChunkFull) ∷ (no_space e ++ (s.table.edits == s.table.limits.edits, refusal.EditsUsedUp) ∷ []))
+  obstacles e = absents s.rows (group_of e)
+      ++ ((overfills s.table.schema s.table.limits e s.table.places, refusal.ChunkFull)
+      ∷ (no_space e ++ (s.table.edits == s.table.limits.edits, refusal.EditsUsedUp) ∷ []))
 
   -- why an edit is refused, running out of memory aside: the first that applies
   abbrev pub edit_due : Edit → Option Refusal

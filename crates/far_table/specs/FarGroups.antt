@@ -34,17 +34,22 @@ module _ {K : Type 0} where
   needs_column g column = needs g.build.job.spec column
 
   -- a content is that of a column of the row group
-  pub record IsCopy (content : K → List ℕ) (r : Rows K) (group column : ℕ) (ticket : K) : Type 0 where
+  pub record IsCopy (content : K → List ℕ) (r : Rows K) (group column : ℕ)
+      (ticket : K) : Type 0 where
     pub form : IsForm (content ticket)
-    pub cells : IsOfPlaces (in_group r.size group (places_in content r)) (column, cells_meant (content ticket))
+    pub cells : IsOfPlaces (in_group r.size group (places_in content r))
+        (column, cells_meant (content ticket))
 
   -- the tickets that the build needs are those of contents of the row group's columns, and its flags are those of the places
   pub record AreCopies (content : K → List ℕ) (g : FarRows K) : Type 0 where
-    pub tickets : (column : ℕ) → needs g.build.job.spec column ≡ true → IsSomeAnd (ticket_for g.build.job.tickets column) (IsCopy content g.rows g.build.group column)
+    pub tickets : (column : ℕ) → needs g.build.job.spec column ≡ true
+        → IsSomeAnd (ticket_for g.build.job.tickets column)
+        (IsCopy content g.rows g.build.group column)
     pub alive : g.build.job.alive ≡ in_group g.rows.size g.build.group g.rows.alive
 
   -- what is lent: the specification, the flags and the contents are those of the build
-  pub record AreLentFrom (content : K → List ℕ) (g : FarRows K) (spec : Spec) (flags : List Bool) (contents : List (ℕ × List ℕ)) : Type 0 where
+  pub record AreLentFrom (content : K → List ℕ) (g : FarRows K) (spec : Spec) (flags : List Bool)
+      (contents : List (ℕ × List ℕ)) : Type 0 where
     pub copies : AreCopies content g
     pub same_spec : spec ≡ g.build.job.spec
     pub same_flags : flags ≡ g.build.job.alive

@@ -26,7 +26,10 @@ module _ {K : Type 0} where
     pub record IsLentOf (column : ℕ) (found : Option LentColumn) : Type 0 where
       pub there : has_column g column ≡ true → IsSome found
       pub form : IfSome found IsLent
-      pub cells : IfSome found (λ lent. option_map (in_group g.rows.size g.group) (slice_get (all_cells content g.rows) column) ≡ Some (cells_lent lent))
+      pub cells : IfSome found
+          (λ lent. option_map (in_group g.rows.size g.group)
+          (slice_get (all_cells content g.rows) column)
+          ≡ Some (cells_lent lent))
 
     -- what was lent of the columns, and the flags of the places
     pub record AreLent (columns : List (Option LentColumn)) (flags : List Bool) : Type 0 where

@@ -39,9 +39,14 @@ module _ {K : Type 0} where
     -- contents of columns that are away: of those below a number, each that an aggregate needs is among them
     pub record AreReadBelow (n : ℕ) (spec : Spec) (contents : List (ℕ × List ℕ)) : Type 0 where
       pub each : All IsRead contents
-      pub all : (column : ℕ) → column < n → needs spec column ≡ true → has_column g column ≡ false → IsSome (find (λ read. read.0 == column) contents)
+      pub all : (column : ℕ) → column < n
+          → needs spec column ≡ true
+          → has_column g column ≡ false
+          → IsSome (find (λ read. read.0 == column) contents)
 
     -- contents of all columns that an aggregate needs and that are away
     pub record AreRead (spec : Spec) (contents : List (ℕ × List ℕ)) : Type 0 where
       pub each : All IsRead contents
-      pub all : (column : ℕ) → needs spec column ≡ true → has_column g column ≡ false → IsSome (find (λ read. read.0 == column) contents)
+      pub all : (column : ℕ) → needs spec column ≡ true
+          → has_column g column ≡ false
+          → IsSome (find (λ read. read.0 == column) contents)

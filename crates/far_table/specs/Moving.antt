@@ -15,32 +15,46 @@ use Rattle.far_table.specs.TableRows.{TableRows}
 module _ {K : Type 0} where
   -- the object of a row group of a column is pinned once more
   abbrev pub IsPinned : ℕ → ℕ → Rows K → Rows K → Type 0
-  IsPinned column group old new = IsSomeAnd (object_at old column group) (λ object. new ≡ after_pin old object)
+  IsPinned column group old new = IsSomeAnd (object_at old column group)
+      (λ object. new ≡ after_pin old object)
 
   -- it is pinned once less
   abbrev pub IsUnpinned : ℕ → ℕ → Rows K → Rows K → Type 0
-  IsUnpinned column group old new = IsSomeAnd (object_at old column group) (λ object. new ≡ after_unpin old object)
+  IsUnpinned column group old new = IsSomeAnd (object_at old column group)
+      (λ object. new ≡ after_unpin old object)
 
   -- it is marked as recently used, if it is local
   abbrev pub IsTouched : ℕ → ℕ → Rows K → Rows K → Type 0
-  IsTouched column group old new = IsSomeAnd (object_at old column group) (λ object. new ≡ after_touch old object)
+  IsTouched column group old new = IsSomeAnd (object_at old column group)
+      (λ object. new ≡ after_touch old object)
 
   -- a carried evacuation is accepted, its object has no pin, and is away
-  pub record IsCommitted (number_of : K → ℕ) (carried : ByKind (CarriedEvacuation K) (CarriedEvacuation K)) (old new : Rows K) : Type 0 where
+  pub record IsCommitted (number_of : K → ℕ)
+      (carried : ByKind (CarriedEvacuation K) (CarriedEvacuation K))
+      (old new : Rows K) : Type 0 where
     pub accepted : IsEvacAccepted number_of old carried
     pub free : pins_by old carried ≡ 0
     pub away : new ≡ after_commit old carried
 
   -- a carried fetch is accepted, its object fits, and is back
-  pub record IsInstalled (content : K → List ℕ) (number_of : K → ℕ) (fetched : ByKind (CarriedFetch K) (CarriedFetch K)) (old new : Rows K) : Type 0 where
+  pub record IsInstalled (content : K → List ℕ) (number_of : K → ℕ)
+      (fetched : ByKind (CarriedFetch K) (CarriedFetch K)) (old new : Rows K) : Type 0 where
     pub accepted : IsFetchAccepted number_of old fetched
     pub space : ¬ (HasNoSpace content old fetched)
     pub back : IsAfterInstall content old fetched new
 
   -- a segment of the objects of a kind is compacted
   abbrev pub IsCompactedOf : Kind → ℕ → Rows K → Rows K → Type 0
-  IsCompactedOf kind.Int segment old new = IsCompacted old.number_objects.memory new.number_objects.memory segment × (new ≡ record old { number_objects = record old.number_objects { memory = new.number_objects.memory } })
-  IsCompactedOf kind.Text segment old new = IsCompacted old.text_objects.memory new.text_objects.memory segment × (new ≡ record old { text_objects = record old.text_objects { memory = new.text_objects.memory } })
+  IsCompactedOf kind.Int segment old new = IsCompacted old.number_objects.memory
+      new.number_objects.memory segment
+      × (new
+      ≡ record old
+      { number_objects = record old.number_objects { memory = new.number_objects.memory } })
+  IsCompactedOf kind.Text segment old new = IsCompacted old.text_objects.memory
+      new.text_objects.memory segment
+      × (new
+      ≡ record old
+      { text_objects = record old.text_objects { memory = new.text_objects.memory } })
 
   -- how many segments the objects of a kind have
   abbrev pub segments_of : Kind → Rows K → ℕ

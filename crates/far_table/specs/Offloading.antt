@@ -26,7 +26,8 @@ pub record Build (K : Type 0) : Type 0 where
 module _ {K : Type 0} where
   -- the ticket of a column, of some tickets
   abbrev pub ticket_for : List (ℕ × K) → ℕ → Option K
-  ticket_for tickets column = option_map (λ ticket. ticket.1) (find (λ ticket. ticket.0 == column) tickets)
+  ticket_for tickets column = option_map (λ ticket. ticket.1)
+      (find (λ ticket. ticket.0 == column) tickets)
 
   -- each ticket is of the store with this id
   abbrev pub AreTicketsOf : (K → List ℕ → Type 0) → List ℕ → List (ℕ × K) → Type 0
@@ -42,7 +43,9 @@ module _ {K : Type 0} where
   -- store does not have the row group as it is now
   abbrev pub dirty_from : Rows K → Spec → ℕ → ℕ → List ColumnIndex → List (Bool × Refusal)
   dirty_from r spec g n [] = []
-  dirty_from r spec g n (s ∷ column_indexes) = (needs spec n && is_none (copy_of r n g), refusal.StaleJob) ∷ dirty_from r spec g (n + 1) column_indexes
+  dirty_from r spec g n (s ∷ column_indexes) =
+      (needs spec n && is_none (copy_of r n g), refusal.StaleJob)
+      ∷ dirty_from r spec g (n + 1) column_indexes
 
   -- a build is begun if the row group has a place, is still pending, and the columns that the aggregate needs are clean
   abbrev pub offload_refusal : LiveState K → Option Registered → ℕ → Option Refusal
@@ -63,7 +66,9 @@ module _ {K : Type 0} where
     pub aggregate : build.aggregate ≡ a
     pub group : build.group ≡ g
     pub registered : IsSomeAnd (aggregate_at s.table a) (IsBuildOf build)
-    pub tickets : (column : ℕ) → ticket_for build.job.tickets column ≡ cond (needs build.job.spec column) (copy_of s.rows column g) None
+    pub tickets : (column : ℕ)
+        → ticket_for build.job.tickets column
+        ≡ cond (needs build.job.spec column) (copy_of s.rows column g) None
     pub alive : build.job.alive ≡ in_group s.rows.size g s.rows.alive
 
   module _ (number_of : K → ℕ) (s : LiveState K) (build : Build K) where
@@ -72,7 +77,9 @@ module _ {K : Type 0} where
       pub number : build.number ≡ s.rows.number_objects.number
       pub registered : IsBuildOf build aggregate
       pub pending : is_pending aggregate.pending build.group ≡ true
-      pub tickets : (column : ℕ) → needs build.job.spec column ≡ true → HaveOneNumber number_of (copy_of s.rows column build.group) (ticket_for build.job.tickets column)
+      pub tickets : (column : ℕ) → needs build.job.spec column ≡ true
+          → HaveOneNumber number_of (copy_of s.rows column build.group)
+          (ticket_for build.job.tickets column)
       pub alive : build.job.alive ≡ in_group s.rows.size build.group s.rows.alive
 
     -- a carried build is accepted

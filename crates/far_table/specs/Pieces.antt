@@ -20,7 +20,8 @@ run_of size from to places = take ((to - from) * size) (drop (from * size) place
 
 -- the i-th piece was folded: its rows come to what a row group as wide as a piece does, or it was refused. Its meter is 1 if the store
 -- failed, otherwise 0
-pub record IsPiece (spec : Spec) (wide : ℕ) (places : List Place) (i : ℕ) (piece : Piece) : Type 0 where
+pub record IsPiece (spec : Spec) (wide : ℕ) (places : List Place) (i : ℕ)
+    (piece : Piece) : Type 0 where
   pub partial : IfOk piece.partial (λ done. done ≡ partial_at spec wide places i)
   pub faults : piece.meter ≡ faults_in piece.partial
 

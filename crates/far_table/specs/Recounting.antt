@@ -16,11 +16,13 @@ recount_refusal table a workers = first_of (
 
 -- this is the answer of an aggregate over the rows as they are now
 abbrev pub IsAnswerNow : Table → ℕ → Answer → Type 0
-IsAnswerNow table a answer = IsSomeAnd (aggregate_at table a) (λ aggregate. answer ≡ answer_now aggregate.spec table)
+IsAnswerNow table a answer = IsSomeAnd (aggregate_at table a)
+    (λ aggregate. answer ≡ answer_now aggregate.spec table)
 
 -- why rows are not folded: the store failed, and the caller's meter rose; or memory ran out, and it did not
 abbrev pub FoldRefusal : ℕ → ℕ → Refusal → Type 0
-FoldRefusal old new given = ((given ≡ refusal.FarFault) × (old < new)) ⊎ ((given ≡ refusal.NoMemory) × (new ≡ old))
+FoldRefusal old new given = ((given ≡ refusal.FarFault) × (old < new))
+    ⊎ ((given ≡ refusal.NoMemory) × (new ≡ old))
 
 -- why a recount is refused: for what is due, and the meter stays; else as rows are not folded
 abbrev pub RecountRefusal : Option Refusal → ℕ → ℕ → Refusal → Type 0

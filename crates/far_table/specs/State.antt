@@ -15,7 +15,8 @@ pub record LiveState (K : Type 0) : Type 0 where
 
 -- a table as it is opened
 abbrev pub empty_live_state : {K : Type 0} → List Kind → Limits → ℕ → LiveState K
-empty_live_state schema limits number = record { table = empty_table schema limits; rows = empty_rows schema limits number }
+empty_live_state schema limits number = record
+    { table = empty_table schema limits; rows = empty_rows schema limits number }
 
 -- what is registered may be had over the schema
 abbrev pub IsChecked : List Kind → Option Registered → Type 0

@@ -26,11 +26,28 @@ pub record TableRows (K : Type 0) : Type 0 where
 module _ {K : Type 0} where
   -- the places are those that the rows hold, local or away
   abbrev pub rows_in : (K → List ℕ) → List Kind → Limits → Rows K → Values → ℕ → TableRows K
-  rows_in content schema limits held new_row edits = record { schema = schema; limits = limits; places = places_in content held; edits = edits; new_row = new_row; held = held }
+  rows_in content schema limits held new_row edits = record {
+    schema = schema;
+    limits = limits;
+    places = places_in content held;
+    edits = edits;
+    new_row = new_row;
+    held = held;
+  }
 
   -- a table of which only what an edit's refusal looks at is known
   abbrev pub asked : TableRows K → LiveState K
-  asked t = record { table = record { schema = t.schema; limits = t.limits; places = t.places; edits = t.edits; registrations = 0; aggregates = [] }; rows = t.held }
+  asked t = record {
+    table = record {
+      schema = t.schema;
+      limits = t.limits;
+      places = t.places;
+      edits = t.edits;
+      registrations = 0;
+      aggregates = [];
+    };
+    rows = t.held;
+  }
 
   -- objects may be written as often as the table may be edited, and none was written more often than the table was edited
   pub record AreWritten {X : Type 0} (limits : Limits) (edits : ℕ) (m : Movement X K) : Type 0 where
@@ -38,7 +55,8 @@ module _ {K : Type 0} where
     pub versions : (o : ℕ) → version_of m o ≤ edits
 
   -- what always holds of the parts of such rows
-  pub record AreTableRows (content : K → List ℕ) (schema : List Kind) (limits : Limits) (held : Rows K) (new_row : Values) (edits : ℕ) : Type 0 where
+  pub record AreTableRows (content : K → List ℕ) (schema : List Kind) (limits : Limits)
+      (held : Rows K) (new_row : Values) (edits : ℕ) : Type 0 where
     pub bounds : AreLimits limits
     pub kinds : map kind_of held.column_indexes ≡ schema
     pub layout : AreOf limits held
@@ -52,7 +70,8 @@ module _ {K : Type 0} where
     pub new_row_fit : RowFits (row_of held.column_indexes new_row)
 
   -- rows of a table as it is opened
-  pub record AreOpened (kinds : List Kind) (bounds : Limits) (number : ℕ) (t : TableRows K) : Type 0 where
+  pub record AreOpened (kinds : List Kind) (bounds : Limits) (number : ℕ)
+      (t : TableRows K) : Type 0 where
     pub schema : t.schema ≡ kinds
     pub limits : t.limits ≡ bounds
     pub places : t.places ≡ []

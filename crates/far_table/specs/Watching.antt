@@ -43,7 +43,9 @@ module _ {K : Type 0} where
   -- the row group is away
   abbrev pub needed_from : Rows K → Spec → ℕ → ℕ → List ColumnIndex → List (Bool × Refusal)
   needed_from r spec g n [] = []
-  needed_from r spec g n (s ∷ column_indexes) = (needs spec n && (away_at r g s).0, refusal.Absent n g) ∷ needed_from r spec g (n + 1) column_indexes
+  needed_from r spec g n (s ∷ column_indexes) =
+      (needs spec n && (away_at r g s).0, refusal.Absent n g)
+      ∷ needed_from r spec g (n + 1) column_indexes
 
   -- a row group is scanned if it has a place, is still pending, and the columns that the aggregate needs are local
   abbrev pub scan_refusal : LiveState K → Option Registered → ℕ → Option Refusal
@@ -55,15 +57,21 @@ module _ {K : Type 0} where
 
 -- a table with an aggregate under a number, or with none
 abbrev pub with_aggregate : ℕ → Option Registered → Table → Table
-with_aggregate a aggregate table = record table { aggregates = slice_set table.aggregates a aggregate }
+with_aggregate a aggregate table = record table
+    { aggregates = slice_set table.aggregates a aggregate }
 
 -- an aggregate that is registered now
 abbrev pub registered_now : Spec → Table → Registered
-registered_now spec table = record { spec = spec; registration = table.registrations; pending = all_pending table.limits.group table.places }
+registered_now spec table = record {
+  spec = spec;
+  registration = table.registrations;
+  pending = all_pending table.limits.group table.places;
+}
 
 -- the table once an aggregate is registered under this number
 abbrev pub after_register_at : ℕ → Spec → Table → Table
-after_register_at a spec table = record (with_aggregate a (Some (registered_now spec table)) table) { registrations = table.registrations + 1 }
+after_register_at a spec table = record (with_aggregate a (Some (registered_now spec table)) table)
+    { registrations = table.registrations + 1 }
 
 -- a row group less is still pending in the aggregate of a number
 abbrev pub after_scan_at : ℕ → ℕ → Table → Table

@@ -31,7 +31,8 @@ impl Model for Content {
 
 /// Returns the content of a column, among these. Allocates nothing.
 pub(crate) fn content_for(contents: &[Content], column: u32) -> Option<&[u8]>
-    ensures { option_map (λ form. form.now) result ≡ option_map (λ content. content.1) (find (λ content. content.0 == column) contents.now) }
+    ensures { option_map (λ form. form.now) result
+        ≡ option_map (λ content. content.1) (find (λ content. content.0 == column) contents.now) }
 {
     match contents.iter().find(|content| content.column == column) {
         Some(content) => Some(&content.form),
@@ -72,7 +73,8 @@ pub(crate) fn contents_of<S: FarRead>(
 ) -> Result<Vec<Content>, Refusal>
     requires few { meter.old < 2 ^ 63 }
     requires here { AreTicketsOf S.is_of (S.store_id store.now) tickets.now }
-    ensures contents { IfOk result (λ contents. contents.items ≡ contents_under S.content tickets.now) }
+    ensures contents { IfOk result
+        (λ contents. contents.items ≡ contents_under S.content tickets.now) }
     ensures faults { meter.new ≡ meter.old + faults_in result }
     ensures refused { RefusedBy (21 ∷ 1 ∷ []) result }
 {
@@ -101,7 +103,9 @@ pub(crate) fn contents_away<S: FarRead>(
     requires here { AreAt S.is_of (S.store_id store.now) rows.now }
     requires begun { group * rows.now.size < length rows.now.alive }
     requires may_fold { MayFold rows.now spec.now }
-    ensures contents { IfOk result (λ contents. AreRead S.content record { rows = rows.now; group = group } spec.now contents.items) }
+    ensures contents { IfOk result
+        (λ contents. AreRead S.content record { rows = rows.now; group = group } spec.now
+        contents.items) }
     ensures faults { meter.new ≡ meter.old + faults_in result }
     ensures refused { RefusedBy (21 ∷ 1 ∷ []) result }
 {

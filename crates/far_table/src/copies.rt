@@ -24,7 +24,8 @@ use std::alloc::Global;
 pub(crate) fn copy_of<S: FarTickets>(rows: &Rows<S>, column: u32, group: u32) -> Option<&S::Ticket>
     ensures ticket { option_map (λ ticket. ticket.now) result ≡ copy_of rows.now column group }
     ensures copy { IfSome result (λ ticket. IsCopy S.content rows.now group column ticket.now) }
-    ensures here { (id : List ℕ) → AreAt S.is_of id rows.now → IfSome result (λ ticket. S.is_of ticket.now id) }
+    ensures here { (id : List ℕ) → AreAt S.is_of id rows.now
+        → IfSome result (λ ticket. S.is_of ticket.now id) }
     ensures away { (absent_in rows.now column group).0 ≡ true → IsSome result }
 {
     // For the proof: gives `AreRows`.
@@ -42,8 +43,11 @@ pub(crate) fn away_copy<'a, S: FarTickets>(
     requires inside { column < length rows.now.column_indexes }
     requires begun { group * rows.now.size < length rows.now.alive }
     ensures copy { IfSome result (λ ticket. IsCopy S.content rows.now group column ticket.now) }
-    ensures here { (id : List ℕ) → AreAt S.is_of id rows.now → IfSome result (λ ticket. S.is_of ticket.now id) }
-    ensures all { needs spec.now column ≡ true → has_column record { rows = rows.now; group = group } column ≡ false → IsSome result }
+    ensures here { (id : List ℕ) → AreAt S.is_of id rows.now
+        → IfSome result (λ ticket. S.is_of ticket.now id) }
+    ensures all { needs spec.now column ≡ true
+        → has_column record { rows = rows.now; group = group } column ≡ false
+        → IsSome result }
 {
     // For the proof: gives `AreRows`.
     let _len = rows.len();
@@ -61,7 +65,8 @@ pub(crate) fn are_copied<S: FarTickets>(
     spec: &Spec,
     group: u32,
 ) -> Result<(), Refusal>
-    ensures { refusal_in result ≡ first_of (dirty_from rows.now spec.now group 0 rows.now.column_indexes) }
+    ensures { refusal_in result
+        ≡ first_of (dirty_from rows.now spec.now group 0 rows.now.column_indexes) }
 {
     // For the proof: gives `AreRows`.
     let _len = rows.len();
@@ -91,9 +96,13 @@ pub(crate) fn copies_of<S: FarTickets>(
     group: u32,
 ) -> Result<Vec<(u32, S::Ticket)>, Refusal>
     requires here { AreAt S.is_of (S.store_id store.now) rows.now }
-    ensures tickets { IfOk result (λ tickets. (column : ℕ) → ticket_for tickets.items column ≡ cond (needs spec.now column) (copy_of rows.now column group) None) }
+    ensures tickets { IfOk result
+        (λ tickets. (column : ℕ)
+        → ticket_for tickets.items column
+        ≡ cond (needs spec.now column) (copy_of rows.now column group) None) }
     ensures forms { IfOk result (λ tickets. AreForms S.content tickets.items) }
-    ensures here { IfOk result (λ tickets. AreTicketsOf S.is_of (S.store_id store.now) tickets.items) }
+    ensures here { IfOk result
+        (λ tickets. AreTicketsOf S.is_of (S.store_id store.now) tickets.items) }
     ensures memory { IfErr result (λ e. e ≡ Refusal.NoMemory) }
 {
     // For the proof: gives `AreRows`.
@@ -113,9 +122,11 @@ fn needed_copy<'a, S: FarTickets>(
     column: u32,
     group: u32,
 ) -> Option<&'a S::Ticket>
-    ensures ticket { option_map (λ ticket. ticket.now) result ≡ cond (needs spec.now column) (copy_of rows.now column group) None }
+    ensures ticket { option_map (λ ticket. ticket.now) result
+        ≡ cond (needs spec.now column) (copy_of rows.now column group) None }
     ensures form { IfSome result (λ ticket. IsForm (S.content ticket.now)) }
-    ensures here { (id : List ℕ) → AreAt S.is_of id rows.now → IfSome result (λ ticket. S.is_of ticket.now id) }
+    ensures here { (id : List ℕ) → AreAt S.is_of id rows.now
+        → IfSome result (λ ticket. S.is_of ticket.now id) }
 {
     if !spec.needs(column) {
         return None;
@@ -131,7 +142,10 @@ fn add<S: FarTickets>(
     copy: Option<&S::Ticket>,
 ) -> Result<(), Refusal>
     requires here { IfSome copy (λ ticket. S.is_of ticket.now (S.store_id store.now)) }
-    ensures added { OnOk result (tickets.new.items ≡ tickets.old.items ++ cons_option (option_map (λ ticket. (column, ticket.now)) copy.entry) []) }
+    ensures added { OnOk result
+        (tickets.new.items
+        ≡ tickets.old.items
+        ++ cons_option (option_map (λ ticket. (column, ticket.now)) copy.entry) []) }
     ensures memory { IfErr result (λ e. e ≡ Refusal.NoMemory) }
 {
     if let Some(ticket) = copy {
@@ -158,8 +172,11 @@ fn is_still<S: FarTickets>(
 ) -> bool
     requires here { AreAt S.is_of (S.store_id store.now) rows.now }
     requires tickets_here { AreTicketsOf S.is_of (S.store_id store.now) tickets.now }
-    ensures exact { IsTrue result ↔ HaveOneNumber S.number_of (copy_of rows.now column group) (ticket_for tickets.now column) }
-    ensures copy { IsTrue result → IsSomeAnd (ticket_for tickets.now column) (IsCopy S.content rows.now group column) }
+    ensures exact { IsTrue result
+        ↔ HaveOneNumber S.number_of (copy_of rows.now column group)
+        (ticket_for tickets.now column) }
+    ensures copy { IsTrue result
+        → IsSomeAnd (ticket_for tickets.now column) (IsCopy S.content rows.now group column) }
 {
     let Some(own) = copy_of(rows, column, group) else {
         return false;
@@ -180,8 +197,14 @@ pub(crate) fn are_still<S: FarTickets>(
 ) -> bool
     requires here { AreAt S.is_of (S.store_id store.now) rows.now }
     requires tickets_here { AreTicketsOf S.is_of (S.store_id store.now) tickets.now }
-    ensures exact { IsTrue result ↔ AllNeeded (length rows.now.column_indexes) spec.now (λ column. HaveOneNumber S.number_of (copy_of rows.now column group) (ticket_for tickets.now column)) }
-    ensures copies { IsTrue result → AllNeeded (length rows.now.column_indexes) spec.now (λ column. IsSomeAnd (ticket_for tickets.now column) (IsCopy S.content rows.now group column)) }
+    ensures exact { IsTrue result
+        ↔ AllNeeded (length rows.now.column_indexes) spec.now
+        (λ column. HaveOneNumber S.number_of (copy_of rows.now column group)
+        (ticket_for tickets.now column)) }
+    ensures copies { IsTrue result
+        → AllNeeded (length rows.now.column_indexes) spec.now
+        (λ column. IsSomeAnd (ticket_for tickets.now column)
+        (IsCopy S.content rows.now group column)) }
 {
     // For the proof: gives `AreRows`.
     let _len = rows.len();

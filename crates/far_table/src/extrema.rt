@@ -32,7 +32,10 @@ fn observe_at<S: FarRead>(
     requires here { AreAt S.is_of (S.store_id store.now) rows.now }
     requires begun { group * rows.now.size < length rows.now.alive }
     requires may_fold { MayFold rows.now spec.now }
-    ensures extrema { OnOk result (observed.new ≡ joined_extrema observed.old (extrema (group_pairs spec.now rows.now.size group (places_in S.content rows.now)))) }
+    ensures extrema { OnOk result
+        (observed.new
+        ≡ joined_extrema observed.old
+        (extrema (group_pairs spec.now rows.now.size group (places_in S.content rows.now)))) }
     ensures faults { meter.new ≡ meter.old + faults_in result }
     ensures refused { RefusedBy (21 ∷ 1 ∷ []) result }
 {
@@ -64,7 +67,10 @@ pub(crate) fn observe_run<S: FarRead>(
     requires order { from ≤ to }
     requires begun { (group : ℕ) → group < to → group * rows.now.size < length rows.now.alive }
     requires may_fold { MayFold rows.now spec.now }
-    ensures extrema { IfOk result (λ observed. observed ≡ extrema (pairs_here spec.now (run_of rows.now.size from to (places_in S.content rows.now)))) }
+    ensures extrema { IfOk result
+        (λ observed. observed
+        ≡ extrema
+        (pairs_here spec.now (run_of rows.now.size from to (places_in S.content rows.now)))) }
     ensures faults { meter.new ≡ meter.old + faults_in result }
     ensures refused { RefusedBy (21 ∷ 1 ∷ []) result }
 {

@@ -29,7 +29,8 @@ impl<'a, S: FarTickets> Model for FarGroup<'a, S> {
 
     ghost view = { λ g. record { rows = g.rows.now; build = g.build.now } };
 
-    ghost invariant = { λ g. AreLentFrom S.content record { rows = g.rows.now; build = g.build.now } g.spec.now g.alive.now g.contents.now };
+    ghost invariant = { λ g. AreLentFrom S.content record { rows = g.rows.now; build = g.build.now }
+        g.spec.now g.alive.now g.contents.now };
 }
 
 impl<'a, S: FarTickets> FarGroup<'a, S> {

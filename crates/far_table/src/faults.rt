@@ -61,7 +61,9 @@ fn may_stand(kind: Kind, cell: &Cell) -> bool
 
 /// Returns whether each cell may stand in its column, at the columns that schema and row both have. It looks at each cell once.
 fn each_may_stand(schema: &Schema, row: &Row) -> bool
-    ensures { result ≡ list_all (λ (at : Kind × Cell). is_of_kind at.0 at.1 && not (is_too_long at.1)) (zip schema.now row.now) }
+    ensures { result
+        ≡ list_all (λ (at : Kind × Cell). is_of_kind at.0 at.1 && not (is_too_long at.1))
+        (zip schema.now row.now) }
 {
     schema
         .as_slice()
@@ -72,7 +74,10 @@ fn each_may_stand(schema: &Schema, row: &Row) -> bool
 
 /// Returns whether a row has a cell for each column, and each may stand there.
 fn is_faultless(schema: &Schema, row: &Row) -> bool
-    ensures { result ≡ ((length row.now == length schema.now) && list_all (λ (at : Kind × Cell). is_of_kind at.0 at.1 && not (is_too_long at.1)) (zip schema.now row.now)) }
+    ensures { result
+        ≡ ((length row.now == length schema.now)
+        && list_all (λ (at : Kind × Cell). is_of_kind at.0 at.1 && not (is_too_long at.1))
+        (zip schema.now row.now)) }
 {
     row.len() == schema.len() && each_may_stand(schema, row)
 }
@@ -95,7 +100,9 @@ pub(crate) fn row_faults(
     len: usize,
     row: &Row,
 ) -> Result<(), Refusal>
-    ensures { (places : List Place) → length places ≡ len → refusal_in result ≡ first_of (edit_faults schema.now limits.now places (edit.Insert row.now)) }
+    ensures { (places : List Place) → length places ≡ len
+        → refusal_in result
+        ≡ first_of (edit_faults schema.now limits.now places (edit.Insert row.now)) }
 {
     // Most rows have no fault of their own.
     if is_faultless(schema, row) {
@@ -121,7 +128,10 @@ pub(crate) fn cell_faults(
     alive: Option<bool>,
     cell: &Cell,
 ) -> Result<(), Refusal>
-    ensures { (limits : Limits) → (places : List Place) → (place : ℕ) → option_map (λ p. p.alive) (slice_get places place) ≡ alive → refusal_in result ≡ first_of (edit_faults schema.now limits places (edit.Set place column cell.now)) }
+    ensures { (limits : Limits) → (places : List Place) → (place : ℕ)
+        → option_map (λ p. p.alive) (slice_get places place) ≡ alive
+        → refusal_in result
+        ≡ first_of (edit_faults schema.now limits places (edit.Set place column cell.now)) }
 {
     let Some(kind) = schema.get(column as usize) else {
         return Err(Refusal::NoColumn);
@@ -137,7 +147,9 @@ pub(crate) fn cell_faults(
 
 /// Checks a place that is alive, dead or not there. Refused with `NoRow` (8) or `RemovedRow` (9).
 pub(crate) fn living(alive: Option<bool>) -> Result<(), Refusal>
-    ensures { (at : Option Place) → option_map (λ p. p.alive) at ≡ alive → refusal_in result ≡ first_of ((is_none at, Refusal.NoRow) ∷ (is_dead at, Refusal.RemovedRow) ∷ []) }
+    ensures { (at : Option Place) → option_map (λ p. p.alive) at ≡ alive
+        → refusal_in result
+        ≡ first_of ((is_none at, Refusal.NoRow) ∷ (is_dead at, Refusal.RemovedRow) ∷ []) }
 {
     match alive {
         None => Err(Refusal::NoRow),

@@ -64,7 +64,9 @@ impl<S: FarTickets> LiveTable<S> {
         ensures ok { IfOk result (λ table. table ≡ empty_live_state schema limits number) }
         ensures limits { OnOk result (AreLimits limits) }
         ensures here { IfOk result (λ table. (id : List ℕ) → AreAt S.is_of id table.rows) }
-        ensures bad { IfErr result (λ e. ((e ≡ Refusal.BadSchema) × ¬ (AreLimits limits)) ⊎ ((e ≡ Refusal.NoMemory) × AreLimits limits)) }
+        ensures bad { IfErr result
+            (λ e. ((e ≡ Refusal.BadSchema) × ¬ (AreLimits limits))
+            ⊎ ((e ≡ Refusal.NoMemory) × AreLimits limits)) }
     {
         limits.check()?;
         let rows = TableRows::new(alloc, schema, limits, number)?;
@@ -98,8 +100,10 @@ impl<S: FarTickets> LiveTable<S> {
     pub fn insert(&mut self, row: Row) -> Result<u32, Refusal>
         ensures ok { OnOk result (IsEdited S.content self.old (edit.Insert row) self.new) }
         ensures place { IfOk result (λ place. place ≡ length self.old.table.places) }
-        ensures err { IfErr result (λ e. Refuses (edit_due self.old (edit.Insert row)) true self.old e self.new) }
-        ensures here { (id : List ℕ) → AreAt S.is_of id self.old.rows → AreAt S.is_of id self.new.rows }
+        ensures err { IfErr result
+            (λ e. Refuses (edit_due self.old (edit.Insert row)) true self.old e self.new) }
+        ensures here { (id : List ℕ) → AreAt S.is_of id self.old.rows
+            → AreAt S.is_of id self.new.rows }
     {
         self.rows.may_insert(row)?;
         let place = self.rows.len();
@@ -124,9 +128,13 @@ impl<S: FarTickets> LiveTable<S> {
     /// Puts a cell in a place's column; the same cell again counts as an edit too. Refused as `TableRows::may_set` says, else
     /// with `NoMemory` (1) alone. A refused call changes nothing.
     pub fn set(&mut self, column: u32, place: u32, cell: Cell) -> Result<(), Refusal>
-        ensures ok { OnOk result (IsEdited S.content self.old (edit.Set place column cell) self.new) }
-        ensures err { IfErr result (λ e. Refuses (edit_due self.old (edit.Set place column cell)) true self.old e self.new) }
-        ensures here { (id : List ℕ) → AreAt S.is_of id self.old.rows → AreAt S.is_of id self.new.rows }
+        ensures ok { OnOk result
+            (IsEdited S.content self.old (edit.Set place column cell) self.new) }
+        ensures err { IfErr result
+            (λ e. Refuses (edit_due self.old (edit.Set place column cell)) true self.old e
+            self.new) }
+        ensures here { (id : List ℕ) → AreAt S.is_of id self.old.rows
+            → AreAt S.is_of id self.new.rows }
     {
         let value = self.rows.may_set(column, place, cell)?;
         put_cell(
@@ -144,8 +152,10 @@ impl<S: FarTickets> LiveTable<S> {
     /// call changes nothing.
     pub fn remove(&mut self, place: u32) -> Result<(), Refusal>
         ensures ok { OnOk result (IsEdited S.content self.old (edit.Remove place) self.new) }
-        ensures err { IfErr result (λ e. Refuses (edit_due self.old (edit.Remove place)) true self.old e self.new) }
-        ensures here { (id : List ℕ) → AreAt S.is_of id self.old.rows → AreAt S.is_of id self.new.rows }
+        ensures err { IfErr result
+            (λ e. Refuses (edit_due self.old (edit.Remove place)) true self.old e self.new) }
+        ensures here { (id : List ℕ) → AreAt S.is_of id self.old.rows
+            → AreAt S.is_of id self.new.rows }
     {
         let _row = self.rows.may_remove(place)?;
         // Without aggregates nothing is kept of the rows.
@@ -178,7 +188,8 @@ fn retract_row<S: FarTickets>(
     requires inside { place < length rows.now.places }
     requires here { first_of (absents rows.now.held (place / rows.now.limits.group)) ≡ None }
     requires checked { AreChecked rows.now.schema (registered_of aggregates.old) }
-    requires retracts { RetractsAll rows.now.limits.group (place / rows.now.limits.group) rows.now.places aggregates.old pending }
+    requires retracts { RetractsAll rows.now.limits.group (place / rows.now.limits.group)
+        rows.now.places aggregates.old pending }
     ensures kept { Keeps rows.now.limits.group rows.now.places aggregates.new }
     ensures registered { registered_of aggregates.new ≡ registered_of aggregates.old }
 {

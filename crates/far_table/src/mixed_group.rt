@@ -39,8 +39,10 @@ impl<'a, S: FarTickets> MixedGroup<'a, S> {
         spec: &'a Spec,
         contents: &'a [Content],
     ) -> MixedGroup<'a, S>
-        requires { AreRead S.content record { rows = rows.now; group = group } spec.now contents.now }
-        ensures { result ≡ record { group = record { rows = rows.now; group = group }; spec = spec.now } }
+        requires { AreRead S.content record { rows = rows.now; group = group } spec.now
+            contents.now }
+        ensures { result
+            ≡ record { group = record { rows = rows.now; group = group }; spec = spec.now } }
     {
         MixedGroup {
             local: RowGroup::new(rows, group),

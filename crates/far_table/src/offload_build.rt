@@ -31,7 +31,13 @@ impl<S: FarTickets> Model for OffloadBuild<S> {
 
     ghost Value = { Build S.Ticket };
 
-    ghost view = { λ build. record { number = build.number; aggregate = build.aggregate; registration = build.registration; group = build.group; job = build.job } };
+    ghost view = { λ build. record {
+      number = build.number;
+      aggregate = build.aggregate;
+      registration = build.registration;
+      group = build.group;
+      job = build.job;
+    } };
 }
 
 /// An offloaded build whose contents were read. Contracts see the build. That the contents are those of its tickets is the
@@ -51,7 +57,8 @@ impl<S: FarTickets> Model for OffloadCarried<S> {
 
     ghost view = { λ carried. carried.build };
 
-    ghost invariant = { λ carried. carried.contents.items ≡ contents_under S.content carried.build.job.tickets };
+    ghost invariant = { λ carried. carried.contents.items
+        ≡ contents_under S.content carried.build.job.tickets };
 }
 
 impl<S: FarTickets> OffloadBuild<S> {

@@ -54,7 +54,10 @@ fn fold_run<S: FarRead>(
     requires order { from ≤ to }
     requires begun { (group : ℕ) → group < to → group * rows.now.size < length rows.now.alive }
     requires may_fold { MayFold rows.now spec.now }
-    ensures partial { IfOk result (λ done. done ≡ partial_of spec.now.fold (pairs_here spec.now (run_of rows.now.size from to (places_in S.content rows.now)))) }
+    ensures partial { IfOk result
+        (λ done. done
+        ≡ partial_of spec.now.fold
+        (pairs_here spec.now (run_of rows.now.size from to (places_in S.content rows.now)))) }
     ensures faults { meter.new ≡ meter.old + faults_in result }
     ensures refused { RefusedBy (21 ∷ 1 ∷ []) result }
 {
@@ -78,11 +81,13 @@ pub(crate) fn fold_piece<S: FarRead>(
     piece: usize,
 ) -> Piece
     requires here { AreAt S.is_of (S.store_id store.now) rows.now }
-    requires begun { (group : ℕ) → group < cut.count → group * rows.now.size < length rows.now.alive }
+    requires begun { (group : ℕ) → group < cut.count
+        → group * rows.now.size < length rows.now.alive }
     requires all { length rows.now.alive ≤ cut.count * rows.now.size }
     requires may_fold { MayFold rows.now spec.now }
     requires few { piece < 64 }
-    ensures { IsPiece spec.now (cut.long * rows.now.size) (places_in S.content rows.now) piece result }
+    ensures { IsPiece spec.now (cut.long * rows.now.size) (places_in S.content rows.now) piece
+        result }
 {
     let from = begin_of(cut, piece);
     let to = begin_of(cut, piece + 1);

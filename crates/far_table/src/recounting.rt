@@ -92,8 +92,15 @@ fn call_each<R: Threads + Sync, X: Send + Drop, F: Fn(usize) -> X + Sync>(
         ensures { FnReturns F.Fn f.entry.now (last, tt) result }
     { f(last) };
     let back = move || -> Vec<X>
-        requires { IsSync R.row × IsSync F.row × IsSend X.row × (results.items ≡ []) × (last ≤ vec_capacity results) × ((i : ℕ) → i < last → F.pre f.now i) }
-        ensures { (vec_capacity results ≤ vec_capacity result) × (length result.items ≡ last) × GivesEach F.Fn f.entry.now last result.items }
+        requires { IsSync R.row
+            × IsSync F.row
+            × IsSend X.row
+            × (results.items ≡ [])
+            × (last ≤ vec_capacity results)
+            × ((i : ℕ) → i < last → F.pre f.now i) }
+        ensures { (vec_capacity results ≤ vec_capacity result)
+            × (length result.items ≡ last)
+            × GivesEach F.Fn f.entry.now last result.items }
     { call_each(rt, last, f, results) };
     let (result, mut results) = thread::join(rt, front, back);
     results.push(result).unwrap();
@@ -113,17 +120,27 @@ fn fold_pieces<R: Threads + Sync, S: FarRead>(
     pieces: usize,
 ) -> Result<Vec<Piece>, AllocError>
     requires here { AreAt S.is_of (S.store_id store.now) rows.now }
-    requires begun { (group : ℕ) → group < cut.count → group * rows.now.size < length rows.now.alive }
+    requires begun { (group : ℕ) → group < cut.count
+        → group * rows.now.size < length rows.now.alive }
     requires all { length rows.now.alive ≤ cut.count * rows.now.size }
     requires may_fold { MayFold rows.now spec.now }
     requires few { pieces ≤ 64 }
     ensures len { IfOk result (λ found. length found.items ≡ pieces) }
-    ensures each { IfOk result (λ found. (i : ℕ) (d : Piece) → i < pieces → IsPiece spec.now (cut.long * rows.now.size) (places_in S.content rows.now) i (slice_index_or found.items i d)) }
+    ensures each { IfOk result
+        (λ found. (i : ℕ) (d : Piece)
+        → i < pieces
+        → IsPiece spec.now (cut.long * rows.now.size) (places_in S.content rows.now) i
+        (slice_index_or found.items i d)) }
 {
     let found = Vec::with_capacity(alloc, pieces)?;
     let fold = |i: usize| -> Piece
-        requires { AreAt S.is_of (S.store_id store.now) rows.now × ((group : ℕ) → group < cut.count → group * rows.now.size < length rows.now.alive) × (length rows.now.alive ≤ cut.count * rows.now.size) × MayFold rows.now spec.now × (i < 64) }
-        ensures { IsPiece spec.entry.now (cut.long * rows.entry.now.size) (places_in S.content rows.entry.now) i result }
+        requires { AreAt S.is_of (S.store_id store.now) rows.now
+            × ((group : ℕ) → group < cut.count → group * rows.now.size < length rows.now.alive)
+            × (length rows.now.alive ≤ cut.count * rows.now.size)
+            × MayFold rows.now spec.now
+            × (i < 64) }
+        ensures { IsPiece spec.entry.now (cut.long * rows.entry.now.size)
+            (places_in S.content rows.entry.now) i result }
     { fold_piece(alloc, rows, store, spec, cut, i) };
     Ok(call_each(rt, pieces, &fold, found))
 }
@@ -140,12 +157,17 @@ fn fold_in_turn<S: FarRead>(
     pieces: usize,
 ) -> Result<Vec<Piece>, AllocError>
     requires here { AreAt S.is_of (S.store_id store.now) rows.now }
-    requires begun { (group : ℕ) → group < cut.count → group * rows.now.size < length rows.now.alive }
+    requires begun { (group : ℕ) → group < cut.count
+        → group * rows.now.size < length rows.now.alive }
     requires all { length rows.now.alive ≤ cut.count * rows.now.size }
     requires may_fold { MayFold rows.now spec.now }
     requires few { pieces ≤ 64 }
     ensures len { IfOk result (λ found. length found.items ≡ pieces) }
-    ensures each { IfOk result (λ found. (i : ℕ) (d : Piece) → i < pieces → IsPiece spec.now (cut.long * rows.now.size) (places_in S.content rows.now) i (slice_index_or found.items i d)) }
+    ensures each { IfOk result
+        (λ found. (i : ℕ) (d : Piece)
+        → i < pieces
+        → IsPiece spec.now (cut.long * rows.now.size) (places_in S.content rows.now) i
+        (slice_index_or found.items i d)) }
 {
     let mut found = Vec::with_capacity(alloc, pieces)?;
     for i in 0..pieces {
@@ -160,7 +182,8 @@ fn append(
     partial: Result<PartialDone, Refusal>,
 ) -> Result<(), Refusal>
     ensures whole { OnOk result (IsOk partial) }
-    ensures appended { OnOk result (IfOk partial (λ done. partials.new.items ≡ partials.old.items ++ done ∷ [])) }
+    ensures appended { OnOk result
+        (IfOk partial (λ done. partials.new.items ≡ partials.old.items ++ done ∷ [])) }
 {
     partials.push(partial?)?;
     Ok(())
@@ -215,7 +238,8 @@ pub(crate) fn recount_rows<R: Threads + Sync, S: FarRead>(
     requires size { size ≡ rows.now.size }
     requires some { 0 < workers }
     requires workers { workers ≤ 64 }
-    ensures answer { IfOk result (λ answer. answer ≡ answer_over spec.now (rows_of (places_in S.content rows.now))) }
+    ensures answer { IfOk result
+        (λ answer. answer ≡ answer_over spec.now (rows_of (places_in S.content rows.now))) }
     ensures none { OnOk result (meter.new ≡ meter.old) }
     ensures refused { IfErr result (FoldRefusal meter.old meter.new) }
     ensures most { meter.new ≤ meter.old + workers }
@@ -242,7 +266,8 @@ pub(crate) fn recount_alone<S: FarRead>(
     requires here { AreAt S.is_of (S.store_id store.now) rows.now }
     requires may_fold { MayFold rows.now spec.now }
     requires size { size ≡ rows.now.size }
-    ensures answer { IfOk result (λ answer. answer ≡ answer_over spec.now (rows_of (places_in S.content rows.now))) }
+    ensures answer { IfOk result
+        (λ answer. answer ≡ answer_over spec.now (rows_of (places_in S.content rows.now))) }
     ensures none { OnOk result (meter.new ≡ meter.old) }
     ensures refused { IfErr result (FoldRefusal meter.old meter.new) }
     ensures most { meter.new ≤ meter.old + 1 }

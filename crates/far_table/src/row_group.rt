@@ -26,7 +26,8 @@ impl<'a, S: FarTickets> Model for RowGroup<'a, S> {
 
     ghost view = { λ g. record { rows = g.rows.now; group = g.group } };
 
-    ghost invariant = { λ g. AreLent S.content record { rows = g.rows.now; group = g.group } g.columns g.alive.now };
+    ghost invariant = { λ g. AreLent S.content record { rows = g.rows.now; group = g.group }
+        g.columns g.alive.now };
 }
 
 impl<'a, S: FarTickets> RowGroup<'a, S> {
@@ -66,7 +67,9 @@ impl<'a, S: FarTickets> LendGroup for RowGroup<'a, S> {
 // Returns what is lent of each column of a row group; `None` of one whose object is away, and past the columns.
 fn columns_of<'a, S: FarTickets>(rows: &'a Rows<S>, group: u32) -> [Option<LentColumn<'a>>; 16]
     ensures count { length result ≡ 16 }
-    ensures lent { (column : ℕ) → IsLentOf S.content record { rows = rows.now; group = group } column (slice_index_or result column None) }
+    ensures lent { (column : ℕ)
+        → IsLentOf S.content record { rows = rows.now; group = group } column
+        (slice_index_or result column None) }
 {
     // For the proof: gives that there are at most 16 columns.
     let _len = rows.len();

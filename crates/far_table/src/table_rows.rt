@@ -126,8 +126,10 @@ impl<S: FarTickets> TableRows<S> {
     #[inline(always)]
     pub fn row(&self, place: usize) -> Result<LentRow<'_>, Refusal>
         requires { place < length self.now.places }
-        ensures row { IfOk result (λ row. option_map (λ p. p.cells) (slice_get self.now.places place) ≡ Some row) }
-        ensures refused { refusal_in result ≡ first_of (absents self.now.held (place / self.now.limits.group)) }
+        ensures row { IfOk result
+            (λ row. option_map (λ p. p.cells) (slice_get self.now.places place) ≡ Some row) }
+        ensures refused { refusal_in result
+            ≡ first_of (absents self.now.held (place / self.now.limits.group)) }
     {
         self.rows.row(place)
     }
@@ -138,8 +140,10 @@ impl<S: FarTickets> TableRows<S> {
     #[inline(always)]
     pub fn place_row(&self, place: usize) -> Result<PlaceRow<'_>, Refusal>
         requires { place < length self.now.places }
-        ensures row { IfOk result (λ row. option_map (λ p. p.cells) (slice_get self.now.places place) ≡ Some row) }
-        ensures refused { refusal_in result ≡ first_of (absents self.now.held (place / self.now.limits.group)) }
+        ensures row { IfOk result
+            (λ row. option_map (λ p. p.cells) (slice_get self.now.places place) ≡ Some row) }
+        ensures refused { refusal_in result
+            ≡ first_of (absents self.now.held (place / self.now.limits.group)) }
     {
         let mut row = PlaceRow::new();
         self.rows.place_row(place, &mut row)?;
@@ -151,8 +155,10 @@ impl<S: FarTickets> TableRows<S> {
     /// Refused as `row` is, with `Absent` (16) alone.
     pub fn row_ref(&self, place: usize) -> Result<RowRef<'_, S>, Refusal>
         requires { place < length self.now.places }
-        ensures row { IfOk result (λ row. option_map (λ p. p.cells) (slice_get self.now.places place) ≡ Some row) }
-        ensures refused { refusal_in result ≡ first_of (absents self.now.held (place / self.now.limits.group)) }
+        ensures row { IfOk result
+            (λ row. option_map (λ p. p.cells) (slice_get self.now.places place) ≡ Some row) }
+        ensures refused { refusal_in result
+            ≡ first_of (absents self.now.held (place / self.now.limits.group)) }
     {
         self.rows.row_ref(place)
     }

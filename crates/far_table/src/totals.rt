@@ -36,8 +36,16 @@ fn total_at<S: FarRead>(
     requires may_fold { MayFold rows.now spec.now }
     requires fold { spec.now.fold ≡ folds.Totals }
     requires left { live.old.left ≢ 0 }
-    requires can_join { CanJoin live.old.totals (totals (group_pairs spec.now rows.now.size group (places_in S.content rows.now))) }
-    ensures totals { OnOk result (live.new ≡ record { left = live.old.left - 1; totals = joined_totals live.old.totals (totals (group_pairs spec.now rows.now.size group (places_in S.content rows.now))) }) }
+    requires can_join { CanJoin live.old.totals
+        (totals (group_pairs spec.now rows.now.size group (places_in S.content rows.now))) }
+    ensures totals { OnOk result
+        (live.new
+        ≡ record {
+          left = live.old.left - 1;
+          totals = joined_totals live.old.totals
+              (totals
+              (group_pairs spec.now rows.now.size group (places_in S.content rows.now)));
+        }) }
     ensures faults { meter.new ≡ meter.old + faults_in result }
     ensures refused { RefusedBy (21 ∷ 1 ∷ []) result }
 {
@@ -70,7 +78,14 @@ pub(crate) fn total_run<S: FarRead>(
     requires begun { (group : ℕ) → group < to → group * rows.now.size < length rows.now.alive }
     requires may_fold { MayFold rows.now spec.now }
     requires fold { spec.now.fold ≡ folds.Totals }
-    ensures totals { IfOk result (λ live. live ≡ record { left = 0; totals = totals (pairs_here spec.now (run_of rows.now.size from to (places_in S.content rows.now))) }) }
+    ensures totals { IfOk result
+        (λ live. live
+        ≡ record {
+          left = 0;
+          totals = totals
+              (pairs_here spec.now
+              (run_of rows.now.size from to (places_in S.content rows.now)));
+        }) }
     ensures faults { meter.new ≡ meter.old + faults_in result }
     ensures refused { RefusedBy (21 ∷ 1 ∷ []) result }
 {

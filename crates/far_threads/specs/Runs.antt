@@ -32,7 +32,8 @@ sum_of_rows = record { fold = fold.Totals; value = 0; key = None; filter = [] }
 
 -- the plan of a table of one column of numbers, for this many sessions
 abbrev pub plan_for : ℕ → Planned
-plan_for n = record { schema = kind.Int ∷ []; limits = stripe_limits; gauge = sum_of_rows; sessions = n }
+plan_for n = record
+    { schema = kind.Int ∷ []; limits = stripe_limits; gauge = sum_of_rows; sessions = n }
 
 -- this many inserts by session s
 abbrev pub inserts : ℕ → ℕ → List Entry
@@ -61,8 +62,13 @@ pub record IsOverAll (p : Planned) (edits : ℕ) (answer : Answer) : Type 0 wher
   pub first : List Entry
   pub second : List Entry
   pub third : List Entry
-  pub histories : IsHistory p edits 0 zeroth × IsHistory p edits 1 first × IsHistory p edits 2 second × IsHistory p edits 3 third
-  pub is : answer ≡ answer_over p.gauge (all_rows (replay p zeroth) (replay p first) (replay p second) (replay p third))
+  pub histories : IsHistory p edits 0 zeroth
+      × IsHistory p edits 1 first
+      × IsHistory p edits 2 second
+      × IsHistory p edits 3 third
+  pub is : answer
+      ≡ answer_over p.gauge
+      (all_rows (replay p zeroth) (replay p first) (replay p second) (replay p third))
 
 -- all sessions of a plan have ended, each with `edits` inserts on its home stripe. The gauge there shows just these, and
 -- the answer counts and sums the rows of all sessions and no others

@@ -34,11 +34,15 @@ IsWorked n me ended = OnOk ended.outcome (Makes (session_number me % 4) n me end
 -- the same for all sessions, in order
 pub record AreWorked (n : ℕ) (sessions : List Known) (worked : List Ended) : Type 0 where
   pub count : length worked ≡ length sessions
-  pub each : (i : ℕ) (me : Known) (ended : Ended) → slice_get sessions i ≡ Some me → slice_get worked i ≡ Some ended → IsWorked n me ended
+  pub each : (i : ℕ) (me : Known) (ended : Ended)
+      → slice_get sessions i ≡ Some me
+      → slice_get worked i ≡ Some ended
+      → IsWorked n me ended
 
 -- a session that was not stopped has read the gauge of stripe k. The reading matches all that it has seen there; elsewhere
 -- it has seen nothing new
-pub record Looked (p : Planned) (k : ℕ) (ended : Ended) (me : Known) (reading : Reading) : Type 0 where
+pub record Looked (p : Planned) (k : ℕ) (ended : Ended) (me : Known)
+    (reading : Reading) : Type 0 where
   pub done : IsOk ended.outcome
   pub sees : SeesMore p (at ended.session k) (at me k)
   pub others : (i : ℕ) → i < 4 → i ≢ k → at me i ≡ at ended.session i
@@ -58,10 +62,14 @@ pub record IsGauged (p : Planned) (s n : ℕ) (me : Known) (reading : Reading) :
   pub is : reading ≡ gauge_of p (at me (s % 4)).seen
 
 -- the same for all sessions of a plan, in order
-pub record AreGauged (p : Planned) (n : ℕ) (sessions : List Known) (readings : List Reading) : Type 0 where
+pub record AreGauged (p : Planned) (n : ℕ) (sessions : List Known)
+    (readings : List Reading) : Type 0 where
   pub count : length sessions ≡ p.sessions
   pub returned : length readings ≡ p.sessions
-  pub each : (s : ℕ) (me : Known) (reading : Reading) → slice_get sessions s ≡ Some me → slice_get readings s ≡ Some reading → IsGauged p s n me reading
+  pub each : (s : ℕ) (me : Known) (reading : Reading)
+      → slice_get sessions s ≡ Some me
+      → slice_get readings s ≡ Some reading
+      → IsGauged p s n me reading
 
 -- the readings and the answer after all sessions of a plan have ended. Which rows the answer counts is not known yet
 pub record AreLeft (p : Planned) (n : ℕ) (sessions : List Known) (o : Outcome) : Type 0 where

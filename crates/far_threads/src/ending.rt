@@ -51,7 +51,12 @@ fn close_all<N: PlanTag, B: TableTag, S: FarTickets, R: Wait>(
 
 /// Returns the answer of the gauge, aggregate 0, over the rows of four tables, and drops them. Ends only with `Memory`.
 fn answer_closed<S: FarTickets>(alloc: Global, frames: Four<Frame<S>>) -> Result<Answer, Stop>
-    ensures { IfOk result (λ answer. IfSome (spec_at frames.zero.table 0) (λ spec. answer ≡ answer_over spec (all_rows frames.zero.table frames.one.table frames.two.table frames.three.table))) }
+    ensures { IfOk result
+        (λ answer. IfSome (spec_at frames.zero.table 0)
+        (λ spec. answer
+        ≡ answer_over spec
+        (all_rows frames.zero.table frames.one.table frames.two.table
+        frames.three.table))) }
 {
     let answer = answer_four(
         alloc,
@@ -89,7 +94,8 @@ fn only_line(answer: &Answer) -> Option<(u64, i128)>
 
 /// Returns whether two answers are the same single line without a key.
 fn have_same_line(one: &Answer, other: &Answer) -> bool
-    ensures { IsTrue result ↔ ((count : ℕ) × (sum : ℤ) × IsLineOf count sum one.now × IsLineOf count sum other.now) }
+    ensures { IsTrue result
+        ↔ ((count : ℕ) × (sum : ℤ) × IsLineOf count sum one.now × IsLineOf count sum other.now) }
 {
     match (only_line(one), only_line(other)) {
         (Some((count, sum)), Some((also_count, also_sum))) => {

@@ -21,7 +21,10 @@ impl Aggregates {
     /// Returns whether some aggregate looks at a column: for a test, its key or its value. If none does, a cell may be put in it
     /// without a word to the aggregates. Allocates nothing.
     pub fn needs(&self, column: u32) -> bool
-        ensures { result ≡ false → (size : ℕ) → (places : List Place) → (place : ℕ) → (cell : Cell) → 0 < size → Keeps size places self.now → Keeps size (places_after (edit.Set place column cell) places) self.now }
+        ensures { result ≡ false
+            → (size : ℕ) → (places : List Place) → (place : ℕ) → (cell : Cell) → 0 < size
+            → Keeps size places self.now
+            → Keeps size (places_after (edit.Set place column cell) places) self.now }
     {
         one_looks_at(self.registry.as_slice(), column)
     }
@@ -53,7 +56,10 @@ impl Aggregates {
         requires few { place ≤ 2 ^ 24 }
         requires number { R.cells row.now column ≡ Some (cell.Int from) }
         requires keys { keeps_keys column self.old ≡ true }
-        ensures replaces { IfOk result (λ pending. (places : List Place) → IsAliveAt (R.cells row.now) place places → AreUpToDate size places self.old → ReplacesAll size place column places self.new pending) }
+        ensures replaces { IfOk result
+            (λ pending. (places : List Place) → IsAliveAt (R.cells row.now) place places
+            → AreUpToDate size places self.old
+            → ReplacesAll size place column places self.new pending) }
         ensures same { self.new ≡ self.old }
         ensures memory { IfErr result (λ e. e ≡ Refusal.NoMemory) }
     {

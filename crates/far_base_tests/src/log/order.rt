@@ -21,7 +21,8 @@ fn are_distinct(order: &[u32]) -> bool
 
 /// Returns whether a part begins at each of the offsets.
 fn are_parts<T: Elem>(region: &Region<T>, segment: u16, order: &[u32]) -> bool
-    ensures { IsTrue result → All (λ offset. IsSome (list_at (segment_of region.now segment).parts offset)) order.now }
+    ensures { IsTrue result
+        → All (λ offset. IsSome (list_at (segment_of region.now segment).parts offset)) order.now }
 {
     for offset in order {
         if !region.holds(At {
@@ -36,7 +37,9 @@ fn are_parts<T: Elem>(region: &Region<T>, segment: u16, order: &[u32]) -> bool
 
 /// Returns whether the list has each part that begins below `end`.
 fn are_all<T: Elem>(region: &Region<T>, segment: u16, end: u32, order: &[u32]) -> bool
-    ensures { IsTrue result → (offset : ℕ) → offset < end → IsSome (list_at (segment_of region.now segment).parts offset) → Contains order.now offset }
+    ensures { IsTrue result → (offset : ℕ) → offset < end
+        → IsSome (list_at (segment_of region.now segment).parts offset)
+        → Contains order.now offset }
 {
     for offset in 0..end {
         if region.holds(At { segment, offset }) && !order.contains(&offset) {

@@ -10,7 +10,8 @@ use far_pointer::At;
 /// Overwrites the first element of a part.
 fn set_first<T: Elem>(region: &mut Region<T>, at: At, value: T)
     requires { IsSomeAnd (part_of region.old at) (λ list. 0 < length list) }
-    ensures { IsSomeAnd (part_of region.old at) (λ list. ChangesOnly region.old region.new at (Some (slice_set list 0 value))) }
+    ensures { IsSomeAnd (part_of region.old at)
+        (λ list. ChangesOnly region.old region.new at (Some (slice_set list 0 value))) }
 {
     let list = region.part_mut(at);
     list[0] = value;

@@ -26,7 +26,8 @@ impl<S: FarTickets> Frame<S> {
     /// A refused call changes nothing.
     pub fn saw(&mut self, column: u32, group: u32) -> Result<(), Refusal>
         ensures accesses { OnOk result (AreObserved column (group ∷ []) self.old self.new) }
-        ensures here { (id : List ℕ) → AreAt S.is_of id self.old.rows → AreAt S.is_of id self.new.rows }
+        ensures here { (id : List ℕ) → AreAt S.is_of id self.old.rows
+            → AreAt S.is_of id self.new.rows }
         ensures refused { refusal_in result ≡ object_refusal self.old.rows column group }
         ensures err { OnErr result (self.new ≡ self.old) }
     {
@@ -38,7 +39,8 @@ impl<S: FarTickets> Frame<S> {
     /// Records an access to a row group of a column, even if there is no such row group. Allocates nothing.
     fn record_access(&mut self, column: u32, group: u32)
         ensures accesses { AreObserved column (group ∷ []) self.old self.new }
-        ensures here { (id : List ℕ) → AreAt S.is_of id self.old.rows → AreAt S.is_of id self.new.rows }
+        ensures here { (id : List ℕ) → AreAt S.is_of id self.old.rows
+            → AreAt S.is_of id self.new.rows }
     {
         // If there is no such object, nothing is marked.
         let _used = self.table.touch(column, group);
@@ -48,8 +50,10 @@ impl<S: FarTickets> Frame<S> {
     /// Records an access to each row group that has one of the places `from` to `to`, not including `to`, in order.
     /// Allocates nothing.
     pub(crate) fn record_accesses(&mut self, column: u32, from: u32, to: u32)
-        ensures accesses { AreObserved column (overlapped_groups self.old.rows.size from to) self.old self.new }
-        ensures here { (id : List ℕ) → AreAt S.is_of id self.old.rows → AreAt S.is_of id self.new.rows }
+        ensures accesses { AreObserved column (overlapped_groups self.old.rows.size from to)
+            self.old self.new }
+        ensures here { (id : List ℕ) → AreAt S.is_of id self.old.rows
+            → AreAt S.is_of id self.new.rows }
     {
         let size = self.scope().size();
         let mut place = from as usize;
@@ -62,7 +66,10 @@ impl<S: FarTickets> Frame<S> {
 
     /// Checks that a part of a column can be lent. Allocates nothing.
     fn may_lend(&self, column: u32, from: u32, to: u32) -> Result<(), Refusal>
-        ensures given { OnOk result ((given : Reply) × IsReplyOf (slice_get self.now.table.schema column) (lent_part self.now.table column from to) given) }
+        ensures given { OnOk result
+            ((given : Reply)
+            × IsReplyOf (slice_get self.now.table.schema column)
+            (lent_part self.now.table column from to) given) }
         ensures refused { refusal_in result ≡ lend_refusal self.now.rows column from to }
     {
         let view = self.scope();
@@ -93,10 +100,15 @@ impl<S: FarTickets> Frame<S> {
     ///
     /// A refused call changes nothing.
     pub fn record_lending(&mut self, column: u32, from: u32, to: u32) -> Result<(), Refusal>
-        ensures ok { OnOk result ((given : Reply) × IsReplyOf (slice_get self.old.table.schema column) (lent_part self.old.table column from to) given × Accepts S.content self.old (step.Lend column from to) given self.new) }
+        ensures ok { OnOk result
+            ((given : Reply)
+            × IsReplyOf (slice_get self.old.table.schema column)
+            (lent_part self.old.table column from to) given
+            × Accepts S.content self.old (step.Lend column from to) given self.new) }
         ensures refused { refusal_in result ≡ lend_refusal self.old.rows column from to }
         ensures err { OnErr result (self.new ≡ self.old) }
-        ensures here { (id : List ℕ) → AreAt S.is_of id self.old.rows → AreAt S.is_of id self.new.rows }
+        ensures here { (id : List ℕ) → AreAt S.is_of id self.old.rows
+            → AreAt S.is_of id self.new.rows }
     {
         self.may_lend(column, from, to)?;
         self.record_accesses(column, from, to);
@@ -112,7 +124,8 @@ impl<S: FarTickets> Frame<S> {
     /// - `NoColumn` (4): there is no such column.
     /// - `NoMemory` (1): an allocation fails.
     pub fn proposals(&self, column: u32) -> Result<Vec<u32>, Refusal>
-        ensures found { IfOk result (λ found. found.items ≡ next_groups self.now.table self.now.accesses column) }
+        ensures found { IfOk result
+            (λ found. found.items ≡ next_groups self.now.table self.now.accesses column) }
         ensures column { OnOk result (prefetch_refusal self.now.table column ≡ None) }
         ensures refused { IfErr result (MayRefuse (prefetch_refusal self.now.table column) true) }
     {

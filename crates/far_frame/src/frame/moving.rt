@@ -28,7 +28,8 @@ impl<S: FarTickets> Frame<S> {
     /// A refused call changes nothing.
     pub fn pin(&mut self, column: u32, group: u32) -> Result<(), Refusal>
         ensures pinned { OnOk result (Alters (IsMoved (IsPinned column group)) self.old self.new) }
-        ensures here { (id : List ℕ) → AreAt S.is_of id self.old.rows → AreAt S.is_of id self.new.rows }
+        ensures here { (id : List ℕ) → AreAt S.is_of id self.old.rows
+            → AreAt S.is_of id self.new.rows }
         ensures refused { refusal_in result ≡ pin_refusal self.old.rows column group }
         ensures err { OnErr result (self.new ≡ self.old) }
     {
@@ -45,8 +46,10 @@ impl<S: FarTickets> Frame<S> {
     ///
     /// A refused call changes nothing.
     pub fn unpin(&mut self, column: u32, group: u32) -> Result<(), Refusal>
-        ensures unpinned { OnOk result (Alters (IsMoved (IsUnpinned column group)) self.old self.new) }
-        ensures here { (id : List ℕ) → AreAt S.is_of id self.old.rows → AreAt S.is_of id self.new.rows }
+        ensures unpinned { OnOk result
+            (Alters (IsMoved (IsUnpinned column group)) self.old self.new) }
+        ensures here { (id : List ℕ) → AreAt S.is_of id self.old.rows
+            → AreAt S.is_of id self.new.rows }
         ensures refused { refusal_in result ≡ unpin_refusal self.old.rows column group }
         ensures err { OnErr result (self.new ≡ self.old) }
     {
@@ -96,7 +99,8 @@ impl<S: FarTickets> Frame<S> {
     /// has one. Allocates nothing.
     pub(crate) fn coldest(&self) -> Option<Name>
         ensures coldest { result ≡ coldest self.now.rows }
-        ensures free { IfSome result (λ name. evac_refusal self.now.rows name.column name.group ≡ None) }
+        ensures free { IfSome result
+            (λ name. evac_refusal self.now.rows name.column name.group ≡ None) }
     {
         self.table.coldest()
     }
@@ -149,8 +153,10 @@ impl<S: FarTickets> Frame<S> {
     /// - `OutOfRange` (14): the row group has no place.
     /// - `StaleJob` (20): the object is local.
     pub(crate) fn away_copy(&self, column: u32, group: u32) -> Result<&S::Ticket, Refusal>
-        ensures ticket { IfOk result (λ ticket. copy_of self.now.rows column group ≡ Some ticket.now) }
-        ensures here { (id : List ℕ) → AreAt S.is_of id self.now.rows → IfOk result (λ ticket. S.is_of ticket.now id) }
+        ensures ticket { IfOk result
+            (λ ticket. copy_of self.now.rows column group ≡ Some ticket.now) }
+        ensures here { (id : List ℕ) → AreAt S.is_of id self.now.rows
+            → IfOk result (λ ticket. S.is_of ticket.now id) }
         ensures refused { refusal_in result ≡ fetch_refusal self.now.rows column group }
     {
         self.table.rows().held().away_copy(column as usize, group)
@@ -194,8 +200,10 @@ impl<S: FarTickets> Frame<S> {
     pub fn install(&mut self, store: &S, job: &Job<S>) -> Result<(), Refusal>
         requires here { AreAt S.is_of (S.store_id store.now) self.old.rows }
         requires job_here { IsJobAt S.is_of (S.store_id store.now) job.now }
-        ensures installed { OnOk result (Installs S.number_of self.old S.content job.now.work self.new) }
-        ensures refused { IfErr result (InstallRefusal S.number_of self.old S.content job.now.work) }
+        ensures installed { OnOk result
+            (Installs S.number_of self.old S.content job.now.work self.new) }
+        ensures refused { IfErr result
+            (InstallRefusal S.number_of self.old S.content job.now.work) }
         ensures err { OnErr result (self.new ≡ self.old) }
         ensures here { AreAt S.is_of (S.store_id store.now) self.new.rows }
     {
@@ -220,11 +228,16 @@ impl<S: FarTickets> Frame<S> {
     ///
     /// A refused call changes nothing.
     pub fn compact(&mut self, kind: Kind, segment: u32) -> Result<(), Refusal>
-        ensures compacted { OnOk result (Alters (IsMoved (IsCompactedOf kind segment)) self.old self.new) }
-        ensures here { (id : List ℕ) → AreAt S.is_of id self.old.rows → AreAt S.is_of id self.new.rows }
-        ensures missing { IsErrOf result Refusal.OutOfRange ↔ (segments_of kind self.old.rows ≤ segment) }
-        ensures full { IsErrOf result Refusal.RegionFull ↔ ((segment < segments_of kind self.old.rows) × HasNoOther kind segment self.old.rows) }
-        ensures refused { IfErr result (λ e. (e ≡ Refusal.OutOfRange) ⊎ ((e ≡ Refusal.RegionFull) ⊎ (e ≡ Refusal.NoMemory))) }
+        ensures compacted { OnOk result
+            (Alters (IsMoved (IsCompactedOf kind segment)) self.old self.new) }
+        ensures here { (id : List ℕ) → AreAt S.is_of id self.old.rows
+            → AreAt S.is_of id self.new.rows }
+        ensures missing { IsErrOf result Refusal.OutOfRange
+            ↔ (segments_of kind self.old.rows ≤ segment) }
+        ensures full { IsErrOf result Refusal.RegionFull
+            ↔ ((segment < segments_of kind self.old.rows) × HasNoOther kind segment self.old.rows) }
+        ensures refused { IfErr result
+            (λ e. (e ≡ Refusal.OutOfRange) ⊎ ((e ≡ Refusal.RegionFull) ⊎ (e ≡ Refusal.NoMemory))) }
         ensures err { OnErr result (self.new ≡ self.old) }
     {
         self.table.compact(kind, segment)

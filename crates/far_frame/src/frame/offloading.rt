@@ -16,7 +16,8 @@ use far_types::Refusal;
 impl<S: FarTickets> Frame<S> {
     /// Returns whether a row group can be scanned into an aggregate now, if memory allows. Allocates nothing.
     pub fn may_scan(&self, a: u32, group: u32) -> bool
-        ensures { result ≡ is_none (scan_refusal (live self.now) (aggregate_at self.now.table a) group) }
+        ensures { result
+            ≡ is_none (scan_refusal (live self.now) (aggregate_at self.now.table a) group) }
     {
         self.table.may_scan(a, group)
     }
@@ -30,7 +31,8 @@ impl<S: FarTickets> Frame<S> {
     /// - `StaleJob` (20): the row group was scanned already, or the object of a column that the aggregate needs is dirty. A
     ///   clean object may be local or away.
     pub fn may_offload(&self, a: u32, group: u32) -> Result<(), Refusal>
-        ensures refused { refusal_in result ≡ offload_refusal (live self.now) (aggregate_at self.now.table a) group }
+        ensures refused { refusal_in result
+            ≡ offload_refusal (live self.now) (aggregate_at self.now.table a) group }
     {
         self.table.may_offload(a, group)
     }
@@ -43,7 +45,9 @@ impl<S: FarTickets> Frame<S> {
         requires here { AreAt S.is_of (S.store_id store.now) self.now.rows }
         ensures begun { IfOk result (IsOffloadJob self.now a group) }
         ensures here { IfOk result (IsJobAt S.is_of (S.store_id store.now)) }
-        ensures refused { IfErr result (MayRefuse (offload_refusal (live self.now) (aggregate_at self.now.table a) group) true) }
+        ensures refused { IfErr result
+            (MayRefuse (offload_refusal (live self.now) (aggregate_at self.now.table a) group)
+            true) }
     {
         let build = self.table.begin_offload(store, a, group)?;
         Ok(Job {

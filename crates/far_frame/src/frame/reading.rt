@@ -29,7 +29,10 @@ impl<S: FarTickets> Frame<S> {
     /// - `OutOfRange` (14): the row group has no place.
     pub fn object(&self, store: &S, column: u32, group: u32) -> Result<ObjectState, Refusal>
         requires here { AreAt S.is_of (S.store_id store.now) self.now.rows }
-        ensures state { IfOk result (λ state. option_map (state_of S.number_of self.now.rows) (object_at self.now.rows column group) ≡ Some state) }
+        ensures state { IfOk result
+            (λ state. option_map (state_of S.number_of self.now.rows)
+            (object_at self.now.rows column group)
+            ≡ Some state) }
         ensures refused { refusal_in result ≡ object_refusal self.now.rows column group }
     {
         let rows = self.table.rows().held();
@@ -56,7 +59,8 @@ impl<S: FarTickets> Frame<S> {
     /// - `NoAggregate` (12): there is no such aggregate.
     /// - `Building` (15): row groups are pending. The refusal says how many.
     pub fn line(&self, a: u32, key: &Option<Key>) -> Result<Option<Line>, Refusal>
-        ensures ok { IfOk result (AnswersKey self.now.table.places (aggregate_at self.now.table a) key.now) }
+        ensures ok { IfOk result
+            (AnswersKey self.now.table.places (aggregate_at self.now.table a) key.now) }
         ensures err { IfErr result (MayRefuse (ask_refusal (aggregate_at self.now.table a)) false) }
     {
         self.table.line(a, key)

@@ -34,7 +34,8 @@ impl<S: FarRead> Frame<S> {
         ensures answer { IfOk result (IsAnswerNow self.now.table a) }
         ensures free { OnOk result (recount_refusal self.now.table a workers ≡ None) }
         ensures none { OnOk result (meter.new ≡ meter.old) }
-        ensures refused { IfErr result (RecountRefusal (recount_refusal self.now.table a workers) meter.old meter.new) }
+        ensures refused { IfErr result
+            (RecountRefusal (recount_refusal self.now.table a workers) meter.old meter.new) }
         ensures most { meter.new ≤ meter.old + workers }
     {
         self.table.recount(rt, store, meter, a, workers)
@@ -52,7 +53,8 @@ impl<S: FarRead> Frame<S> {
         ensures answer { IfOk result (IsAnswerNow self.now.table a) }
         ensures free { OnOk result (recount_refusal self.now.table a 1 ≡ None) }
         ensures none { OnOk result (meter.new ≡ meter.old) }
-        ensures refused { IfErr result (RecountRefusal (recount_refusal self.now.table a 1) meter.old meter.new) }
+        ensures refused { IfErr result
+            (RecountRefusal (recount_refusal self.now.table a 1) meter.old meter.new) }
         ensures most { meter.new ≤ meter.old + 1 }
     {
         self.table.recount_alone(store, meter, a)

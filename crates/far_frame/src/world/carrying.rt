@@ -30,7 +30,9 @@ impl<S: FarStore> World<S> {
     ///
     /// Refused with `StaleJob` (20) exactly if there is no such job.
     pub fn wanted(&self, n: u64, index: usize) -> Result<Option<u64>, Refusal>
-        ensures number { IfOk result (λ number. IsSomeAnd (job_at self.now.jobs n) (λ job. number ≡ number_wanted S.number_of job.work index)) }
+        ensures number { IfOk result
+            (λ number. IsSomeAnd (job_at self.now.jobs n)
+            (λ job. number ≡ number_wanted S.number_of job.work index)) }
         ensures refused { refusal_in result ≡ no_job self.now n }
     {
         let Some(job) = self.jobs.get(n) else {
@@ -83,7 +85,8 @@ impl<S: FarStore> World<S> {
     ///
     /// Refused with `StaleJob` (20) exactly if there is no such job. A refused call changes nothing.
     pub fn give_up(&mut self, n: u64) -> Result<(), Refusal>
-        ensures spent { OnOk result (self.new ≡ record self.old { jobs = without_job self.old.jobs n }) }
+        ensures spent { OnOk result
+            (self.new ≡ record self.old { jobs = without_job self.old.jobs n }) }
         ensures refused { refusal_in result ≡ no_job self.old n }
         ensures err { OnErr result (self.new ≡ self.old) }
     {
@@ -99,7 +102,8 @@ impl<S: FarStore> World<S> {
     pub fn fault(&mut self, n: u64) -> Refusal
         requires few { self.old.faults < 2 ^ 63 }
         ensures refusal { result ≡ unwrap_or (no_job self.old n) Refusal.FarFault }
-        ensures counted { self.new ≡ record self.old { faults = self.old.faults + faults_of result } }
+        ensures counted { self.new
+            ≡ record self.old { faults = self.old.faults + faults_of result } }
     {
         if self.jobs.get(n).is_none() {
             return Refusal::StaleJob;
@@ -116,7 +120,8 @@ impl<S: FarStore> World<S> {
     /// - `NoColumn` (4): there is no such column.
     /// - `OutOfRange` (14): the row group has no place.
     pub fn saw(&mut self, column: u32, group: u32) -> Result<(), Refusal>
-        ensures accesses { OnOk result (AreObserved column (group ∷ []) self.old.state self.new.state) }
+        ensures accesses { OnOk result
+            (AreObserved column (group ∷ []) self.old.state self.new.state) }
         ensures world { self.new ≡ record self.old { state = self.new.state } }
         ensures refused { refusal_in result ≡ object_refusal self.old.state.rows column group }
         ensures err { OnErr result (self.new ≡ self.old) }

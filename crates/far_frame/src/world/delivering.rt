@@ -28,10 +28,14 @@ impl<S: FarDelivery> World<S> {
     /// - `NoMemory` (1): an allocation fails.
     pub fn deliver(&mut self, n: u64, number: u64, bytes: &[u8]) -> Result<(), Refusal>
         requires few { self.old.faults < 2 ^ 63 }
-        requires no_collision { HasNoCollision S.matches S.content (wanted_by S.number_of self.old n number) bytes.now }
-        ensures content { OnOk result (IsContentOf S.content (wanted_by S.number_of self.old n number) bytes.now) }
-        ensures stale { IsErrOf result Refusal.StaleJob ↔ (wanted_by S.number_of self.old n number ≡ None) }
-        ensures other { IsErrOf result Refusal.FarFault ↔ IsOther S.matches (wanted_by S.number_of self.old n number) bytes.now }
+        requires no_collision { HasNoCollision S.matches S.content
+            (wanted_by S.number_of self.old n number) bytes.now }
+        ensures content { OnOk result
+            (IsContentOf S.content (wanted_by S.number_of self.old n number) bytes.now) }
+        ensures stale { IsErrOf result Refusal.StaleJob
+            ↔ (wanted_by S.number_of self.old n number ≡ None) }
+        ensures other { IsErrOf result Refusal.FarFault
+            ↔ IsOther S.matches (wanted_by S.number_of self.old n number) bytes.now }
         ensures refused { IfErr result (IsOneOf (20 ∷ 21 ∷ 1 ∷ [])) }
         ensures world { self.new ≡ record self.old { faults = self.old.faults + faults_in result } }
     {
@@ -61,7 +65,8 @@ impl<S: FarDelivery> World<S> {
     ///
     /// Refused with `StaleJob` (20) exactly if there is no such job. A refused call changes nothing.
     pub fn give_up_delivered(&mut self, n: u64) -> Result<(), Refusal>
-        ensures spent { OnOk result (self.new ≡ record self.old { jobs = without_job self.old.jobs n }) }
+        ensures spent { OnOk result
+            (self.new ≡ record self.old { jobs = without_job self.old.jobs n }) }
         ensures refused { refusal_in result ≡ no_job self.old n }
         ensures err { OnErr result (self.new ≡ self.old) }
     {
@@ -93,11 +98,16 @@ impl<S: FarDelivery> World<S> {
     /// - `NoMemory` (1): an allocation fails.
     pub fn deliver_copy(&mut self, column: u32, group: u32, bytes: &[u8]) -> Result<(), Refusal>
         requires few { self.old.faults < 2 ^ 63 }
-        requires no_collision { HasNoCollision S.matches S.content (copy_of self.old.state.rows column group) bytes.now }
-        ensures content { OnOk result (IsContentOf S.content (copy_of self.old.state.rows column group) bytes.now) }
+        requires no_collision { HasNoCollision S.matches S.content
+            (copy_of self.old.state.rows column group) bytes.now }
+        ensures content { OnOk result
+            (IsContentOf S.content (copy_of self.old.state.rows column group) bytes.now) }
         ensures free { OnOk result (fetch_refusal self.old.state.rows column group ≡ None) }
-        ensures other { IsErrOf result Refusal.FarFault ↔ ((fetch_refusal self.old.state.rows column group ≡ None) × IsOther S.matches (copy_of self.old.state.rows column group) bytes.now) }
-        ensures refused { IfErr result (DeliveryRefusal (fetch_refusal self.old.state.rows column group)) }
+        ensures other { IsErrOf result Refusal.FarFault
+            ↔ ((fetch_refusal self.old.state.rows column group ≡ None)
+            × IsOther S.matches (copy_of self.old.state.rows column group) bytes.now) }
+        ensures refused { IfErr result
+            (DeliveryRefusal (fetch_refusal self.old.state.rows column group)) }
         ensures world { self.new ≡ record self.old { faults = self.old.faults + faults_in result } }
     {
         let ticket = self.frame.away_copy(column, group)?;

@@ -40,7 +40,9 @@ impl<S: FarStore> World<S> {
         ensures few { OnOk result (self.now.begun < self.now.state.table.limits.edits) }
         ensures next { OnOk result (self.now.begun + 1 < 2 ^ 64) }
         ensures here { IfOk result (IsJobAt S.is_of self.now.store) }
-        ensures refused { IfErr result (MayRefuse (option_or (evac_refusal self.now.state.rows column group) (used_up self.now)) true) }
+        ensures refused { IfErr result
+            (MayRefuse
+            (option_or (evac_refusal self.now.state.rows column group) (used_up self.now)) true) }
     {
         self.frame.may_evac(column, group)?;
         self.may_begin()?;
@@ -53,7 +55,8 @@ impl<S: FarStore> World<S> {
         ensures few { OnOk result (self.now.begun < self.now.state.table.limits.edits) }
         ensures next { OnOk result (self.now.begun + 1 < 2 ^ 64) }
         ensures here { IfOk result (IsJobAt S.is_of self.now.store) }
-        ensures refused { refusal_in result ≡ option_or (fetch_refusal self.now.state.rows column group) (used_up self.now) }
+        ensures refused { refusal_in result
+            ≡ option_or (fetch_refusal self.now.state.rows column group) (used_up self.now) }
     {
         let job = self.frame.begin_fetch(&self.store, column, group)?;
         self.may_begin()?;
@@ -66,7 +69,11 @@ impl<S: FarStore> World<S> {
         ensures few { OnOk result (self.now.begun < self.now.state.table.limits.edits) }
         ensures next { OnOk result (self.now.begun + 1 < 2 ^ 64) }
         ensures here { IfOk result (IsJobAt S.is_of self.now.store) }
-        ensures refused { IfErr result (MayRefuse (option_or (offload_refusal (live self.now.state) (aggregate_at self.now.state.table a) group) (used_up self.now)) true) }
+        ensures refused { IfErr result
+            (MayRefuse
+            (option_or
+            (offload_refusal (live self.now.state) (aggregate_at self.now.state.table a) group)
+            (used_up self.now)) true) }
     {
         self.frame.may_offload(a, group)?;
         self.may_begin()?;
@@ -78,7 +85,10 @@ impl<S: FarStore> World<S> {
         requires next { self.old.begun + 1 < 2 ^ 64 }
         requires here { IsJobAt S.is_of self.old.store job }
         ensures number { IfOk result (λ n. n ≡ self.old.begun) }
-        ensures world { OnOk result (self.new ≡ record self.old { begun = self.old.begun + 1; jobs = one_more self.old.jobs self.old.begun job }) }
+        ensures world { OnOk result
+            (self.new
+            ≡ record self.old
+            { begun = self.old.begun + 1; jobs = one_more self.old.jobs self.old.begun job }) }
         ensures memory { IfErr result (λ e. e ≡ Refusal.NoMemory) }
         ensures err { OnErr result (self.new ≡ self.old) }
     {
@@ -90,7 +100,8 @@ impl<S: FarStore> World<S> {
 
     /// Serves the beginning of an eviction.
     pub(super) fn begin_evac(&mut self, column: u32, group: u32) -> Reply
-        ensures { IsStep S.content S.number_of self.old (Step.BeginEvac column group) result self.new }
+        ensures { IsStep S.content S.number_of self.old (Step.BeginEvac column group) result
+            self.new }
     {
         match self.evac(column, group) {
             Ok(job) => match self.add(job) {
@@ -103,7 +114,8 @@ impl<S: FarStore> World<S> {
 
     /// Serves the beginning of a fetch.
     pub(super) fn begin_fetch(&mut self, column: u32, group: u32) -> Reply
-        ensures { IsStep S.content S.number_of self.old (Step.BeginFetch column group) result self.new }
+        ensures { IsStep S.content S.number_of self.old (Step.BeginFetch column group) result
+            self.new }
     {
         match self.fetch(column, group) {
             Ok(job) => match self.add(job) {
@@ -116,7 +128,8 @@ impl<S: FarStore> World<S> {
 
     /// Serves the beginning of an offloaded build.
     pub(super) fn begin_offload(&mut self, aggregate: u32, group: u32) -> Reply
-        ensures { IsStep S.content S.number_of self.old (Step.BeginOffload aggregate group) result self.new }
+        ensures { IsStep S.content S.number_of self.old (Step.BeginOffload aggregate group) result
+            self.new }
     {
         match self.offload(aggregate, group) {
             Ok(job) => match self.add(job) {
@@ -172,8 +185,10 @@ fn end_evac<S: FarTickets>(
 ) -> Result<(), Refusal>
     requires rows_here { AreAt S.is_of (S.store_id store.now) frame.old.rows }
     requires jobs_here { AreJobsAt S.is_of (S.store_id store.now) jobs.now }
-    ensures ended { OnOk result (IsSomeAnd (job_at jobs.now n) (λ job. Commits S.number_of frame.old job.work frame.new)) }
-    ensures refused { IfErr result (RefusalAt (λ job. CommitRefusal S.number_of frame.old job.work) (job_at jobs.now n)) }
+    ensures ended { OnOk result
+        (IsSomeAnd (job_at jobs.now n) (λ job. Commits S.number_of frame.old job.work frame.new)) }
+    ensures refused { IfErr result
+        (RefusalAt (λ job. CommitRefusal S.number_of frame.old job.work) (job_at jobs.now n)) }
     ensures err { OnErr result (frame.new ≡ frame.old) }
     ensures here { AreAt S.is_of (S.store_id store.now) frame.new.rows }
 {
@@ -192,8 +207,12 @@ fn end_fetch<S: FarTickets>(
 ) -> Result<(), Refusal>
     requires rows_here { AreAt S.is_of (S.store_id store.now) frame.old.rows }
     requires jobs_here { AreJobsAt S.is_of (S.store_id store.now) jobs.now }
-    ensures ended { OnOk result (IsSomeAnd (job_at jobs.now n) (λ job. Installs S.number_of frame.old S.content job.work frame.new)) }
-    ensures refused { IfErr result (RefusalAt (λ job. InstallRefusal S.number_of frame.old S.content job.work) (job_at jobs.now n)) }
+    ensures ended { OnOk result
+        (IsSomeAnd (job_at jobs.now n)
+        (λ job. Installs S.number_of frame.old S.content job.work frame.new)) }
+    ensures refused { IfErr result
+        (RefusalAt (λ job. InstallRefusal S.number_of frame.old S.content job.work)
+        (job_at jobs.now n)) }
     ensures err { OnErr result (frame.new ≡ frame.old) }
     ensures here { AreAt S.is_of (S.store_id store.now) frame.new.rows }
 {
@@ -212,8 +231,10 @@ fn end_build<S: FarTickets>(
 ) -> Result<(), Refusal>
     requires rows_here { AreAt S.is_of (S.store_id store.now) frame.old.rows }
     requires jobs_here { AreJobsAt S.is_of (S.store_id store.now) jobs.now }
-    ensures ended { OnOk result (IsSomeAnd (job_at jobs.now n) (λ job. Merges S.number_of frame.old job.work frame.new)) }
-    ensures refused { IfErr result (RefusalAt (λ job. MergeRefusal S.number_of frame.old job.work) (job_at jobs.now n)) }
+    ensures ended { OnOk result
+        (IsSomeAnd (job_at jobs.now n) (λ job. Merges S.number_of frame.old job.work frame.new)) }
+    ensures refused { IfErr result
+        (RefusalAt (λ job. MergeRefusal S.number_of frame.old job.work) (job_at jobs.now n)) }
     ensures err { OnErr result (frame.new ≡ frame.old) }
     ensures here { AreAt S.is_of (S.store_id store.now) frame.new.rows }
 {

@@ -24,7 +24,8 @@ pub(super) fn lend<S: FarTickets>(
     to: u32,
 ) -> Reply
     ensures changes { Changes S.content frame.old (Step.Lend column from to) result frame.new }
-    ensures here { (id : List ℕ) → AreAt S.is_of id frame.old.rows → AreAt S.is_of id frame.new.rows }
+    ensures here { (id : List ℕ) → AreAt S.is_of id frame.old.rows
+        → AreAt S.is_of id frame.new.rows }
 {
     match copied(frame, alloc, column, from, to) {
         Ok(reply) => {
@@ -43,7 +44,9 @@ fn copied<S: FarTickets>(
     from: u32,
     to: u32,
 ) -> Result<Reply, Refusal>
-    ensures given { IfOk result (IsReplyOf (slice_get frame.now.table.schema column) (lent_part frame.now.table column from to)) }
+    ensures given { IfOk result
+        (IsReplyOf (slice_get frame.now.table.schema column)
+        (lent_part frame.now.table column from to)) }
     ensures due { OnOk result (lend_refusal frame.now.rows column from to ≡ None) }
     ensures refused { IfErr result (MayRefuse (lend_refusal frame.now.rows column from to) true) }
 {
@@ -62,7 +65,8 @@ fn copied_ints<S: FarTickets>(
     from: u32,
     to: u32,
 ) -> Result<Vec<IntPiece>, Refusal>
-    ensures pieces { IfOk result (λ copies. map int_piece copies.items ≡ lent_part frame.now.table column from to) }
+    ensures pieces { IfOk result
+        (λ copies. map int_piece copies.items ≡ lent_part frame.now.table column from to) }
     ensures due { OnOk result (ints_refusal frame.now.rows column from to ≡ None) }
     ensures refused { IfErr result (MayRefuse (ints_refusal frame.now.rows column from to) true) }
 {
@@ -77,7 +81,8 @@ fn copied_ints<S: FarTickets>(
 
 /// Copies a piece of numbers. Refused only with `NoMemory` (1).
 fn copy_ints(alloc: Global, lent: &Lent<'_>) -> Result<IntPiece, Refusal>
-    ensures copy { IfOk result (λ copy. int_piece copy ≡ ints_lent (lent.now.values.now, lent.now.alive.now)) }
+    ensures copy { IfOk result
+        (λ copy. int_piece copy ≡ ints_lent (lent.now.values.now, lent.now.alive.now)) }
     ensures memory { IfErr result (λ e. e ≡ Refusal.NoMemory) }
 {
     Ok(IntPiece {
@@ -94,7 +99,8 @@ fn copied_texts<S: FarTickets>(
     from: u32,
     to: u32,
 ) -> Result<Vec<TextPiece>, Refusal>
-    ensures pieces { IfOk result (λ copies. map text_piece copies.items ≡ lent_part frame.now.table column from to) }
+    ensures pieces { IfOk result
+        (λ copies. map text_piece copies.items ≡ lent_part frame.now.table column from to) }
     ensures due { OnOk result (texts_refusal frame.now.rows column from to ≡ None) }
     ensures refused { IfErr result (MayRefuse (texts_refusal frame.now.rows column from to) true) }
 {

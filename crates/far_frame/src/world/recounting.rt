@@ -20,7 +20,9 @@ impl<S: FarStore> World<S> {
         ensures answer { IfOk result (IsAnswerNow self.old.state.table a) }
         ensures free { OnOk result (recount_refusal self.old.state.table a 1 ≡ None) }
         ensures none { OnOk result (self.new ≡ self.old) }
-        ensures refused { IfErr result (RecountRefusal (recount_refusal self.old.state.table a 1) self.old.faults self.new.faults) }
+        ensures refused { IfErr result
+            (RecountRefusal (recount_refusal self.old.state.table a 1) self.old.faults
+            self.new.faults) }
         ensures world { self.new ≡ record self.old { faults = self.new.faults } }
         ensures most { self.new.faults ≤ self.old.faults + 1 }
     {

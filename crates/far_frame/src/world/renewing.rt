@@ -23,9 +23,11 @@ impl<S: FarStore> World<S> {
     /// - `NoMemory` (1): an allocation fails.
     pub fn migrate<N: FarStore>(self, new_store: N) -> Result<World<N>, (Refusal, World<S>)>
         requires few { self.faults < 2 ^ 62 }
-        ensures migrated { IfOk result (IsMigratedTo S.content N.content (N.store_id new_store) self) }
+        ensures migrated { IfOk result
+            (IsMigratedTo S.content N.content (N.store_id new_store) self) }
         ensures table { IfOk result (λ world. table_of world.state ≡ table_of self.state) }
-        ensures back { IfErr result (λ e. e.1 ≡ record self { faults = self.faults + faults_of e.0 }) }
+        ensures back { IfErr result
+            (λ e. e.1 ≡ record self { faults = self.faults + faults_of e.0 }) }
         ensures refused { IfErr result (λ e. IsOneOf (21 ∷ 22 ∷ 1 ∷ []) e.0) }
     {
         let World {

@@ -12,7 +12,8 @@ use far_types::{Edit, Kind, Spec};
 #[inline(always)]
 pub(super) fn edit<S: FarTickets>(frame: &mut Frame<S>, edit: Edit) -> Reply
     ensures changes { Changes S.content frame.old (Step.Edit edit) result frame.new }
-    ensures here { (id : List ℕ) → AreAt S.is_of id frame.old.rows → AreAt S.is_of id frame.new.rows }
+    ensures here { (id : List ℕ) → AreAt S.is_of id frame.old.rows
+        → AreAt S.is_of id frame.new.rows }
 {
     match edit {
         Edit::Insert(row) => match frame.insert(row) {
@@ -68,7 +69,8 @@ pub(super) fn ask<S: FarTickets>(frame: &Frame<S>, a: u32) -> Reply
 /// Serves the step that adds a pin to an object.
 pub(super) fn pin<S: FarTickets>(frame: &mut Frame<S>, column: u32, group: u32) -> Reply
     ensures changes { Changes S.content frame.old (Step.Pin column group) result frame.new }
-    ensures here { (id : List ℕ) → AreAt S.is_of id frame.old.rows → AreAt S.is_of id frame.new.rows }
+    ensures here { (id : List ℕ) → AreAt S.is_of id frame.old.rows
+        → AreAt S.is_of id frame.new.rows }
 {
     Reply::done_or(frame.pin(column, group))
 }
@@ -76,7 +78,8 @@ pub(super) fn pin<S: FarTickets>(frame: &mut Frame<S>, column: u32, group: u32) 
 /// Serves the step that removes a pin from an object.
 pub(super) fn unpin<S: FarTickets>(frame: &mut Frame<S>, column: u32, group: u32) -> Reply
     ensures changes { Changes S.content frame.old (Step.Unpin column group) result frame.new }
-    ensures here { (id : List ℕ) → AreAt S.is_of id frame.old.rows → AreAt S.is_of id frame.new.rows }
+    ensures here { (id : List ℕ) → AreAt S.is_of id frame.old.rows
+        → AreAt S.is_of id frame.new.rows }
 {
     Reply::done_or(frame.unpin(column, group))
 }
@@ -84,7 +87,8 @@ pub(super) fn unpin<S: FarTickets>(frame: &mut Frame<S>, column: u32, group: u32
 /// Serves the compaction of a segment.
 pub(super) fn compact<S: FarTickets>(frame: &mut Frame<S>, kind: Kind, segment: u32) -> Reply
     ensures changes { Changes S.content frame.old (Step.Compact kind segment) result frame.new }
-    ensures here { (id : List ℕ) → AreAt S.is_of id frame.old.rows → AreAt S.is_of id frame.new.rows }
+    ensures here { (id : List ℕ) → AreAt S.is_of id frame.old.rows
+        → AreAt S.is_of id frame.new.rows }
 {
     Reply::done_or(frame.compact(kind, segment))
 }

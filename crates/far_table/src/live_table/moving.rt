@@ -26,7 +26,8 @@ impl<S: FarTickets> LiveTable<S> {
     pub fn begin_evac(&self, store: &S, column: u32, group: u32) -> Result<RowsEvac<S>, Refusal>
         requires here { AreAt S.is_of (S.store_id store.now) self.now.rows }
         ensures begun { IfOk result (IsEvacBegun self.now.rows column group) }
-        ensures here { IfOk result (λ job. IsFormOf S.is_of (S.store_id store.now) (of_either job).form) }
+        ensures here { IfOk result
+            (λ job. IsFormOf S.is_of (S.store_id store.now) (of_either job).form) }
         ensures free { OnOk result (evac_refusal self.now.rows column group ≡ None) }
         ensures refused { IfErr result (MayRefuse (evac_refusal self.now.rows column group) true) }
     {
@@ -60,10 +61,14 @@ impl<S: FarTickets> LiveTable<S> {
     pub fn commit(&mut self, store: &S, carried: &RowsCarried<S>) -> Result<(), Refusal>
         requires here { AreAt S.is_of (S.store_id store.now) self.old.rows }
         requires carried_here { S.is_of (of_either carried.now).ticket (S.store_id store.now) }
-        ensures committed { OnOk result (IsMoved (IsCommitted S.number_of carried.now) self.old self.new) }
+        ensures committed { OnOk result
+            (IsMoved (IsCommitted S.number_of carried.now) self.old self.new) }
         ensures here { AreAt S.is_of (S.store_id store.now) self.new.rows }
-        ensures stale { IsErrOf result Refusal.StaleJob ↔ (¬ IsEvacAccepted S.number_of self.old.rows carried.now) }
-        ensures pinned { IsErrOf result Refusal.Pinned ↔ (IsEvacAccepted S.number_of self.old.rows carried.now × (pins_by self.old.rows carried.now ≢ 0)) }
+        ensures stale { IsErrOf result Refusal.StaleJob
+            ↔ (¬ IsEvacAccepted S.number_of self.old.rows carried.now) }
+        ensures pinned { IsErrOf result Refusal.Pinned
+            ↔ (IsEvacAccepted S.number_of self.old.rows carried.now
+            × (pins_by self.old.rows carried.now ≢ 0)) }
         ensures refused { IfErr result (λ e. (e ≡ Refusal.StaleJob) ⊎ (e ≡ Refusal.Pinned)) }
         ensures err { OnErr result (self.new ≡ self.old) }
     {
@@ -82,11 +87,16 @@ impl<S: FarTickets> LiveTable<S> {
     pub fn install(&mut self, store: &S, fetched: &RowsFetched<S>) -> Result<(), Refusal>
         requires here { AreAt S.is_of (S.store_id store.now) self.old.rows }
         requires fetched_here { S.is_of (of_either fetched.now).job.ticket (S.store_id store.now) }
-        ensures installed { OnOk result (IsMoved (IsInstalled S.content S.number_of fetched.now) self.old self.new) }
+        ensures installed { OnOk result
+            (IsMoved (IsInstalled S.content S.number_of fetched.now) self.old self.new) }
         ensures here { AreAt S.is_of (S.store_id store.now) self.new.rows }
-        ensures stale { IsErrOf result Refusal.StaleJob ↔ (¬ IsFetchAccepted S.number_of self.old.rows fetched.now) }
-        ensures full { IsErrOf result Refusal.RegionFull ↔ (IsFetchAccepted S.number_of self.old.rows fetched.now × HasNoSpace S.content self.old.rows fetched.now) }
-        ensures refused { IfErr result (λ e. (e ≡ Refusal.StaleJob) ⊎ ((e ≡ Refusal.RegionFull) ⊎ (e ≡ Refusal.NoMemory))) }
+        ensures stale { IsErrOf result Refusal.StaleJob
+            ↔ (¬ IsFetchAccepted S.number_of self.old.rows fetched.now) }
+        ensures full { IsErrOf result Refusal.RegionFull
+            ↔ (IsFetchAccepted S.number_of self.old.rows fetched.now
+            × HasNoSpace S.content self.old.rows fetched.now) }
+        ensures refused { IfErr result
+            (λ e. (e ≡ Refusal.StaleJob) ⊎ ((e ≡ Refusal.RegionFull) ⊎ (e ≡ Refusal.NoMemory))) }
         ensures err { OnErr result (self.new ≡ self.old) }
     {
         self.rows.install(self.alloc, store, fetched)
@@ -104,7 +114,8 @@ impl<S: FarTickets> LiveTable<S> {
     /// A refused call changes nothing.
     pub fn pin(&mut self, column: u32, group: u32) -> Result<(), Refusal>
         ensures pinned { OnOk result (IsMoved (IsPinned column group) self.old self.new) }
-        ensures here { (id : List ℕ) → AreAt S.is_of id self.old.rows → AreAt S.is_of id self.new.rows }
+        ensures here { (id : List ℕ) → AreAt S.is_of id self.old.rows
+            → AreAt S.is_of id self.new.rows }
         ensures refused { refusal_in result ≡ pin_refusal self.old.rows column group }
         ensures err { OnErr result (self.new ≡ self.old) }
     {
@@ -122,7 +133,8 @@ impl<S: FarTickets> LiveTable<S> {
     /// A refused call changes nothing.
     pub fn unpin(&mut self, column: u32, group: u32) -> Result<(), Refusal>
         ensures unpinned { OnOk result (IsMoved (IsUnpinned column group) self.old self.new) }
-        ensures here { (id : List ℕ) → AreAt S.is_of id self.old.rows → AreAt S.is_of id self.new.rows }
+        ensures here { (id : List ℕ) → AreAt S.is_of id self.old.rows
+            → AreAt S.is_of id self.new.rows }
         ensures refused { refusal_in result ≡ unpin_refusal self.old.rows column group }
         ensures err { OnErr result (self.new ≡ self.old) }
     {
@@ -140,7 +152,8 @@ impl<S: FarTickets> LiveTable<S> {
     /// A refused call changes nothing.
     pub fn touch(&mut self, column: u32, group: u32) -> Result<(), Refusal>
         ensures touched { OnOk result (IsMoved (IsTouched column group) self.old self.new) }
-        ensures here { (id : List ℕ) → AreAt S.is_of id self.old.rows → AreAt S.is_of id self.new.rows }
+        ensures here { (id : List ℕ) → AreAt S.is_of id self.old.rows
+            → AreAt S.is_of id self.new.rows }
         ensures refused { refusal_in result ≡ object_refusal self.old.rows column group }
         ensures err { OnErr result (self.new ≡ self.old) }
     {
@@ -154,9 +167,15 @@ impl<S: FarTickets> LiveTable<S> {
     /// The object is local and has no pin.
     pub fn coldest(&self) -> Option<Name>
         ensures coldest { result ≡ coldest self.now.rows }
-        ensures local { IfSome result (λ name. evac_refusal self.now.rows name.column name.group ≡ None) }
-        ensures unpinned { IfSome result (λ name. option_map (pins_at self.now.rows) (object_at self.now.rows name.column name.group) ≡ Some 0) }
-        ensures none { (result ≡ None) ↔ ((coldest_in self.now.rows.number_objects ≡ None) × (coldest_in self.now.rows.text_objects ≡ None)) }
+        ensures local { IfSome result
+            (λ name. evac_refusal self.now.rows name.column name.group ≡ None) }
+        ensures unpinned { IfSome result
+            (λ name. option_map (pins_at self.now.rows)
+            (object_at self.now.rows name.column name.group)
+            ≡ Some 0) }
+        ensures none { (result ≡ None)
+            ↔ ((coldest_in self.now.rows.number_objects ≡ None)
+            × (coldest_in self.now.rows.text_objects ≡ None)) }
     {
         self.rows.coldest()
     }
@@ -173,10 +192,14 @@ impl<S: FarTickets> LiveTable<S> {
     /// A refused call changes nothing.
     pub fn compact(&mut self, kind: Kind, segment: u32) -> Result<(), Refusal>
         ensures compacted { OnOk result (IsMoved (IsCompactedOf kind segment) self.old self.new) }
-        ensures here { (id : List ℕ) → AreAt S.is_of id self.old.rows → AreAt S.is_of id self.new.rows }
-        ensures missing { IsErrOf result Refusal.OutOfRange ↔ (segments_of kind self.old.rows ≤ segment) }
-        ensures full { IsErrOf result Refusal.RegionFull ↔ ((segment < segments_of kind self.old.rows) × HasNoOther kind segment self.old.rows) }
-        ensures refused { IfErr result (λ e. (e ≡ Refusal.OutOfRange) ⊎ ((e ≡ Refusal.RegionFull) ⊎ (e ≡ Refusal.NoMemory))) }
+        ensures here { (id : List ℕ) → AreAt S.is_of id self.old.rows
+            → AreAt S.is_of id self.new.rows }
+        ensures missing { IsErrOf result Refusal.OutOfRange
+            ↔ (segments_of kind self.old.rows ≤ segment) }
+        ensures full { IsErrOf result Refusal.RegionFull
+            ↔ ((segment < segments_of kind self.old.rows) × HasNoOther kind segment self.old.rows) }
+        ensures refused { IfErr result
+            (λ e. (e ≡ Refusal.OutOfRange) ⊎ ((e ≡ Refusal.RegionFull) ⊎ (e ≡ Refusal.NoMemory))) }
         ensures err { OnErr result (self.new ≡ self.old) }
     {
         self.rows.compact(self.alloc, kind, segment)

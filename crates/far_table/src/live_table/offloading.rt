@@ -53,7 +53,8 @@ impl<S: FarTickets> LiveTable<S> {
     /// - `StaleJob` (20): it is scanned already, or the object of a column that the aggregate needs is dirty. A clean object
     ///   may be local or away.
     pub fn may_offload(&self, a: u32, group: u32) -> Result<(), Refusal>
-        ensures { refusal_in result ≡ offload_refusal self.now (aggregate_at self.now.table a) group }
+        ensures { refusal_in result
+            ≡ offload_refusal self.now (aggregate_at self.now.table a) group }
     {
         let Some(spec) = self.aggregates.spec(a) else {
             return Err(Refusal::NoAggregate);
@@ -75,9 +76,12 @@ impl<S: FarTickets> LiveTable<S> {
     pub fn begin_offload(&self, store: &S, a: u32, group: u32) -> Result<OffloadBuild<S>, Refusal>
         requires here { AreAt S.is_of (S.store_id store.now) self.now.rows }
         ensures begun { IfOk result (IsOffloadBegun self.now a group) }
-        ensures here { IfOk result (λ build. AreTicketsOf S.is_of (S.store_id store.now) build.job.tickets) }
-        ensures free { OnOk result (offload_refusal self.now (aggregate_at self.now.table a) group ≡ None) }
-        ensures refused { IfErr result (MayRefuse (offload_refusal self.now (aggregate_at self.now.table a) group) true) }
+        ensures here { IfOk result
+            (λ build. AreTicketsOf S.is_of (S.store_id store.now) build.job.tickets) }
+        ensures free { OnOk result
+            (offload_refusal self.now (aggregate_at self.now.table a) group ≡ None) }
+        ensures refused { IfErr result
+            (MayRefuse (offload_refusal self.now (aggregate_at self.now.table a) group) true) }
     {
         self.may_offload(a, group)?;
         let held = self.rows.held();
@@ -116,11 +120,16 @@ impl<S: FarTickets> LiveTable<S> {
     /// - The alive flags are the same.
     pub fn merge(&mut self, store: &S, carried: &OffloadCarried<S>) -> Result<(), Refusal>
         requires here { AreAt S.is_of (S.store_id store.now) self.old.rows }
-        requires carried_here { AreTicketsOf S.is_of (S.store_id store.now) carried.now.job.tickets }
+        requires carried_here { AreTicketsOf S.is_of (S.store_id store.now)
+            carried.now.job.tickets }
         ensures merged { OnOk result (IsMerged S.number_of self.old carried.now self.new) }
-        ensures unregistered { IsErrOf result Refusal.NoAggregate ↔ (aggregate_at self.old.table carried.now.aggregate ≡ None) }
-        ensures stale { IsErrOf result Refusal.StaleJob ↔ (IsSome (aggregate_at self.old.table carried.now.aggregate) × ¬ IsMergeable S.number_of self.old carried.now) }
-        ensures refused { IfErr result (λ e. (e ≡ Refusal.NoAggregate) ⊎ ((e ≡ Refusal.StaleJob) ⊎ (e ≡ Refusal.NoMemory))) }
+        ensures unregistered { IsErrOf result Refusal.NoAggregate
+            ↔ (aggregate_at self.old.table carried.now.aggregate ≡ None) }
+        ensures stale { IsErrOf result Refusal.StaleJob
+            ↔ (IsSome (aggregate_at self.old.table carried.now.aggregate)
+            × ¬ IsMergeable S.number_of self.old carried.now) }
+        ensures refused { IfErr result
+            (λ e. (e ≡ Refusal.NoAggregate) ⊎ ((e ≡ Refusal.StaleJob) ⊎ (e ≡ Refusal.NoMemory))) }
         ensures err { OnErr result (self.new ≡ self.old) }
     {
         let build = &carried.build;
@@ -149,7 +158,8 @@ impl<S: FarTickets> LiveTable<S> {
         requires here { AreAt S.is_of (S.store_id store.now) self.now.rows }
         requires build_here { AreTicketsOf S.is_of (S.store_id store.now) build.now.job.tickets }
         ensures exact { IsTrue result ↔ IsMergeable S.number_of self.now build.now }
-        ensures copies { IsTrue result → AreCopies S.content record { rows = self.now.rows; build = build.now } }
+        ensures copies { IsTrue result
+            → AreCopies S.content record { rows = self.now.rows; build = build.now } }
     {
         let held = self.rows.held();
         let Some(spec) = self.aggregates.spec(build.aggregate) else {

@@ -36,7 +36,8 @@ impl<S: FarRead> LiveTable<S> {
         ensures answer { IfOk result (IsAnswerNow self.now.table a) }
         ensures free { OnOk result (recount_refusal self.now.table a workers ≡ None) }
         ensures none { OnOk result (meter.new ≡ meter.old) }
-        ensures refused { IfErr result (RecountRefusal (recount_refusal self.now.table a workers) meter.old meter.new) }
+        ensures refused { IfErr result
+            (RecountRefusal (recount_refusal self.now.table a workers) meter.old meter.new) }
         ensures most { meter.new ≤ meter.old + workers }
     {
         let Some(spec) = self.aggregates.spec(a) else {
@@ -63,7 +64,8 @@ impl<S: FarRead> LiveTable<S> {
         ensures answer { IfOk result (IsAnswerNow self.now.table a) }
         ensures free { OnOk result (recount_refusal self.now.table a 1 ≡ None) }
         ensures none { OnOk result (meter.new ≡ meter.old) }
-        ensures refused { IfErr result (RecountRefusal (recount_refusal self.now.table a 1) meter.old meter.new) }
+        ensures refused { IfErr result
+            (RecountRefusal (recount_refusal self.now.table a 1) meter.old meter.new) }
         ensures most { meter.new ≤ meter.old + 1 }
     {
         let Some(spec) = self.aggregates.spec(a) else {

@@ -43,7 +43,8 @@ impl<S: FarTickets> LiveTable<S> {
     pub fn renew<N: FarTickets>(self, renewal: RowsRenewal<N>) -> LiveTable<N>
         requires { RenewsRows S.content N.content self.rows renewal }
         ensures renewed { result ≡ renewed_state self renewal }
-        ensures there { (id : List ℕ) → AreTicketsAt N.is_of id renewal → AreAt N.is_of id result.rows }
+        ensures there { (id : List ℕ) → AreTicketsAt N.is_of id renewal
+            → AreAt N.is_of id result.rows }
     {
         LiveTable {
             alloc: self.alloc,

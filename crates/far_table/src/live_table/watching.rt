@@ -27,7 +27,8 @@ impl<S: FarTickets> LiveTable<S> {
     /// A refused call changes nothing.
     pub fn watch(&mut self, spec: Spec) -> Result<u32, Refusal>
         ensures ok { IfOk result (IsWatched self.old self.new spec) }
-        ensures err { IfErr result (λ e. Refuses (watch_refusal self.old.table spec) true self.old e self.new) }
+        ensures err { IfErr result
+            (λ e. Refuses (watch_refusal self.old.table spec) true self.old e self.new) }
     {
         spec.check(self.rows.schema())?;
         let Some(a) = self.aggregates.free_number() else {
@@ -49,7 +50,9 @@ impl<S: FarTickets> LiveTable<S> {
     /// Refused with `NoAggregate` (12) exactly if there is none. A refused call changes nothing.
     pub fn unwatch(&mut self, a: u32) -> Result<(), Refusal>
         ensures ok { OnOk result (IsUnwatched self.old self.new a) }
-        ensures err { IfErr result (λ e. Refuses (unwatch_refusal (aggregate_at self.old.table a)) false self.old e self.new) }
+        ensures err { IfErr result
+            (λ e. Refuses (unwatch_refusal (aggregate_at self.old.table a)) false self.old e
+            self.new) }
     {
         if self.aggregates.spec(a).is_none() {
             return Err(Refusal::NoAggregate);
@@ -72,7 +75,9 @@ impl<S: FarTickets> LiveTable<S> {
     /// A refused call changes nothing.
     pub fn scan_group(&mut self, a: u32, group: u32) -> Result<(), Refusal>
         ensures ok { OnOk result (IsScanned self.old self.new a group) }
-        ensures err { IfErr result (λ e. Refuses (scan_refusal self.old (aggregate_at self.old.table a) group) true self.old e self.new) }
+        ensures err { IfErr result
+            (λ e. Refuses (scan_refusal self.old (aggregate_at self.old.table a) group) true
+            self.old e self.new) }
     {
         // For the proof: give `AreRows`, and how many places there are.
         let _held = self.rows.held();
@@ -102,7 +107,8 @@ impl<S: FarTickets> LiveTable<S> {
     /// - `NoMemory` (1): an allocation fails.
     pub fn ask(&self, a: u32) -> Result<Answer, Refusal>
         ensures ok { IfOk result (Answers self.now.table.places (aggregate_at self.now.table a)) }
-        ensures err { IfErr result (λ e. Refuses (ask_refusal (aggregate_at self.now.table a)) true self.now e self.now) }
+        ensures err { IfErr result
+            (λ e. Refuses (ask_refusal (aggregate_at self.now.table a)) true self.now e self.now) }
     {
         // For the proof: gives `AreLimits`.
         let _limits = self.rows.limits();
@@ -117,7 +123,8 @@ impl<S: FarTickets> LiveTable<S> {
     /// - `NoAggregate` (12): there is no such aggregate.
     /// - `Building` (15): row groups are pending. It says how many.
     pub fn line(&self, a: u32, key: &Option<Key>) -> Result<Option<Line>, Refusal>
-        ensures ok { IfOk result (AnswersKey self.now.table.places (aggregate_at self.now.table a) key.now) }
+        ensures ok { IfOk result
+            (AnswersKey self.now.table.places (aggregate_at self.now.table a) key.now) }
         ensures err { IfErr result (MayRefuse (ask_refusal (aggregate_at self.now.table a)) false) }
     {
         // For the proof: gives `AreLimits`.
@@ -127,15 +134,18 @@ impl<S: FarTickets> LiveTable<S> {
 
     /// Returns the specification of the aggregate of a number, or `None` if there is none. Allocates nothing.
     pub fn spec(&self, a: u32) -> Option<&Spec>
-        ensures { option_copied result ≡ option_map (λ aggregate. aggregate.spec) (aggregate_at self.now.table a) }
+        ensures { option_copied result
+            ≡ option_map (λ aggregate. aggregate.spec) (aggregate_at self.now.table a) }
     {
         self.aggregates.spec(a)
     }
 
     /// Returns an aggregate and a row group that is still pending in it, or `None` if there is none. Allocates nothing.
     pub fn unbuilt(&self) -> Option<(u32, u32)>
-        ensures some { IfSome result (λ at. is_pending_in (aggregate_at self.now.table at.0) at.1 ≡ true) }
-        ensures none { IfNone result ((a : ℕ) → (g : ℕ) → is_pending_in (aggregate_at self.now.table a) g ≡ false) }
+        ensures some { IfSome result
+            (λ at. is_pending_in (aggregate_at self.now.table at.0) at.1 ≡ true) }
+        ensures none { IfNone result
+            ((a : ℕ) → (g : ℕ) → is_pending_in (aggregate_at self.now.table a) g ≡ false) }
     {
         self.aggregates.first_pending()
     }

@@ -55,7 +55,8 @@ impl<S: FarTickets> TableRows<S> {
     /// - `Absent` (16): an object of the place's row group is away. It names the first in the order of the columns.
     /// - `ChunkFull` (11), `RegionFull` (17), `EditsUsedUp` (24)
     pub fn may_set(&self, column: u32, place: u32, cell: Cell) -> Result<NewCell, Refusal>
-        ensures refused { refusal_in result ≡ edit_due (asked self.now) (edit.Set place column cell) }
+        ensures refused { refusal_in result
+            ≡ edit_due (asked self.now) (edit.Set place column cell) }
         ensures cell { IfOk result (λ value. cell_of value ≡ cell) }
         ensures free { IfOk result (MayPut S.content self.now column place) }
     {
@@ -80,7 +81,8 @@ impl<S: FarTickets> TableRows<S> {
     /// - `EditsUsedUp` (24)
     pub fn may_remove(&self, place: u32) -> Result<RowRef<'_, S>, Refusal>
         ensures refused { refusal_in result ≡ edit_due (asked self.now) (edit.Remove place) }
-        ensures row { IfOk result (λ row. option_map (λ p. p.cells) (slice_get self.now.places place) ≡ Some row) }
+        ensures row { IfOk result
+            (λ row. option_map (λ p. p.cells) (slice_get self.now.places place) ≡ Some row) }
     {
         // For the proof: gives `AreRows`.
         let _len = self.rows.len();
@@ -95,7 +97,8 @@ impl<S: FarTickets> TableRows<S> {
     /// Refused with `Absent` (16) exactly if one is away. It names the first in the order of the columns.
     pub fn may_scan(&self, spec: &Spec, group: u32) -> Result<(), Refusal>
         requires { group * self.now.limits.group < length self.now.places }
-        ensures { refusal_in result ≡ first_of (needed_from self.now.held spec.now group 0 self.now.held.column_indexes) }
+        ensures { refusal_in result
+            ≡ first_of (needed_from self.now.held spec.now group 0 self.now.held.column_indexes) }
     {
         // For the proof: gives `AreRows`.
         let _len = self.rows.len();
@@ -109,7 +112,8 @@ impl<S: FarTickets> TableRows<S> {
 
     // Checks that one more edit can be counted.
     fn may_count(&self) -> Result<(), Refusal>
-        ensures { refusal_in result ≡ first_of ((self.now.edits == self.now.limits.edits, Refusal.EditsUsedUp) ∷ []) }
+        ensures { refusal_in result
+            ≡ first_of ((self.now.edits == self.now.limits.edits, Refusal.EditsUsedUp) ∷ []) }
     {
         if self.edits == self.limits.edits {
             return Err(Refusal::EditsUsedUp);

@@ -33,7 +33,8 @@ impl<S: FarTickets> TableRows<S> {
     ) -> Result<RowsEvac<S>, Refusal>
         requires here { AreAt S.is_of (S.store_id store.now) self.now.held }
         ensures begun { IfOk result (IsEvacBegun self.now.held column group) }
-        ensures here { IfOk result (λ job. IsFormOf S.is_of (S.store_id store.now) (of_either job).form) }
+        ensures here { IfOk result
+            (λ job. IsFormOf S.is_of (S.store_id store.now) (of_either job).form) }
         ensures free { OnOk result (evac_refusal self.now.held column group ≡ None) }
         ensures refused { IfErr result (MayRefuse (evac_refusal self.now.held column group) true) }
     {
@@ -67,10 +68,14 @@ impl<S: FarTickets> TableRows<S> {
     pub fn commit(&mut self, store: &S, carried: &RowsCarried<S>) -> Result<(), Refusal>
         requires here { AreAt S.is_of (S.store_id store.now) self.old.held }
         requires carried_here { S.is_of (of_either carried.now).ticket (S.store_id store.now) }
-        ensures committed { OnOk result (AreMoved (IsCommitted S.number_of carried.now) self.old self.new) }
+        ensures committed { OnOk result
+            (AreMoved (IsCommitted S.number_of carried.now) self.old self.new) }
         ensures here { AreAt S.is_of (S.store_id store.now) self.new.held }
-        ensures stale { IsErrOf result Refusal.StaleJob ↔ (¬ IsEvacAccepted S.number_of self.old.held carried.now) }
-        ensures pinned { IsErrOf result Refusal.Pinned ↔ (IsEvacAccepted S.number_of self.old.held carried.now × (pins_by self.old.held carried.now ≢ 0)) }
+        ensures stale { IsErrOf result Refusal.StaleJob
+            ↔ (¬ IsEvacAccepted S.number_of self.old.held carried.now) }
+        ensures pinned { IsErrOf result Refusal.Pinned
+            ↔ (IsEvacAccepted S.number_of self.old.held carried.now
+            × (pins_by self.old.held carried.now ≢ 0)) }
         ensures refused { IfErr result (λ e. (e ≡ Refusal.StaleJob) ⊎ (e ≡ Refusal.Pinned)) }
         ensures err { OnErr result (self.new ≡ self.old) }
     {
@@ -94,11 +99,16 @@ impl<S: FarTickets> TableRows<S> {
     ) -> Result<(), Refusal>
         requires here { AreAt S.is_of (S.store_id store.now) self.old.held }
         requires fetched_here { S.is_of (of_either fetched.now).job.ticket (S.store_id store.now) }
-        ensures installed { OnOk result (AreMoved (IsInstalled S.content S.number_of fetched.now) self.old self.new) }
+        ensures installed { OnOk result
+            (AreMoved (IsInstalled S.content S.number_of fetched.now) self.old self.new) }
         ensures here { AreAt S.is_of (S.store_id store.now) self.new.held }
-        ensures stale { IsErrOf result Refusal.StaleJob ↔ (¬ IsFetchAccepted S.number_of self.old.held fetched.now) }
-        ensures full { IsErrOf result Refusal.RegionFull ↔ (IsFetchAccepted S.number_of self.old.held fetched.now × HasNoSpace S.content self.old.held fetched.now) }
-        ensures refused { IfErr result (λ e. (e ≡ Refusal.StaleJob) ⊎ ((e ≡ Refusal.RegionFull) ⊎ (e ≡ Refusal.NoMemory))) }
+        ensures stale { IsErrOf result Refusal.StaleJob
+            ↔ (¬ IsFetchAccepted S.number_of self.old.held fetched.now) }
+        ensures full { IsErrOf result Refusal.RegionFull
+            ↔ (IsFetchAccepted S.number_of self.old.held fetched.now
+            × HasNoSpace S.content self.old.held fetched.now) }
+        ensures refused { IfErr result
+            (λ e. (e ≡ Refusal.StaleJob) ⊎ ((e ≡ Refusal.RegionFull) ⊎ (e ≡ Refusal.NoMemory))) }
         ensures err { OnErr result (self.new ≡ self.old) }
     {
         self.rows.install(alloc, store, fetched)
@@ -116,7 +126,8 @@ impl<S: FarTickets> TableRows<S> {
     /// A refused call changes nothing.
     pub fn pin(&mut self, column: u32, group: u32) -> Result<(), Refusal>
         ensures pinned { OnOk result (AreMoved (IsPinned column group) self.old self.new) }
-        ensures here { (id : List ℕ) → AreAt S.is_of id self.old.held → AreAt S.is_of id self.new.held }
+        ensures here { (id : List ℕ) → AreAt S.is_of id self.old.held
+            → AreAt S.is_of id self.new.held }
         ensures refused { refusal_in result ≡ pin_refusal self.old.held column group }
         ensures err { OnErr result (self.new ≡ self.old) }
     {
@@ -134,7 +145,8 @@ impl<S: FarTickets> TableRows<S> {
     /// A refused call changes nothing.
     pub fn unpin(&mut self, column: u32, group: u32) -> Result<(), Refusal>
         ensures unpinned { OnOk result (AreMoved (IsUnpinned column group) self.old self.new) }
-        ensures here { (id : List ℕ) → AreAt S.is_of id self.old.held → AreAt S.is_of id self.new.held }
+        ensures here { (id : List ℕ) → AreAt S.is_of id self.old.held
+            → AreAt S.is_of id self.new.held }
         ensures refused { refusal_in result ≡ unpin_refusal self.old.held column group }
         ensures err { OnErr result (self.new ≡ self.old) }
     {
@@ -152,7 +164,8 @@ impl<S: FarTickets> TableRows<S> {
     /// A refused call changes nothing.
     pub fn touch(&mut self, column: u32, group: u32) -> Result<(), Refusal>
         ensures touched { OnOk result (AreMoved (IsTouched column group) self.old self.new) }
-        ensures here { (id : List ℕ) → AreAt S.is_of id self.old.held → AreAt S.is_of id self.new.held }
+        ensures here { (id : List ℕ) → AreAt S.is_of id self.old.held
+            → AreAt S.is_of id self.new.held }
         ensures refused { refusal_in result ≡ object_refusal self.old.held column group }
         ensures err { OnErr result (self.new ≡ self.old) }
     {
@@ -166,9 +179,15 @@ impl<S: FarTickets> TableRows<S> {
     /// The object is local and has no pin.
     pub fn coldest(&self) -> Option<Name>
         ensures coldest { result ≡ coldest self.now.held }
-        ensures local { IfSome result (λ name. evac_refusal self.now.held name.column name.group ≡ None) }
-        ensures unpinned { IfSome result (λ name. option_map (pins_at self.now.held) (object_at self.now.held name.column name.group) ≡ Some 0) }
-        ensures none { (result ≡ None) ↔ ((coldest_in self.now.held.number_objects ≡ None) × (coldest_in self.now.held.text_objects ≡ None)) }
+        ensures local { IfSome result
+            (λ name. evac_refusal self.now.held name.column name.group ≡ None) }
+        ensures unpinned { IfSome result
+            (λ name. option_map (pins_at self.now.held)
+            (object_at self.now.held name.column name.group)
+            ≡ Some 0) }
+        ensures none { (result ≡ None)
+            ↔ ((coldest_in self.now.held.number_objects ≡ None)
+            × (coldest_in self.now.held.text_objects ≡ None)) }
     {
         self.rows.coldest()
     }
@@ -185,10 +204,14 @@ impl<S: FarTickets> TableRows<S> {
     /// A refused call changes nothing.
     pub fn compact(&mut self, alloc: Global, kind: Kind, segment: u32) -> Result<(), Refusal>
         ensures compacted { OnOk result (AreMoved (IsCompactedOf kind segment) self.old self.new) }
-        ensures here { (id : List ℕ) → AreAt S.is_of id self.old.held → AreAt S.is_of id self.new.held }
-        ensures missing { IsErrOf result Refusal.OutOfRange ↔ (segments_of kind self.old.held ≤ segment) }
-        ensures full { IsErrOf result Refusal.RegionFull ↔ ((segment < segments_of kind self.old.held) × HasNoOther kind segment self.old.held) }
-        ensures refused { IfErr result (λ e. (e ≡ Refusal.OutOfRange) ⊎ ((e ≡ Refusal.RegionFull) ⊎ (e ≡ Refusal.NoMemory))) }
+        ensures here { (id : List ℕ) → AreAt S.is_of id self.old.held
+            → AreAt S.is_of id self.new.held }
+        ensures missing { IsErrOf result Refusal.OutOfRange
+            ↔ (segments_of kind self.old.held ≤ segment) }
+        ensures full { IsErrOf result Refusal.RegionFull
+            ↔ ((segment < segments_of kind self.old.held) × HasNoOther kind segment self.old.held) }
+        ensures refused { IfErr result
+            (λ e. (e ≡ Refusal.OutOfRange) ⊎ ((e ≡ Refusal.RegionFull) ⊎ (e ≡ Refusal.NoMemory))) }
         ensures err { OnErr result (self.new ≡ self.old) }
     {
         match kind {

@@ -44,7 +44,8 @@ impl<S: FarTickets> TableRows<S> {
     pub fn renew<N: FarTickets>(self, renewal: RowsRenewal<N>) -> TableRows<N>
         requires { RenewsRows S.content N.content self.held renewal }
         ensures renewed { result ≡ renewed_table_rows self renewal }
-        ensures there { (id : List ℕ) → AreTicketsAt N.is_of id renewal → AreAt N.is_of id result.held }
+        ensures there { (id : List ℕ) → AreTicketsAt N.is_of id renewal
+            → AreAt N.is_of id result.held }
     {
         TableRows {
             schema: self.schema,
