@@ -278,6 +278,11 @@ uint32_t fc_recount(fc_table *table, uint32_t aggregate, size_t *lines);
  * lent. Refused with FC_NOTHING if there is no such line. */
 uint32_t fc_line_at(fc_table *table, size_t index, fc_line *line);
 
+/* Writes the lines of the answer that stays in the handle from index `from` on, as many as there are and as `lines` has room for, and how
+ * many these are: none if `from` is past the last. The rest of `lines` stays as it was. Each `key_text` is lent, as by fc_line_at: it is
+ * read or copied before the next call with this handle. Refused with FC_NOTHING if no answer stays in the handle. */
+uint32_t fc_lines(fc_table *table, size_t from, fc_line *lines, size_t lines_len, size_t *count);
+
 /* Writes the index of the line with a key in the answer that stays in the handle, found by a binary search. If `key` is missing, it is
  * the line of an aggregate without key column. Refused with FC_NOTHING if no line has this key; before that with FC_BAD_ARGUMENT (a kind)
  * and FC_NO_UTF8. */

@@ -121,8 +121,14 @@ static void ask_key(world *w, program *it) {
 }
 
 static void line_at(world *w, program *it) {
-    fc_line line = {.key_text = fc_no_bytes};
-    seen(w, fc_line_at(&w->table, next_byte(it) > 200 ? SIZE_MAX : 0, &line), CODES(FC_NOTHING));
+    fc_line line = {.key_text = fc_no_bytes}, same[2] = {line, line};
+    size_t index = next_byte(it) > 200 ? SIZE_MAX : 0, count = 99;
+    uint32_t code = seen(w, fc_lines(&w->table, index, same, 2, &count), CODES(FC_NOTHING));
+    HOLDS((code == FC_OK) == (count <= 2));
+    fc_line first = same[0];
+    uint32_t one = seen(w, fc_line_at(&w->table, index, &line), CODES(FC_NOTHING));
+    HOLDS((one == FC_OK) == (count == 1 || count == 2));
+    HOLDS(one != FC_OK || (first.key_kind == line.key_kind && first.fold == line.fold && first.count == line.count && first.min == line.min));
 }
 
 static void about_aggregate(world *w, program *it) {

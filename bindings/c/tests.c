@@ -506,6 +506,53 @@ static void reading(void) {
     OK(fc_close(&table));
 }
 
+static bool is_line(const fc_line *line, const char *key, uint64_t count, uint64_t sum) {
+    return line->fold == FC_TOTALS && line->key_kind == FC_TEXT && line->key_text.len == strlen(key) &&
+           memcmp(line->key_text.at, key, line->key_text.len) == 0 && line->count == count && line->sum_low == sum && line->sum_high == 0;
+}
+
+static bool is_blank(const fc_line *line) { return line->key_text.at == fc_no_bytes.at && line->fold == 9; }
+
+/* Many lines at once: from the first and from a later one on, into less room and into more than there are lines. */
+static void many_lines(void) {
+    fc_table table = {NULL};
+    const fc_line blank = {.key_text = fc_no_bytes, .fold = 9};
+    fc_line some[4] = {blank, blank, blank, blank};
+    uint32_t by_name, ends;
+    size_t lines, count = 99;
+    CODE(fc_lines(&table, 0, some, 4, &count), FC_CLOSED);
+    open_bakery(&table);
+    CODE(fc_lines(&table, 0, some, 4, &count), FC_NOTHING);
+    CHECK(count == 99 && is_blank(&some[0]));
+    OK(insert(&table, "oat", 4));
+    OK(fc_watch(&table, &BY_NAME, &by_name));
+    OK(fc_scan(&table, by_name, 0));
+    OK(fc_ask(&table, by_name, &lines));
+    OK(fc_lines(&table, 0, some, 4, &count));
+    CHECK(lines == 3 && count == 3 && is_line(&some[0], "bread", 2, 7) && is_line(&some[1], "oat", 1, 4));
+    CHECK(is_line(&some[2], "rye", 1, 3) && is_blank(&some[3]));
+    for (int i = 0; i < 4; i++) some[i] = blank;
+    OK(fc_lines(&table, 1, some, 1, &count));
+    CHECK(count == 1 && is_line(&some[0], "oat", 1, 4) && is_blank(&some[1]));
+    some[0] = blank;
+    OK(fc_lines(&table, 2, some, 4, &count));
+    CHECK(count == 1 && is_line(&some[0], "rye", 1, 3) && is_blank(&some[1]));
+    some[0] = blank;
+    OK(fc_lines(&table, 3, some, 4, &count));
+    CHECK(count == 0 && is_blank(&some[0]));
+    OK(fc_lines(&table, SIZE_MAX, some, 4, &count));
+    CHECK(count == 0 && is_blank(&some[0]));
+    OK(fc_lines(&table, 0, some, 0, &count));
+    CHECK(count == 0 && is_blank(&some[0]));
+    OK(fc_watch(&table, &RANGE, &ends));
+    OK(fc_scan(&table, ends, 0));
+    OK(fc_recount(&table, ends, &lines));
+    OK(fc_lines(&table, 0, some, 4, &count));
+    CHECK(count == 1 && some[0].fold == FC_EXTREMA && some[0].key_kind == FC_MISSING && some[0].min == 2 && some[0].max == 5);
+    CHECK(is_blank(&some[1]));
+    OK(fc_close(&table));
+}
+
 /* What is lent, twice over, and refused between: nothing but the last refusal changes. */
 static void lending(void) {
     fc_table table;
@@ -538,6 +585,8 @@ static void lending(void) {
         OK(fc_outgoing(&table, job, &number, &out));
         CHECK(number == 0 && out.len > 0);
         CODE(fc_line_at(&table, 2, &line), FC_NOTHING);
+        OK(fc_lines(&table, 0, &line, 1, &lines));
+        CHECK(lines == 1 && line.key_text.len == 5 && line.count == 2);
         CODE(fc_row(&table, 3, row, 2), FC_NO_ROW);
         CODE(fc_text(&table, 1, 0, &name, &valid), FC_WRONG_KIND);
         CODE(fc_outgoing(&table, 77, &number, &out), FC_STALE_JOB);
@@ -670,6 +719,7 @@ static void closed_edits(void) {
     CODE(fc_ask(&table, 0, &count), FC_CLOSED);
     CODE(fc_recount(&table, 0, &count), FC_CLOSED);
     CODE(fc_line_at(&table, 0, &line), FC_CLOSED);
+    CODE(fc_lines(&table, 0, &line, 1, &count), FC_CLOSED);
     CODE(fc_find(&table, &cell, &count), FC_CLOSED);
     CODE(fc_ask_key(&table, 0, &cell, &line), FC_CLOSED);
     CODE(fc_plain(&table, 0, &sum), FC_CLOSED);
@@ -886,6 +936,7 @@ int main(void) {
     many_cells();
     finding();
     one_key();
+    many_lines();
     aggregates();
     reading();
     lending();

@@ -61,6 +61,7 @@ class Handle:
         self._bytes = header.Bytes()
         self._object = header.ObjectStruct()
         self._groups = (c_uint32 * 2)()
+        self.lines: Any = None  # a buffer of lines, which the first reader of an answer makes
         kinds = (c_uint32 * len(schema))(*schema.codes())
         lim = limits.to_header()
         self.check(self.lib.fc_open(self.at, kinds, len(kinds), byref(lim), contents))

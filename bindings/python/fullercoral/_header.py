@@ -212,6 +212,7 @@ CALLS: dict[str, tuple[type, ...]] = {
     "fc_recount": (_P, _U32, _P),
     "fc_find": (_P, _P, _P),
     "fc_line_at": (_P, _N, _P),
+    "fc_lines": (_P, _N, _P, _N, _P),
     "fc_ask_key": (_P, _U32, _P, _P),
     "fc_plain": (_P, _U32, _P),
     "fc_spec_of": (_P, _U32, _P),

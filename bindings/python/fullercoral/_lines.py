@@ -1,26 +1,82 @@
 """Reads the lines of the answer that stays in a table's handle, and the line of one key.
 
-A line's key is lent until the next call, so a line costs a call, and a text as its key one more,
-which copies it. The line of one key is asked for by one call, which makes no other line. What they
-read and write is prepared once.
+One call writes some hundred lines into a buffer that all readers of a handle share. From there they
+are taken column by column; the texts of their keys, which lie elsewhere, are copied by one call
+more. The line of one key is asked for by one call, which makes no other line.
 """
 
 from __future__ import annotations
 
-from ctypes import byref
+from array import array
+from ctypes import addressof, byref, c_size_t, c_void_p, sizeof
+from functools import partial
 from struct import Struct
-from typing import Any, Callable
+from typing import Any, Iterable, Iterator
 
 from . import _header as header
 from ._buffers import BYTES_AT
 from ._handle import EMPTY_AT, Handle
-from ._lent import lent_text
+from ._lent import LentTexts
+from .errors import Nothing
 
-_KEY_AT, _KEY_LEN, _KEY_NUMBER = 0, 1, 2  # words of a line
+LINES = 256  # how many lines one call writes
+_STEP = sizeof(header.LineStruct) // 8  # words of a line
+
+_KEY_AT, _KEY_LEN, _KEY_NUMBER, _COUNT, _LOW, _HIGH, _MIN, _MAX = range(8)  # words of a line
 _TOTALS = Struct(f"{header.LineStruct.count.offset}xQQq")  # count, and the sum in two halves
 _EXTREMA = Struct(f"{header.LineStruct.min.offset}xqq")
 
+_MASK = (1 << 64) - 1
+
 _new = tuple.__new__  # what a named tuple's own ``_make`` calls
+
+
+class LineBuffer:
+    """Lines of the answer that stays in a handle, as the last call wrote them.
+
+    The caller holds the table's lock.
+    """
+
+    def __init__(self, handle: Handle) -> None:
+        lines = (header.LineStruct * LINES)()
+        self.words = memoryview(lines).cast("B").cast("q")
+        self._unsigned = memoryview(lines).cast("B").cast("Q")
+        self._blank = array("q", ([EMPTY_AT] + [0] * (_STEP - 1)) * LINES)
+        self._texts: LentTexts | None = None  # made for the first answer that has texts as keys
+        self._lines = lines
+        self._lines_at = c_void_p(addressof(lines))
+        self._count = c_size_t()
+        self._count_at = byref(self._count)
+        self._at = handle.at
+        self._fc_lines = handle.lib.short("fc_lines")
+
+    def read(self, index: int, most: int) -> int:
+        """Has at most so many lines written from an index on; returns the code of the call."""
+        self.words[:] = self._blank  # the texts that it lent may be gone
+        room = min(most, LINES)
+        code: int = self._fc_lines(self._at, index, self._lines_at, room, self._count_at)
+        return code
+
+    @property
+    def count(self) -> int:
+        """How many lines the last call wrote."""
+        return self._count.value
+
+    def numbers(self, word: int, count: int) -> list[int]:
+        """Returns a word of the first lines, as numbers with a sign."""
+        return self.words[word : _STEP * count : _STEP].tolist()
+
+    def sums(self, count: int) -> list[int]:
+        """Returns the sums of the first lines, each of its two halves."""
+        lows = self._unsigned[_LOW : _STEP * count : _STEP].tolist()
+        highs = self.numbers(_HIGH, count)
+        return [(high << 64) + low for high, low in zip(highs, lows)] if any(highs) else lows
+
+    def texts(self, count: int) -> Iterable[str]:
+        """Returns the keys of the first lines, which are texts."""
+        if self._texts is None:
+            self._texts = LentTexts(self._lines, header.LineStruct.key_at.offset)
+        return self._texts.first(count)
 
 
 class LineReader:
@@ -30,6 +86,7 @@ class LineReader:
         self._handle = handle
         self._at = handle.at
         self._fold = fold
+        self._make = partial(_new, fold)
         self._has_totals = "count" in fold._fields
         self._unpack = (_TOTALS if self._has_totals else _EXTREMA).unpack_from
         self._key = key
@@ -37,14 +94,10 @@ class LineReader:
         self._line_at = byref(line)
         self._bytes = memoryview(line).cast("B")
         self._words = self._bytes.cast("q")
-        self._key_of: Callable[[], Any] = self._number_key if key is int else self._no_key
-        if key is str:
-            self._key_of = lent_text(line, header.LineStruct.key_at.offset)
         wanted = header.Cell(0, b"", 0, header.TEXT if key is str else header.INT)
         self._wanted_at = byref(wanted)
         self._wanted_words = memoryview(wanted).cast("B").cast("q")
         self._missing_at = byref(header.Cell(0, b"", 0, header.MISSING))
-        self._fc_line_at = handle.lib.short("fc_line_at")
         self._fc_ask_key = handle.lib.short("fc_ask_key")
 
     def ask(self, number: int, key: Any) -> int:
@@ -71,38 +124,78 @@ class LineReader:
 
     def asked(self) -> Any:
         """Returns the line that the last ask for a key wrote."""
-        return self._made_of([self._unpack(self._bytes)])[0]
+        if not self._has_totals:
+            return _new(self._fold, self._unpack(self._bytes))
+        count, low, high = self._unpack(self._bytes)
+        return _new(self._fold, (count, (high << 64) + low if high else low))
 
     def first(self, count: int) -> list[tuple[Any, Any]]:
         """Returns the first lines of the answer, each with its key; None if it has no key column.
 
         They are sorted by key.
         """
-        call, at, line_at = self._fc_line_at, self._at, self._line_at
-        words, bytes_, unpack, key_of = self._words, self._bytes, self._unpack, self._key_of
-        keys, numbers = [], []
-        for index in range(count):
-            words[_KEY_AT] = EMPTY_AT
-            words[_KEY_LEN] = 0
-            code = call(at, index, line_at)
-            if code:
-                raise self._handle.refusal(code)
-            keys.append(key_of())
-            numbers.append(unpack(bytes_))
-        return list(zip(keys, self._made_of(numbers)))
+        pairs: list[tuple[Any, Any]] = []
+        for lines, length in self._parts(count):
+            pairs += zip(self._keys_in(lines, length), self._values_in(lines, length))
+        return pairs
 
-    def _no_key(self) -> None:
-        return None
+    def keys(self, count: int) -> list[Any]:
+        """Returns the keys of the first lines of the answer."""
+        keys: list[Any] = []
+        for lines, length in self._parts(count):
+            keys += self._keys_in(lines, length)
+        return keys
 
-    def _number_key(self) -> int:
-        return self._words[_KEY_NUMBER]
+    def values(self, count: int) -> list[Any]:
+        """Returns the first lines of the answer without their keys."""
+        values: list[Any] = []
+        for lines, length in self._parts(count):
+            values += self._values_in(lines, length)
+        return values
 
-    def _made_of(self, numbers: list[Any]) -> list[Any]:
-        """Returns lines as they are shown: a total's sum in one, of its two halves."""
-        fold = self._fold
+    def arrays(self, count: int) -> tuple[Any, dict[str, Any]]:
+        """Returns the keys of the first lines, and the values by the names of the fold.
+
+        Numbers are arrays of numpy, but for sums of more than 64 bits.
+        """
+        import numpy
+
+        keys: list[Any] = []
+        parts = [numpy.empty((0, _STEP), "int64")]
+        for lines, length in self._parts(count):
+            if self._key is not int:
+                keys += self._keys_in(lines, length)
+            words = numpy.frombuffer(lines.words, "int64", _STEP * length)
+            parts.append(words.reshape(length, _STEP).copy())
+        table = numpy.concatenate(parts)
+        named = table[:, _KEY_NUMBER] if self._key is int else keys
         if not self._has_totals:
-            return [_new(fold, pair) for pair in numbers]
-        return [
-            _new(fold, (count, (high << 64) + low if high else low))
-            for count, low, high in numbers
-        ]
+            return named, {"min": table[:, _MIN], "max": table[:, _MAX]}
+        sums, highs = table[:, _LOW], table[:, _HIGH]
+        if not (highs == sums >> 63).all():
+            halves = zip(highs.tolist(), sums.tolist())
+            sums = [(high << 64) + (low & _MASK) for high, low in halves]
+        return named, {"count": table[:, _COUNT], "sum": sums}
+
+    def _parts(self, count: int) -> Iterator[tuple[LineBuffer, int]]:
+        """Has the first lines of the answer written, part by part, and gives their numbers."""
+        handle, index = self._handle, 0
+        if handle.lines is None:
+            handle.lines = LineBuffer(handle)
+        lines: LineBuffer = handle.lines
+        while index < count:
+            handle.check(lines.read(index, count - index))
+            if not lines.count:
+                raise Nothing(f"the answer has no line {index}")
+            yield lines, lines.count
+            index += lines.count
+
+    def _keys_in(self, lines: LineBuffer, length: int) -> Iterable[Any]:
+        if self._key is str:
+            return lines.texts(length)
+        return lines.numbers(_KEY_NUMBER, length) if self._key is int else [None] * length
+
+    def _values_in(self, lines: LineBuffer, length: int) -> Iterable[Any]:
+        if self._has_totals:
+            return map(self._make, zip(lines.numbers(_COUNT, length), lines.sums(length)))
+        return map(self._make, zip(lines.numbers(_MIN, length), lines.numbers(_MAX, length)))

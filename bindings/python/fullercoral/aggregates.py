@@ -288,11 +288,13 @@ class Watched(Generic[Line]):
 
     def keys(self) -> list[Key]:
         """Returns all keys, sorted."""
-        return [key for key, _ in self.lines()]
+        with self.table._lock:
+            return self._lines.keys(self._ask())
 
     def values(self) -> list[Line]:
         """Returns the lines of all keys, in their order."""
-        return [line for _, line in self.lines()]
+        with self.table._lock:
+            return self._lines.values(self._ask())
 
     def __iter__(self) -> Iterator[Key]:
         return iter(self.keys())
@@ -312,8 +314,8 @@ class Watched(Generic[Line]):
         """Returns the answer as a DataFrame of pandas, with the keys as its index."""
         import pandas  # type: ignore[import]
 
-        keys, lines = zip(*self.lines()) if len(self) else ((), ())
-        columns = {name: [line[at] for line in lines] for at, name in enumerate(self._fold._fields)}
+        with self.table._lock:
+            keys, columns = self._lines.arrays(self._ask())
         index = None if self.spec.by is None else pandas.Index(keys, name=self.spec.by)
         return pandas.DataFrame(columns, index=index)
 

@@ -202,6 +202,22 @@ class Pandas(Case):
             plain = table.watch(fc.extrema("quantity")).to_pandas()
             self.assertEqual(plain.values.tolist(), [[3, 5]])
 
+    def test_an_answer_as_a_frame(self) -> None:
+        with fc.Table({"key": int, "n": int}, local="1MB") as table:
+            by_key = table.watch(fc.totals("n", by="key"))
+            ends = table.watch(fc.extrema("n", by="key"))
+            self.assertEqual(len(by_key.to_pandas()), 0)
+            table.extend_columns(key=range(600), n=range(-300, 300))
+            frame = by_key.to_pandas()
+            self.assertEqual([str(kind) for kind in frame.dtypes], ["int64", "int64"])
+            self.assertEqual((frame.index.tolist(), str(frame.index.dtype)), ([*range(600)], "int64"))
+            self.assertEqual(frame["sum"].tolist(), list(range(-300, 300)))
+            self.assertEqual(frame["count"].tolist(), [1] * 600)
+            self.assertEqual(ends.to_pandas()["max"].tolist(), list(range(-300, 300)))
+            table.extend_columns(key=[7, 7, 8, 8], n=[2**63 - 1] * 2 + [-(2**63)] * 2)
+            sums = by_key.to_pandas()["sum"].tolist()
+            self.assertEqual(sums[6:10], [-294, 2**64 - 295, -(2**64) - 292, -291])
+
 
 if __name__ == "__main__":
     unittest.main()

@@ -104,6 +104,26 @@ class Aggregates(unittest.TestCase):
                 table.set_column("n", range(10), [-n for n in range(10)])
                 self.assertEqual(by_key[shuffled[7]], fc.Total(1, -7))
 
+    def test_answers_of_hundreds_of_keys_come_whole(self) -> None:
+        most, least = 2**63 - 1, -(2**63)
+        for count in (1, 255, 256, 257, 700):
+            names = [f"é{n:03}" for n in range(count)]
+            values = [[most, least, n - 9][n % 3] for n in range(count)] * 2
+            due = {n: fc.Total(2, 2 * values[n]) for n in range(count)}
+            ends = {n: fc.MinMax(values[n], values[n]) for n in range(count)}
+            with fc.Table({"name": str, "number": int, "n": int}, local="4MB") as table:
+                table.extend_columns(name=names * 2, number=[*range(count)] * 2, n=values)
+                for by, keys in (("name", names), ("number", list(range(count)))):
+                    for spec, lines in ((fc.totals("n", by), due), (fc.extrema("n", by), ends)):
+                        watched = table.watch(spec)
+                        self.assertEqual(watched.keys(), keys)
+                        self.assertEqual(watched.values(), list(lines.values()))
+                        self.assertEqual(watched.items(), list(zip(keys, lines.values())))
+                        self.assertEqual(watched.to_dict(), dict(zip(keys, lines.values())))
+                        self.assertIs(type(watched.values()[0]), type(lines[0]))
+                        self.assertEqual(table.recount(watched), watched.to_dict())
+                        self.assertEqual(len(repr(watched).splitlines()), 1 + min(count, 11))
+
     def test_sums_are_exact_beyond_64_bits(self) -> None:
         with fc.Table({"n": int}, local="1MB") as table:
             total = table.watch(fc.totals("n"))

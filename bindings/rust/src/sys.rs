@@ -121,6 +121,7 @@ pub struct fc_column {
 }
 
 #[repr(C)]
+#[derive(Clone, Copy)]
 pub struct fc_line {
     pub key_text: fc_bytes,
     pub key_number: i64,
@@ -228,7 +229,13 @@ unsafe extern "C" {
     ) -> u32;
     pub fn fc_ask(table: *mut fc_table, aggregate: u32, lines: *mut usize) -> u32;
     pub fn fc_recount(table: *mut fc_table, aggregate: u32, lines: *mut usize) -> u32;
-    pub fn fc_line_at(table: *mut fc_table, index: usize, line: *mut fc_line) -> u32;
+    pub fn fc_lines(
+        table: *mut fc_table,
+        from: usize,
+        lines: *mut fc_line,
+        lines_len: usize,
+        count: *mut usize,
+    ) -> u32;
     pub fn fc_ask_key(
         table: *mut fc_table,
         aggregate: u32,

@@ -114,6 +114,31 @@ fn answers_by_key() -> Outcome {
 }
 
 #[test]
+fn answers_of_hundreds_of_keys_come_whole() -> Outcome {
+    for keys in [255, 256, 257, 600] {
+        let mut table = Table::open(
+            Schema::new().text("name").int("number"),
+            Limits::new(),
+            Memory::new(),
+        )?;
+        let by_name = table.watch(totals("number").by("name"))?;
+        let by_number = table.watch(extrema("number").by("number"))?;
+        let names: Vec<_> = (0..keys).map(|n| format!("key {n:04}")).collect();
+        table.extend(names.iter().zip(-300..).map(|(name, n)| row![name, n]))?;
+        let lines = table.ask(by_name)?;
+        let due = names.iter().zip(-300..).map(|(name, sum)| TotalsLine {
+            key: Key::Text(name),
+            count: 1,
+            sum,
+        });
+        assert!(lines.eq(due));
+        let numbers = table.ask(by_number)?.map(|line| (line.key, line.min));
+        assert!(numbers.eq((0..keys).map(|n| (Key::Int(n - 300), n - 300))));
+    }
+    Ok(())
+}
+
+#[test]
 fn rows_before_the_registration_are_scanned() -> Outcome {
     let mut table = by_hand(Schema::new().int("n"));
     table.insert(row![5])?;

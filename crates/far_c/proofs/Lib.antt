@@ -14,3 +14,4 @@ pub mod RowRefusals
 pub mod FirstFaults
 pub mod TurnedAway
 pub mod ColumnsFit
+pub mod LinesWritten

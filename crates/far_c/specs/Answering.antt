@@ -1,5 +1,5 @@
 -- The answer that stays in a handle, and its lines as C has them.
-use Rattle.std.specs.Prelude.{◌≡◌, ℕ, ℤ, List, length, Option, None, Some, IsSomeAnd, slice_get}
+use Rattle.std.specs.Prelude.{◌≡◌, ◌<◌, ◌+◌, ◌-◌, ℕ, ℤ, min, List, length, Option, None, Some, IsSomeAnd, slice_get}
 use Rattle.far_types.specs.declared.answer.Answer.{Answer}
 use Rattle.far_types.specs.declared.answer.Answer.TheVariants as answer
 use Rattle.far_types.specs.declared.key.Key.{Key}
@@ -62,3 +62,12 @@ IsLineAt (answer.Extrema lines) index line = IsSomeAnd (slice_get lines index)
 abbrev pub IsPast : Answer → ℕ → Type 0
 IsPast (answer.Totals lines) index = slice_get lines index ≡ None
 IsPast (answer.Extrema lines) index = slice_get lines index ≡ None
+
+-- the first so many are the lines of an answer from an index on
+abbrev pub AreLinesAt : Answer → ℕ → ℕ → List FcLine → Type 0
+AreLinesAt answer from count lines = (k : ℕ) → k < count
+    → IsSomeAnd (slice_get lines k) (λ line. IsLineAt answer (from + k) line)
+
+-- how many lines an answer has from an index on, and at most so many as have room
+abbrev pub lines_from : Answer → ℕ → ℕ → ℕ
+lines_from answer from room = min room (lines_in answer - from)

@@ -1,4 +1,5 @@
 pub mod Contents
+pub mod Numbering
 pub mod TableState
 pub mod Held
 pub mod Lending

@@ -1,5 +1,5 @@
 -- What an open handle points to.
-use Rattle.std.specs.Prelude.{◌≡◌, List, [], Option, None}
+use Rattle.std.specs.Prelude.{◌≡◌, ℕ, List, [], Option, None}
 use Rattle.far_types.specs.declared.answer.Answer.{Answer}
 use Rattle.far_types.specs.declared.cell.Kind.{Kind}
 use Rattle.far_types.specs.declared.limits.Limits.{Limits}
@@ -8,6 +8,7 @@ use Rattle.far_types.specs.Table.{Place}
 use Rattle.far_host.specs.HostTickets.{TicketState}
 use Rattle.far_frame.specs.State.{empty_state}
 use Rattle.far_frame.specs.Worlds.{World}
+use Rattle.far_c.specs.Numbering.{HasStore}
 
 -- the table with its jobs, the answer that stays, and the last refusal
 pub record TableState : Type 0 where
@@ -19,9 +20,12 @@ pub record TableState : Type 0 where
 abbrev pub places_of : TableState → List Place
 places_of t = t.world.state.table.places
 
--- an empty table with these columns and limits: no job was begun, and no fault occurred
-pub record IsNew (schema : List Kind) (limits : Limits) (new : TableState) : Type 0 where
+-- an empty table with these columns and limits, whose store gives out the numbers below a capacity.
+-- No job was begun, and no fault occurred
+pub record IsNew (schema : List Kind) (limits : Limits) (capacity : ℕ) (new : TableState)
+    : Type 0 where
   pub state : new.world.state ≡ empty_state schema limits 0
+  pub store : HasStore capacity new.world
   pub begun : new.world.begun ≡ 0
   pub jobs : new.world.jobs ≡ []
   pub faults : new.world.faults ≡ 0

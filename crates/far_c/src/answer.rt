@@ -142,7 +142,8 @@ pub extern "C" fn fc_find(handle: &mut Handle, key: &FcCell<'_>, index: &mut usi
     }
 }
 
-fn line_of<'a>(answer: &'a Answer, index: usize) -> Option<FcLine<'a>>
+/// Returns the line of an answer at an index.
+pub fn line_of<'a>(answer: &'a Answer, index: usize) -> Option<FcLine<'a>>
     ensures { MatchOption result (IsPast answer.now index)
         (λ line. IsLineAt answer.now index line) }
 {

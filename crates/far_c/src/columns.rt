@@ -1,8 +1,8 @@
-// Rows that are given column by column, and cells of one column.
+// Rows that are given column by column.
 ghost use Rattle.std.specs.Prelude.{◌≡◌, ◌≤◌, ◌<◌, ◌+◌, ◌↔◌, IfErr, IfNone, IfOk, IfSome, IsSomeAnd, IsTrue, OnOk, length, slice_range};
 ghost use Rattle.far_types.specs.Lent.{lent_cell};
-ghost use Rattle.far_c.specs.ColumnFaults.{AreColumnsOf, AreFirstRead, AreNumbers, AreOffsets, AreTexts, CellFaultIn, HasText, IsColumn, IsColumnOf, IsMask, IsNotAppended, IsNotSet, IsReadIn, IsRowRead, RowFaultIn};
-ghost use Rattle.far_c.specs.Columns.{AreAppended, AreSet, IsNextRefused, column_cell, column_row, has_value, insert_of, offset_at, set_of};
+ghost use Rattle.far_c.specs.ColumnFaults.{AreColumnsOf, AreFirstRead, AreNumbers, AreOffsets, AreTexts, CellFaultIn, HasText, IsColumn, IsColumnOf, IsMask, IsNotAppended, IsReadIn, IsRowRead, RowFaultIn};
+ghost use Rattle.far_c.specs.Columns.{AreAppended, IsNextRefused, column_cell, column_row, has_value, insert_of, offset_at};
 ghost use Rattle.far_c.specs.Outcomes.{IsRefusal, IsStoppedFor};
 ghost use Rattle.far_c.specs.Unreadable.{IsUnreadable};
 
@@ -15,7 +15,7 @@ use crate::unread::Unread;
 use far_types::{Cell, CellRef, Edit, Kind, Row};
 use std::alloc::Global;
 
-/// A column of rows to be inserted, or cells of a column to be set, as Arrow lays columns out.
+/// A column of rows to be inserted, or the cells of a column to be set, as Arrow lays columns out.
 #[repr(C)]
 #[derive(Drop)]
 pub struct FcColumn<'a> {
@@ -129,85 +129,9 @@ fn read_column_row(
     Ok(Row::new(made))
 }
 
-/// Puts values into a column of many places, in order, until one is refused. Writes how many were put.
-#[unsafe(no_mangle)]
-pub extern "C" fn fc_set_column(
-    alloc: Global,
-    handle: &mut Handle,
-    column: u32,
-    places: &[u32],
-    values: &FcColumn<'_>,
-    set: &mut usize,
-) -> u32
-    ensures cells { IfSome handle.old.table
-        (λ old. IsSomeAnd handle.new.table (AreSet column places.now values.now set.new old)) }
-    ensures within { IfSome handle.old.table (λ _. set.new ≤ length places.now) }
-    ensures all { result ≡ 0 → set.new ≡ length places.now }
-    ensures next { IsRefusal result
-        → IsSomeAnd handle.new.table
-        (IsNextRefused (set_of column places.now values.now set.new) result) }
-    ensures rejected { 100 ≤ result
-        → IsStoppedFor (IsNotSet values.now (length places.now) set.new) result
-        handle.old.table handle.new.table }
-    ensures fit { result < 100 → IsColumn (length places.now) values.now }
-    ensures read { IfSome handle.old.table
-        (λ _. AreFirstRead (λ index. IsReadIn index values.now) set.new) }
-    ensures closed { result ≡ 100 → set.new ≡ set.old }
-{
-    let Some(table) = handle.table() else {
-        return CLOSED;
-    };
-    if !values.has_rows(places.len()) {
-        *set = 0;
-        return BAD_ARGUMENT;
-    }
-    set_cells(alloc, table, column, places, values, set)
-}
-
-// Puts values that fit into a column, one after the other.
-fn set_cells(
-    alloc: Global,
-    table: &mut Table,
-    column: u32,
-    places: &[u32],
-    values: &FcColumn<'_>,
-    set: &mut usize,
-) -> u32
-    ensures cells { AreSet column places.now values.now set.new table.old table.new }
-    ensures within { set.new ≤ length places.now }
-    ensures all { result ≡ 0 → set.new ≡ length places.now }
-    ensures next { IsRefusal result
-        → IsNextRefused (set_of column places.now values.now set.new) result table.new }
-    ensures unread { 100 ≤ result
-        → (set.new < length places.now) × IsUnreadable (CellFaultIn set.new values.now) result }
-    ensures kept { 100 ≤ result → table.new.refusal ≡ table.old.refusal }
-    ensures read { AreFirstRead (λ index. IsReadIn index values.now) set.new }
-{
-    for index in 0..places.len() {
-        let place = places[index];
-        let cell = match values.read(alloc, index) {
-            Ok(cell) => cell,
-            Err(why) => {
-                *set = index;
-                return table.turn_away(why);
-            }
-        };
-        if let Err(refusal) = replies::done(table.edit(Edit::Set {
-            place,
-            column,
-            cell,
-        })) {
-            *set = index;
-            return table.refuse(refusal);
-        }
-    }
-    *set = places.len();
-    OK
-}
-
 impl<'a> FcColumn<'a> {
-    // Whether the column is of a kind that there is, and has so many rows.
-    fn has_rows(&self, rows: usize) -> bool
+    /// Returns whether the column is of a kind that there is, and has so many rows.
+    pub fn has_rows(&self, rows: usize) -> bool
         ensures { IsTrue result ↔ IsColumn rows self.now }
     {
         self.has_numbers(rows) || self.has_texts(rows)
@@ -268,9 +192,9 @@ impl<'a> FcColumn<'a> {
         }
     }
 
-    // The cell of a row, copied for a table.
+    /// Returns the cell of a row, copied for a table.
     #[inline(always)]
-    fn read(&self, alloc: Global, row: usize) -> Result<Cell, Unread>
+    pub fn read(&self, alloc: Global, row: usize) -> Result<Cell, Unread>
         ensures ok { IfOk result (λ cell. cell ≡ column_cell self.now row) }
         ensures read { OnOk result (IsReadIn row self.now) }
         ensures fault { IfErr result (CellFaultIn row self.now) }

@@ -4,11 +4,11 @@ ghost use Rattle.std.specs.Option.{MatchOption};
 ghost use Rattle.far_rows.specs.Copies.{copy_of};
 ghost use Rattle.far_frame.specs.Delivering.{HasNoCollision, wanted_by};
 ghost use Rattle.far_frame.specs.Ending.{no_job};
-ghost use Rattle.far_frame.specs.Renewing.{IsMigratedTo};
 ghost use Rattle.far_frame.specs.Waiting.{job_at};
 ghost use Rattle.far_c.specs.Carrying.{OnWorld};
 ghost use Rattle.far_c.specs.Contents.{content, matches, number_of};
 ghost use Rattle.far_c.specs.Delivering.{HasNothingOut, IsCounted, IsCountedFor, IsDelivered, IsNotAway, IsOutgoing, IsWanted, WantsNoMore, WhyNoCopy, WhyNotTaken};
+ghost use Rattle.far_c.specs.Numbering.{IsRenumbered};
 ghost use Rattle.far_c.specs.Outcomes.{Behind, IsDue, IsNumberOf, IsRefusal, IsRejectedFor, IsUsedUp};
 
 use crate::code::{CLOSED, NOTHING, OK, USED_UP};
@@ -139,8 +139,7 @@ pub extern "C" fn fc_deliver_copy(handle: &mut Handle, column: u32, group: u32, 
 #[unsafe(no_mangle)]
 pub extern "C" fn fc_migrate(handle: &mut Handle, capacity: u64) -> u32
     ensures migrated { result ≡ 0
-        → Behind (OnWorld (λ old new. IsMigratedTo content content new.store old new))
-        handle.old.table handle.new.table }
+        → Behind (OnWorld (IsRenumbered capacity)) handle.old.table handle.new.table }
     ensures refused { IsRefusal result
         → Behind (IsCounted result) handle.old.table handle.new.table }
     ensures rejected { 100 ≤ result

@@ -3,6 +3,7 @@
 
 mod aggregates;
 mod answer;
+mod bounded_store;
 mod cell;
 mod code;
 mod columns;
@@ -11,6 +12,7 @@ mod edits;
 mod handle;
 mod jobs;
 mod key_line;
+mod lines;
 mod loose;
 mod moving;
 mod numbers;
@@ -18,6 +20,7 @@ mod opening;
 mod readers;
 mod reading;
 mod replies;
+mod setting;
 mod sorted_answer;
 mod spec;
 mod table;

@@ -68,7 +68,8 @@ pub extern "C" fn fc_open(
     capacity: u64,
 ) -> u32
     ensures opened { result ≡ 0
-        → IsSomeAnd handle.new.table (IsNew (map kind_of kinds.now) (limits_of limits.now)) }
+        → IsSomeAnd handle.new.table
+        (IsNew (map kind_of kinds.now) (limits_of limits.now) capacity) }
     ensures closed { result ≡ 0 → handle.old.table ≡ None }
     ensures refused { result ≢ 0 → handle.new.table ≡ handle.old.table }
     ensures kinds { result ≡ 0 → All IsKind kinds.now }
@@ -125,7 +126,8 @@ fn opened(
     limits: &FcLimits,
     capacity: u64,
 ) -> Result<Box<Table>, Refusal>
-    ensures { IfOk result (λ table. IsNew kinds.items (limits_of limits.now) table.value) }
+    ensures { IfOk result
+        (λ table. IsNew kinds.items (limits_of limits.now) capacity table.value) }
 {
     let table = Table::open(alloc, Schema::new(kinds)?, limits.read(), capacity)?;
     Ok(Box::new(alloc, table)?)

@@ -3,6 +3,7 @@ ghost use Rattle.std.specs.Prelude.{◌≡◌};
 ghost use Rattle.std.specs.Option.{MatchOption};
 ghost use Rattle.far_types.specs.Keys.{line_cmp};
 ghost use Rattle.far_types.specs.Lent.{lent_cell};
+ghost use Rattle.far_c.specs.Answering.{lines_in};
 ghost use Rattle.far_c.specs.Keys.{Ascend, IsKeyAt, IsNoKeyOf, key_of, keys_in, keys_of};
 
 use far_types::{Answer, CellRef, Key};
@@ -40,6 +41,16 @@ impl SortedAnswer {
         ensures { result.now ≡ self.now }
     {
         &self.answer
+    }
+
+    /// Returns how many lines there are.
+    pub fn len(&self) -> usize
+        ensures { result ≡ lines_in self.now }
+    {
+        match &self.answer {
+            Answer::Totals(lines) => lines.as_slice().len(),
+            Answer::Extrema(lines) => lines.as_slice().len(),
+        }
     }
 
     /// Returns the index of the line with this key, or `None` if no line has it.

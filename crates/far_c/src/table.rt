@@ -7,11 +7,11 @@ ghost use Rattle.far_c.specs.Contents.{content, number_of};
 
 mod carrying;
 
+use crate::bounded_store::BoundedStore;
 use crate::code::{BAD_ARGUMENT, NO_UTF8, OK};
 use crate::sorted_answer::SortedAnswer;
 use crate::unread::Unread;
 use far_frame::{Frame, Reply, Step, World};
-use far_host::HostStore;
 use far_types::{Answer, Cell, Edit, Limits, Refusal, Schema};
 use std::alloc::Global;
 use std::marker::Model;
@@ -24,7 +24,7 @@ const MAX_FAULTS: u64 = 1 << 62;
 #[derive(Drop)]
 pub struct Table {
     alloc: Global,
-    world: World<HostStore>,
+    world: World<BoundedStore>,
     answer: Option<SortedAnswer>,
     refusal: Option<Refusal>,
 }
@@ -54,10 +54,10 @@ impl Table {
         limits: Limits,
         capacity: u64,
     ) -> Result<Table, Refusal>
-        ensures { IfOk result (IsNew schema limits) }
+        ensures { IfOk result (IsNew schema limits capacity) }
     {
         let frame = Frame::open(alloc, schema, limits, 0)?;
-        let store = HostStore::new(alloc, capacity)?;
+        let store = BoundedStore::new(alloc, capacity)?;
         match World::new(alloc, frame, store) {
             Ok(world) => Ok(Table {
                 alloc,
@@ -70,7 +70,7 @@ impl Table {
     }
 
     /// Borrows the table with its jobs.
-    pub fn world(&self) -> &World<HostStore>
+    pub fn world(&self) -> &World<BoundedStore>
         ensures { result.now ≡ self.now.world }
     {
         &self.world
@@ -185,11 +185,9 @@ impl Table {
         ensures lines { result ≡ lines_in answer }
         ensures kept { self.new ≡ record self.old { answer = Some answer } }
     {
-        let lines = match &answer {
-            Answer::Totals(lines) => lines.as_slice().len(),
-            Answer::Extrema(lines) => lines.as_slice().len(),
-        };
-        self.answer = Some(SortedAnswer::new(answer));
+        let answer = SortedAnswer::new(answer);
+        let lines = answer.len();
+        self.answer = Some(answer);
         lines
     }
 }

@@ -1,7 +1,12 @@
+use std::mem::MaybeUninit;
+
 use super::{Coded, Library, at, done, some};
 use crate::answer::{Answer, StoredLine};
 use crate::spec::{Key, Resolved};
 use crate::sys::*;
+
+/// How many lines of an answer one call writes.
+const LINES: usize = 256;
 
 impl Library {
     pub fn watch(&mut self, spec: &Resolved) -> Coded<u32> {
@@ -56,12 +61,17 @@ impl Library {
 
     fn copy_lines(&mut self, lines: usize, answer: &mut Answer) -> Coded<()> {
         answer.clear();
-        for index in 0..lines {
-            let mut line = fc_line::BLANK;
+        let mut some = [MaybeUninit::uninit(); LINES];
+        for from in (0..lines).step_by(LINES) {
+            let (room, mut count) = (LINES.min(lines - from), 0);
+            some[..room].fill(MaybeUninit::new(fc_line::BLANK));
+            let at = some.as_mut_ptr().cast();
             // SAFETY: rules 1, 2 and 4.
-            done(unsafe { fc_line_at(&mut self.raw, index, &mut line) })?;
-            // SAFETY: rule 3, no other call came since.
-            unsafe { answer.push(&line) };
+            done(unsafe { fc_lines(&mut self.raw, from, at, room, &mut count) })?;
+            for line in &some[..count] {
+                // SAFETY: at most `room` lines were written; and rule 3, no other call came since.
+                unsafe { answer.push(line.assume_init_ref()) };
+            }
         }
         Ok(())
     }

@@ -6,15 +6,15 @@ ghost use Rattle.far_table.specs.Recounting.{IsAnswerNow};
 ghost use Rattle.far_frame.specs.Delivering.{HasNoCollision, IsContentOf, wanted_by};
 ghost use Rattle.far_frame.specs.Ending.{IsColdestBegun};
 ghost use Rattle.far_frame.specs.Lending.{AreObserved, lend_refusal};
-ghost use Rattle.far_frame.specs.Renewing.{IsMigratedTo};
 ghost use Rattle.far_frame.specs.Waiting.{without_job};
 ghost use Rattle.far_frame.specs.Worlds.{IsNotBegun};
 ghost use Rattle.far_rows.specs.Copies.{copy_of};
 ghost use Rattle.far_c.specs.Contents.{content, matches, number_of};
+ghost use Rattle.far_c.specs.Numbering.{IsRenumbered};
 
 use super::Table;
+use crate::bounded_store::BoundedStore;
 use far_frame::{Frame, Reply, Step, World};
-use far_host::HostStore;
 use far_types::{Answer, Kind, Limits, Refusal, Schema};
 use std::alloc::Global;
 use std::mem;
@@ -138,15 +138,13 @@ impl Table {
     #[tactic(auto, using(crate::proofs::Faults::few_faults))]
     pub fn migrate(&mut self, capacity: u64) -> Result<(), Refusal>
         requires { self.old.world.faults < 2 ^ 62 }
-        ensures migrated { OnOk result
-            (OnWorld
-            (λ old new. IsMigratedTo content content new.store old new) self.old self.new) }
+        ensures migrated { OnOk result (OnWorld (IsRenumbered capacity) self.old self.new) }
         ensures back { IfErr result
             (λ why. OnWorld
             (λ old new. new ≡ record old { faults = old.faults + faults_of why }) self.old
             self.new) }
     {
-        let store = HostStore::new(self.alloc, capacity)?;
+        let store = BoundedStore::new(self.alloc, capacity)?;
         let old = mem::replace(&mut self.world, stand_in(self.alloc)?);
         match old.migrate(store) {
             Ok(new) => {
@@ -162,7 +160,7 @@ impl Table {
 }
 
 // An empty table, which stands where another one is taken out to be changed.
-fn stand_in(alloc: Global) -> Result<World<HostStore>, Refusal>
+fn stand_in(alloc: Global) -> Result<World<BoundedStore>, Refusal>
     ensures faults { IfOk result (λ world. world.faults ≡ 0) }
     ensures memory { IfErr result (λ why. why ≡ Refusal.NoMemory) }
 {
@@ -177,7 +175,7 @@ fn stand_in(alloc: Global) -> Result<World<HostStore>, Refusal>
         text_size: 64,
     };
     let frame = Frame::open(alloc, schema, limits, 0)?;
-    match World::new(alloc, frame, HostStore::new(alloc, 0)?) {
+    match World::new(alloc, frame, BoundedStore::new(alloc, 0)?) {
         Ok(world) => Ok(world),
         Err((refusal, _, _)) => Err(refusal),
     }

@@ -1,7 +1,7 @@
 use Rattle.std.proofs.Common.{◌≡◌}
 use Rattle.far_c.specs.ColumnFaults.{AreFirstRead, IsReadIn}
 use Rattle.far_c.specs.Columns.{AreSet}
-use Rattle.far_c.proofs.columns.set_cells.Given as goal
+use Rattle.far_c.proofs.setting.set_cells.Given as goal
 
 abbrev pub invariant-loop-index : goal.invariant-loop-index
 invariant-loop-index l = record {

@@ -6,7 +6,7 @@ use Rattle.far_c.specs.Outcomes.{IsAccepted, IsServed}
 use Rattle.far_c.specs.TableState.{TableState}
 use Rattle.far_c.proofs.ColumnsFit.{first-more}
 use Rattle.far_c.proofs.InOrder.{next-served}
-use Rattle.far_c.proofs.columns.set_cells.Goals as goal
+use Rattle.far_c.proofs.setting.set_cells.Goals as goal
 
 pub loop-index-preserved : goal.loop-index-preserved
 loop-index-preserved c =
