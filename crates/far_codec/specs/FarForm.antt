@@ -15,7 +15,8 @@ some_missing flags = list_any (λ missing. missing) flags
 
 -- the flags packed into bytes, eight a byte
 unfoldable pub mask_bytes : List Bool → List ℕ
-mask_bytes flags = map (λ k. mask_byte (take 8 (drop (8 * k) flags))) (range_with_len 0 ((length flags + 7) / 8))
+mask_bytes flags = map (λ k. mask_byte (take 8 (drop (8 * k) flags)))
+    (range_with_len 0 ((length flags + 7) / 8))
 
 -- the mask, which marks the missing values; it has no byte if none is missing
 unfoldable pub mask_of : List Bool → List ℕ

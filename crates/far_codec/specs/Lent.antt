@@ -11,4 +11,5 @@ IsForm bytes = IsIntsForm bytes ⊎ IsTextsForm bytes
 
 -- the values that a far form encodes: its second byte is their kind
 abbrev pub lent_in : List ℕ → LentValues
-lent_in bytes = cond (slice_index bytes 1 == 1) (Texts (texts_meaning bytes)) (Ints (ints_meaning bytes))
+lent_in bytes = cond (slice_index bytes 1 == 1) (Texts (texts_meaning bytes))
+    (Ints (ints_meaning bytes))

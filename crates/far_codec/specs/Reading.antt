@@ -31,7 +31,9 @@ number_of bytes = cast_signed w64 (from_le_bytes w64 bytes)
 
 -- the numbers that a mask and words of eight bytes encode
 abbrev pub numbers_of : List ℕ → List (List ℕ) → List (Option ℤ)
-numbers_of mask words = map (λ i. cond (is_missing mask i) None (Some (number_of (slice_index_or words i [])))) (range_with_len 0 (length words))
+numbers_of mask words = map
+    (λ i. cond (is_missing mask i) None (Some (number_of (slice_index_or words i []))))
+    (range_with_len 0 (length words))
 
 -- the numbers that bytes encode
 abbrev pub ints_meaning : List ℕ → List (Option ℤ)

@@ -22,7 +22,8 @@ ends_of texts = map (λ i. bytes_before texts (i + 1)) (range_with_len 0 (length
 
 -- the far form of texts
 unfoldable pub texts_form : List (Option (List ℕ)) → List ℕ
-texts_form texts = head 1 (map is_none texts) ++ (flat_map (to_le_bytes w32) (ends_of texts) ++ flat_map bytes_of texts)
+texts_form texts = head 1 (map is_none texts)
+    ++ (flat_map (to_le_bytes w32) (ends_of texts) ++ flat_map bytes_of texts)
 
 -- texts that have a far form
 pub record AreTexts (texts : List (Option (List ℕ))) : Type 0 where
@@ -32,7 +33,9 @@ pub record AreTexts (texts : List (Option (List ℕ))) : Type 0 where
 
 -- the texts that a mask, ends and text bytes encode: text i extends from the end before it to its own end
 abbrev pub texts_of : List ℕ → List ℕ → List ℕ → List (Option (List ℕ))
-texts_of mask ends body = map (λ i. cond (is_missing mask i) None (Some (slice_range body (slice_index (0 ∷ ends) i) (slice_index ends i)))) (range_with_len 0 (length ends))
+texts_of mask ends body = map (λ i. cond (is_missing mask i) None
+    (Some (slice_range body (slice_index (0 ∷ ends) i) (slice_index ends i))))
+    (range_with_len 0 (length ends))
 
 -- the ends that words of four bytes encode
 abbrev pub ends_in : List (List ℕ) → List ℕ
@@ -40,7 +43,9 @@ ends_in words = map (from_le_bytes w32) words
 
 -- the texts that bytes encode
 abbrev pub texts_meaning : List ℕ → List (Option (List ℕ))
-texts_meaning bytes = texts_of (mask_in bytes) (ends_in (first_chunks 4 (count_in bytes) (fields_in bytes))) (drop (4 * count_in bytes) (fields_in bytes))
+texts_meaning bytes = texts_of (mask_in bytes)
+    (ends_in (first_chunks 4 (count_in bytes) (fields_in bytes)))
+    (drop (4 * count_in bytes) (fields_in bytes))
 
 -- the bytes are a far form of texts
 pub record IsTextsForm (bytes : List ℕ) : Type 0 where
@@ -53,7 +58,8 @@ pub record IsTextAt (mask ends body : List ℕ) (i : ℕ) : Type 0 where
   pub ordered : slice_index (0 ∷ ends) i ≤ slice_index ends i
   pub inside : slice_index ends i ≤ length body
   pub missing : is_missing mask i ≡ true → slice_index ends i ≡ slice_index (0 ∷ ends) i
-  pub there : is_missing mask i ≡ false → IsUtf8 (slice_range body (slice_index (0 ∷ ends) i) (slice_index ends i))
+  pub there : is_missing mask i ≡ false
+      → IsUtf8 (slice_range body (slice_index (0 ∷ ends) i) (slice_index ends i))
 
 -- the parts are those of a form of texts: each text is valid, and the last ends where the text bytes do
 pub record AreTextParts (mask ends body : List ℕ) : Type 0 where

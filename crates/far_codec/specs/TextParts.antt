@@ -11,8 +11,10 @@ pub record Ascend (ends : List ℕ) (last : ℕ) : Type 0 where
 
 -- a missing text ends where it begins
 abbrev pub MissingAreEmpty : List ℕ → List ℕ → Type 0
-MissingAreEmpty mask ends = (i : ℕ) → i < length ends → is_missing mask i ≡ true → slice_index ends i ≡ slice_index (0 ∷ ends) i
+MissingAreEmpty mask ends = (i : ℕ) → i < length ends → is_missing mask i ≡ true
+    → slice_index ends i ≡ slice_index (0 ∷ ends) i
 
 -- the bytes of each text are UTF-8; a missing text has none
 abbrev pub AreUtf8 : List ℕ → List ℕ → Type 0
-AreUtf8 ends body = (i : ℕ) → i < length ends → IsUtf8 (slice_range body (slice_index (0 ∷ ends) i) (slice_index ends i))
+AreUtf8 ends body = (i : ℕ) → i < length ends
+    → IsUtf8 (slice_range body (slice_index (0 ∷ ends) i) (slice_index ends i))

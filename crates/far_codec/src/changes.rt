@@ -23,7 +23,9 @@ fn push_moved(
     to: usize,
 ) -> Result<(), AllocError>
     requires { All (λ end. (from ≤ end) × (end - from + to < 2 ^ 32)) (ends_in ends.now) }
-    ensures { OnOk result (form.new.items ≡ form.old.items ++ flat_map (to_le_bytes w32) (map (λ end. end - from + to) (ends_in ends.now))) }
+    ensures { OnOk result (form.new.items
+        ≡ form.old.items
+        ++ flat_map (to_le_bytes w32) (map (λ end. end - from + to) (ends_in ends.now))) }
 {
     for word in ends {
         let end = end_in(word) - from + to;
@@ -43,9 +45,16 @@ fn push_fields(
     requires parts { AreTextParts parts.mask.now (ends_in parts.ends.now) parts.body.now }
     requires words { parts.ends.now ≡ map (to_le_bytes w32) (ends_in parts.ends.now) }
     requires there { i ≤ length parts.ends.now }
-    requires space { text_bytes (with_text (texts_of parts.mask.now (ends_in parts.ends.now) parts.body.now) i text.now) < 2 ^ 32 }
+    requires space { text_bytes
+        (with_text (texts_of parts.mask.now (ends_in parts.ends.now) parts.body.now) i text.now)
+        < 2 ^ 32 }
     ensures utf8 { IfSome text.now IsUtf8 }
-    ensures written { let texts = with_text (texts_of parts.entry.mask.now (ends_in parts.entry.ends.now) parts.entry.body.now) i text.now in OnOk result (form.new.items ≡ form.old.items ++ (flat_map (to_le_bytes w32) (ends_of texts) ++ flat_map bytes_of texts)) }
+    ensures written { let texts = with_text
+        (texts_of parts.entry.mask.now (ends_in parts.entry.ends.now) parts.entry.body.now) i
+        text.now in
+        OnOk result (form.new.items
+        ≡ form.old.items
+        ++ (flat_map (to_le_bytes w32) (ends_of texts) ++ flat_map bytes_of texts)) }
 {
     let after = (i + 1).min(parts.ends.len());
     let start = start_in(parts.ends, i);
@@ -90,10 +99,18 @@ fn form_around(
     requires words { parts.ends.now ≡ map (to_le_bytes w32) (ends_in parts.ends.now) }
     requires texts { AreTexts (texts_of parts.mask.now (ends_in parts.ends.now) parts.body.now) }
     requires there { i ≤ length parts.ends.now }
-    requires space { texts_length (with_text (texts_of parts.mask.now (ends_in parts.ends.now) parts.body.now) i text.now) < 2 ^ 32 }
+    requires space { texts_length
+        (with_text (texts_of parts.mask.now (ends_in parts.ends.now) parts.body.now) i text.now)
+        < 2 ^ 32 }
     ensures form { IfOk result (λ new. IsTextsForm new.items) }
-    ensures texts { let texts = with_text (texts_of parts.entry.mask.now (ends_in parts.entry.ends.now) parts.entry.body.now) i text.now in IfOk result (λ new. texts_meaning new.items ≡ texts) }
-    ensures length { let texts = with_text (texts_of parts.entry.mask.now (ends_in parts.entry.ends.now) parts.entry.body.now) i text.now in IfOk result (λ new. length new.items ≡ texts_length texts) }
+    ensures texts { let texts = with_text
+        (texts_of parts.entry.mask.now (ends_in parts.entry.ends.now) parts.entry.body.now) i
+        text.now in
+        IfOk result (λ new. texts_meaning new.items ≡ texts) }
+    ensures length { let texts = with_text
+        (texts_of parts.entry.mask.now (ends_in parts.entry.ends.now) parts.entry.body.now) i
+        text.now in
+        IfOk result (λ new. length new.items ≡ texts_length texts) }
     ensures memory { IfErr result (λ e. e ≡ Refusal.NoMemory) }
 {
     let flags = ChangedFlags {
@@ -119,11 +136,23 @@ fn form_behind(
     requires parts { AreTextParts parts.mask.now (ends_in parts.ends.now) parts.body.now }
     requires words { parts.ends.now ≡ map (to_le_bytes w32) (ends_in parts.ends.now) }
     requires texts { AreTexts (texts_of parts.mask.now (ends_in parts.ends.now) parts.body.now) }
-    requires there { list_any is_none (with_text (texts_of parts.mask.now (ends_in parts.ends.now) parts.body.now) (length parts.ends.now) text.now) ≡ false }
-    requires space { texts_length (with_text (texts_of parts.mask.now (ends_in parts.ends.now) parts.body.now) (length parts.ends.now) text.now) < 2 ^ 32 }
+    requires there { list_any is_none (with_text
+        (texts_of parts.mask.now (ends_in parts.ends.now) parts.body.now) (length parts.ends.now)
+        text.now)
+        ≡ false }
+    requires space { texts_length (with_text
+        (texts_of parts.mask.now (ends_in parts.ends.now) parts.body.now) (length parts.ends.now)
+        text.now)
+        < 2 ^ 32 }
     ensures form { IfOk result (λ new. IsTextsForm new.items) }
-    ensures texts { let texts = with_text (texts_of parts.entry.mask.now (ends_in parts.entry.ends.now) parts.entry.body.now) (length parts.entry.ends.now) text.now in IfOk result (λ new. texts_meaning new.items ≡ texts) }
-    ensures length { let texts = with_text (texts_of parts.entry.mask.now (ends_in parts.entry.ends.now) parts.entry.body.now) (length parts.entry.ends.now) text.now in IfOk result (λ new. length new.items ≡ texts_length texts) }
+    ensures texts { let texts = with_text
+        (texts_of parts.entry.mask.now (ends_in parts.entry.ends.now) parts.entry.body.now)
+        (length parts.entry.ends.now) text.now in
+        IfOk result (λ new. texts_meaning new.items ≡ texts) }
+    ensures length { let texts = with_text
+        (texts_of parts.entry.mask.now (ends_in parts.entry.ends.now) parts.entry.body.now)
+        (length parts.entry.ends.now) text.now in
+        IfOk result (λ new. length new.items ≡ texts_length texts) }
     ensures memory { IfErr result (λ e. e ≡ Refusal.NoMemory) }
 {
     let count = (parts.ends.len() + 1).to_le_bytes();
@@ -150,8 +179,10 @@ pub fn form_with(
     requires there { i < length (texts_meaning form.now) }
     requires space { texts_length (slice_set (texts_meaning form.now) i text.now) < 2 ^ 32 }
     ensures form { IfOk result (λ new. IsTextsForm new.items) }
-    ensures texts { IfOk result (λ new. texts_meaning new.items ≡ slice_set (texts_meaning form.now) i text.now) }
-    ensures length { IfOk result (λ new. length new.items ≡ texts_length (slice_set (texts_meaning form.now) i text.now)) }
+    ensures texts { IfOk result
+        (λ new. texts_meaning new.items ≡ slice_set (texts_meaning form.now) i text.now) }
+    ensures length { IfOk result
+        (λ new. length new.items ≡ texts_length (slice_set (texts_meaning form.now) i text.now)) }
     ensures memory { IfErr result (λ e. e ≡ Refusal.NoMemory) }
 {
     form_around(
@@ -171,8 +202,10 @@ pub fn form_with_next(spare: Vec<u8>, form: &[u8], text: &Option<Text>) -> Resul
     requires form { IsTextsForm form.now }
     requires space { texts_length (texts_meaning form.now ++ text.now ∷ []) < 2 ^ 32 }
     ensures form { IfOk result (λ new. IsTextsForm new.items) }
-    ensures texts { IfOk result (λ new. texts_meaning new.items ≡ texts_meaning form.now ++ text.now ∷ []) }
-    ensures length { IfOk result (λ new. length new.items ≡ texts_length (texts_meaning form.now ++ text.now ∷ [])) }
+    ensures texts { IfOk result
+        (λ new. texts_meaning new.items ≡ texts_meaning form.now ++ text.now ∷ []) }
+    ensures length { IfOk result
+        (λ new. length new.items ≡ texts_length (texts_meaning form.now ++ text.now ∷ [])) }
     ensures memory { IfErr result (λ e. e ≡ Refusal.NoMemory) }
 {
     let size = length_with_next(form, text);

@@ -26,15 +26,18 @@ pub trait Elem: Copy + Drop + Send + Sync {
     /// Encodes the list: returns its one spelling. Refused only with `NoMemory` (1).
     fn spell(alloc: Global, view: &[Self]) -> Result<Vec<u8>, Refusal>
         requires { has_spelling view.now }
-        ensures spelled { IfOk result (λ bytes. IsSpelled in_range has_spelling spelling view.now bytes.items) }
+        ensures spelled { IfOk result
+            (λ bytes. IsSpelled in_range has_spelling spelling view.now bytes.items) }
         ensures memory { IfErr result (λ e. e ≡ Refusal.NoMemory) };
 
     /// Decodes the bytes: returns the list that they spell, or `None` if they spell none. Refused only with `NoMemory` (1).
     fn unspell(alloc: Global, bytes: &[u8]) -> Result<Option<Vec<Self>>, Refusal>
         // A list that is returned has these bytes as its spelling.
-        ensures found { IfOk result (λ read. IfSome read (λ list. IsSpelled in_range has_spelling spelling list.items bytes.now)) }
+        ensures found { IfOk result (λ read. IfSome read
+            (λ list. IsSpelled in_range has_spelling spelling list.items bytes.now)) }
         // A list with these bytes as its spelling is returned.
-        ensures only { (list : List Self) → IsSpelled in_range has_spelling spelling list bytes.now → IfOk result (λ read. option_map (λ found. found.items) read ≡ Some list) }
+        ensures only { (list : List Self) → IsSpelled in_range has_spelling spelling list bytes.now
+            → IfOk result (λ read. option_map (λ found. found.items) read ≡ Some list) }
         ensures memory { IfErr result (λ e. e ≡ Refusal.NoMemory) };
 
     /// Returns whether the bytes are the spelling of the list. Allocates nothing, and stops at the first difference.
@@ -43,8 +46,10 @@ pub trait Elem: Copy + Drop + Send + Sync {
         ensures range { IsTrue result → All in_range view.now };
 
     /// Decoding a spelling returns the list.
-    ghost reads_back: { (list : List Self) → All in_range list → has_spelling list → meaning (spelling list) ≡ list };
+    ghost reads_back: { (list : List Self) → All in_range list → has_spelling list
+        → meaning (spelling list) ≡ list };
 
     /// No other list has the same spelling.
-    ghost one_list: { (one other : List Self) → All in_range one → All in_range other → has_spelling one → spelling one ≡ spelling other → one ≡ other };
+    ghost one_list: { (one other : List Self) → All in_range one → All in_range other
+        → has_spelling one → spelling one ≡ spelling other → one ≡ other };
 }

@@ -33,7 +33,9 @@ pub(crate) fn has_bit(mask: &[u8]) -> bool
 /// Returns whether the bytes are a valid mask of `count` values, with at least one bit set.
 fn is_mask(mask: &[u8], count: usize) -> bool
     requires { length mask.now ≡ (count + 7) / 8 }
-    ensures { IsTrue result ↔ ((mask.now ≡ mask_of (flags_of mask.now count)) × (some_missing (flags_of mask.now count) ≡ true)) }
+    ensures { IsTrue result
+        ↔ ((mask.now ≡ mask_of (flags_of mask.now count))
+        × (some_missing (flags_of mask.now count) ≡ true)) }
 {
     let spare = count % 8;
     if spare != 0 && mask[count / 8] >> spare != 0 {
@@ -45,8 +47,13 @@ fn is_mask(mask: &[u8], count: usize) -> bool
 /// Splits off the mask of `count` values.
 fn split_mask(count: usize, rest: &[u8]) -> Option<Masked<'_>>
     requires { count < 2 ^ 32 }
-    ensures found { IfSome result (λ m. (m.count ≡ count) × (rest.now ≡ mask_of (flags_of m.mask.now count) ++ m.fields.now) × (some_missing (flags_of m.mask.now count) ≡ true)) }
-    ensures only { (flags : List Bool) (fields : List ℕ) → length flags ≡ count → some_missing flags ≡ true → rest.now ≡ mask_of flags ++ fields → IsSomeAnd result (λ m. (m.count ≡ count) × (m.mask.now ≡ mask_of flags) × (m.fields.now ≡ fields)) }
+    ensures found { IfSome result (λ m. (m.count ≡ count)
+        × (rest.now ≡ mask_of (flags_of m.mask.now count) ++ m.fields.now)
+        × (some_missing (flags_of m.mask.now count) ≡ true)) }
+    ensures only { (flags : List Bool) (fields : List ℕ) → length flags ≡ count
+        → some_missing flags ≡ true → rest.now ≡ mask_of flags ++ fields
+        → IsSomeAnd result
+        (λ m. (m.count ≡ count) × (m.mask.now ≡ mask_of flags) × (m.fields.now ≡ fields)) }
 {
     let length = (count + 7) / 8;
     if rest.len() < length {
@@ -65,8 +72,12 @@ fn split_mask(count: usize, rest: &[u8]) -> Option<Masked<'_>>
 
 /// Splits off the head and the mask of a form of the kind.
 pub(crate) fn split_head(bytes: &[u8], kind: u8) -> Option<Masked<'_>>
-    ensures found { IfSome result (λ m. (m.count < 2 ^ 32) × (bytes.now ≡ head kind (flags_of m.mask.now m.count) ++ m.fields.now)) }
-    ensures only { (flags : List Bool) (rest : List ℕ) → FitsCount flags → bytes.now ≡ head kind flags ++ rest → IsSomeAnd result (λ m. (m.count ≡ length flags) × (m.mask.now ≡ mask_of flags) × (m.fields.now ≡ rest)) }
+    ensures found { IfSome result (λ m. (m.count < 2 ^ 32)
+        × (bytes.now ≡ head kind (flags_of m.mask.now m.count) ++ m.fields.now)) }
+    ensures only { (flags : List Bool) (rest : List ℕ) → FitsCount flags
+        → bytes.now ≡ head kind flags ++ rest
+        → IsSomeAnd result
+        (λ m. (m.count ≡ length flags) × (m.mask.now ≡ mask_of flags) × (m.fields.now ≡ rest)) }
 {
     if bytes.len() < 6 {
         return None;

@@ -25,7 +25,9 @@ pub(crate) struct IntParts<'a> {
 
 /// Returns whether the word of each missing number is 0.
 fn missing_are_zero(mask: &[u8], words: &[[u8; 8]]) -> bool
-    ensures { IsTrue result ↔ ((i : ℕ) → i < length words.now → is_missing mask.now i ≡ true → slice_index_or words.now i [] ≡ number_bytes None) }
+    ensures { IsTrue result
+        ↔ ((i : ℕ) → i < length words.now → is_missing mask.now i ≡ true
+        → slice_index_or words.now i [] ≡ number_bytes None) }
 {
     if mask.is_empty() {
         return true;
@@ -42,8 +44,10 @@ fn missing_are_zero(mask: &[u8], words: &[[u8; 8]]) -> bool
 
 /// Splits a form of numbers into its parts. Returns `None` if the bytes are not a far form of numbers.
 pub(crate) fn split_ints(bytes: &[u8]) -> Option<IntParts<'_>>
-    ensures found { IfSome result (λ parts. AreInts (numbers_of parts.mask.now parts.words.now) × (bytes.now ≡ ints_form (numbers_of parts.mask.now parts.words.now))) }
-    ensures only { (numbers : List (Option ℤ)) → AreInts numbers → bytes.now ≡ ints_form numbers → IsSome result }
+    ensures found { IfSome result (λ parts. AreInts (numbers_of parts.mask.now parts.words.now)
+        × (bytes.now ≡ ints_form (numbers_of parts.mask.now parts.words.now))) }
+    ensures only { (numbers : List (Option ℤ)) → AreInts numbers → bytes.now ≡ ints_form numbers
+        → IsSome result }
 {
     let Masked {
         count,
@@ -69,7 +73,8 @@ pub(crate) fn option_in(missing: bool, word: &[u8; 8]) -> Option<i64>
 
 /// Decodes the numbers of a form from its parts.
 pub(crate) fn read_ints(alloc: Global, parts: &IntParts<'_>) -> Result<Vec<Option<i64>>, AllocError>
-    ensures { IfOk result (λ numbers. numbers.items ≡ numbers_of parts.now.mask.now parts.now.words.now) }
+    ensures { IfOk result
+        (λ numbers. numbers.items ≡ numbers_of parts.now.mask.now parts.now.words.now) }
 {
     let mut numbers = Vec::with_capacity(alloc, parts.words.len())?;
     if parts.mask.is_empty() {
@@ -93,7 +98,8 @@ pub fn ints_length(numbers: &[Option<i64>]) -> usize
 /// Encodes numbers: returns their one far form. Refused only with `NoMemory` (1).
 pub fn encode_ints(alloc: Global, numbers: &[Option<i64>]) -> Result<Vec<u8>, Refusal>
     requires { length numbers.now < 2 ^ 32 }
-    ensures spelled { IfOk result (λ form. (form.items ≡ ints_form numbers.now) × AreInts numbers.now) }
+    ensures spelled { IfOk result
+        (λ form. (form.items ≡ ints_form numbers.now) × AreInts numbers.now) }
     ensures length { IfOk result (λ form. length form.items ≡ ints_length numbers.now) }
     ensures memory { IfErr result (λ e. e ≡ Refusal.NoMemory) }
 {
@@ -119,8 +125,11 @@ fn tells_missing(bytes: &[u8]) -> bool
 
 /// Returns whether the bytes are the far form of numbers, some of them missing. Stops at the first difference.
 fn spells_masked(bytes: &[u8], numbers: &[Option<i64>]) -> bool
-    ensures found { IsTrue result → (bytes.now ≡ ints_form numbers.now) × AllByRecursion (λ number. IfSome number (FitsSigned w64)) numbers.now }
-    ensures only { bytes.now ≡ ints_form numbers.now → list_any is_none numbers.now ≡ true → IsTrue result }
+    ensures found { IsTrue result
+        → (bytes.now ≡ ints_form numbers.now)
+        × AllByRecursion (λ number. IfSome number (FitsSigned w64)) numbers.now }
+    ensures only { bytes.now ≡ ints_form numbers.now → list_any is_none numbers.now ≡ true
+        → IsTrue result }
 {
     match strip_head(bytes, 0, numbers) {
         Some(fields) => {

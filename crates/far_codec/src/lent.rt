@@ -65,9 +65,11 @@ impl<'a> Model for LentTexts<'a> {
 
     ghost Value = { List (Option (List ℕ)) };
 
-    ghost view = { λ lent. texts_of lent.parts.mask.now (ends_in lent.parts.ends.now) lent.parts.body.now };
+    ghost view = { λ lent. texts_of lent.parts.mask.now (ends_in lent.parts.ends.now)
+        lent.parts.body.now };
 
-    ghost invariant = { λ lent. AreTextParts lent.parts.mask.now (ends_in lent.parts.ends.now) lent.parts.body.now };
+    ghost invariant = { λ lent. AreTextParts lent.parts.mask.now (ends_in lent.parts.ends.now)
+        lent.parts.body.now };
 }
 
 impl<'a> LentTexts<'a> {

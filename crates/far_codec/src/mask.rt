@@ -73,8 +73,11 @@ pub(crate) fn push_head<F: Flags>(form: &mut Vec<u8>, kind: u8, flags: &F) -> Re
 /// Returns the bytes after the mask of values, some of them missing, if the bytes begin with that mask. Stops at the first
 /// difference.
 fn strip_mask<'a, T>(bytes: &'a [u8], values: &[Option<T>]) -> Option<&'a [u8]>
-    ensures found { IfSome result (λ rest. (bytes.now ≡ mask_bytes (map is_none values.now) ++ rest.now) × (list_any is_none values.now ≡ true)) }
-    ensures only { (rest : List ℕ) → bytes.now ≡ mask_bytes (map is_none values.now) ++ rest → list_any is_none values.now ≡ true → IsSomeAnd result (λ r. r.now ≡ rest) }
+    ensures found { IfSome result (λ rest. (bytes.now
+        ≡ mask_bytes (map is_none values.now) ++ rest.now)
+        × (list_any is_none values.now ≡ true)) }
+    ensures only { (rest : List ℕ) → bytes.now ≡ mask_bytes (map is_none values.now) ++ rest
+        → list_any is_none values.now ≡ true → IsSomeAnd result (λ r. r.now ≡ rest) }
 {
     let length = values.len().div_ceil(8);
     if bytes.len() < length {
@@ -95,8 +98,11 @@ fn strip_mask<'a, T>(bytes: &'a [u8], values: &[Option<T>]) -> Option<&'a [u8]>
 /// Returns the bytes after the head and the mask of values, some of them missing, if the bytes begin with these. Stops at the first
 /// difference.
 pub(crate) fn strip_head<'a, T>(bytes: &'a [u8], kind: u8, values: &[Option<T>]) -> Option<&'a [u8]>
-    ensures found { IfSome result (λ rest. (bytes.now ≡ head kind (map is_none values.now) ++ rest.now) × (list_any is_none values.now ≡ true)) }
-    ensures only { (rest : List ℕ) → bytes.now ≡ head kind (map is_none values.now) ++ rest → list_any is_none values.now ≡ true → IsSomeAnd result (λ r. r.now ≡ rest) }
+    ensures found { IfSome result (λ rest. (bytes.now
+        ≡ head kind (map is_none values.now) ++ rest.now)
+        × (list_any is_none values.now ≡ true)) }
+    ensures only { (rest : List ℕ) → bytes.now ≡ head kind (map is_none values.now) ++ rest
+        → list_any is_none values.now ≡ true → IsSomeAnd result (λ r. r.now ≡ rest) }
 {
     if bytes.len() < 6 {
         return None;

@@ -24,7 +24,8 @@ fn read_numbers(alloc: Global, words: &[[u8; 8]]) -> Result<Vec<i64>, AllocError
 /// Returns the words of a form of numbers without a mask, if the bytes are such a form with any count.
 pub(crate) fn plain_words(bytes: &[u8]) -> Option<&[[u8; 8]]>
     ensures found { IfSome result (λ words. IsPlain bytes.now words.now) }
-    ensures only { (numbers : List ℤ) → bytes.now ≡ plain_form numbers → IsSomeAnd result (λ words. words.now ≡ map (λ x. number_bytes (Some x)) numbers) }
+    ensures only { (numbers : List ℤ) → bytes.now ≡ plain_form numbers
+        → IsSomeAnd result (λ words. words.now ≡ map (λ x. number_bytes (Some x)) numbers) }
 {
     if bytes.len() < 6 {
         return None;

@@ -27,7 +27,8 @@ fn write_present(words: &mut [[u8; 8]], block: &[Option<i64>]) -> bool
 
 /// Appends the words of a few numbers. Returns whether none is missing. Stops at the first missing one.
 fn push_few(form: &mut Vec<u8>, numbers: &[Option<i64>]) -> Result<bool, AllocError>
-    ensures written { IfOk result (λ all. IsTrue all → form.new.items ≡ form.old.items ++ flat_map number_bytes numbers.now) }
+    ensures written { IfOk result
+        (λ all. IsTrue all → form.new.items ≡ form.old.items ++ flat_map number_bytes numbers.now) }
     ensures there { IfOk result (λ all. IsTrue all → AllByRecursion IsThere numbers.now) }
 {
     for number in numbers {
@@ -43,7 +44,8 @@ fn push_few(form: &mut Vec<u8>, numbers: &[Option<i64>]) -> Result<bool, AllocEr
 ///
 /// Writes them in blocks, so that it need not test for each word whether the form has space.
 pub(crate) fn push_present(form: &mut Vec<u8>, numbers: &[Option<i64>]) -> Result<bool, AllocError>
-    ensures written { IfOk result (λ all. IsTrue all → form.new.items ≡ form.old.items ++ flat_map number_bytes numbers.now) }
+    ensures written { IfOk result
+        (λ all. IsTrue all → form.new.items ≡ form.old.items ++ flat_map number_bytes numbers.now) }
     ensures there { IfOk result (λ all. IsTrue all → AllByRecursion IsThere numbers.now) }
 {
     let mut words = [[0; 8]; 64];
@@ -61,8 +63,10 @@ pub(crate) fn push_present(form: &mut Vec<u8>, numbers: &[Option<i64>]) -> Resul
 
 /// Returns whether none of the numbers is missing and the words are theirs. Stops at the first difference.
 fn are_present(words: &[[u8; 8]], numbers: &[Option<i64>]) -> bool
-    ensures found { IsTrue result → (words.now ≡ map number_bytes numbers.now) × AllByRecursion IsThere numbers.now }
-    ensures only { words.now ≡ map number_bytes numbers.now → list_any is_none numbers.now ≡ false → IsTrue result }
+    ensures found { IsTrue result
+        → (words.now ≡ map number_bytes numbers.now) × AllByRecursion IsThere numbers.now }
+    ensures only { words.now ≡ map number_bytes numbers.now → list_any is_none numbers.now ≡ false
+        → IsTrue result }
 {
     if words.len() != numbers.len() {
         return false;
@@ -77,8 +81,10 @@ fn are_present(words: &[[u8; 8]], numbers: &[Option<i64>]) -> bool
 
 /// Returns whether none of the numbers is missing and the bytes are their far form. Stops at the first difference.
 pub(crate) fn spells_present(bytes: &[u8], numbers: &[Option<i64>]) -> bool
-    ensures found { IsTrue result → (bytes.now ≡ ints_form numbers.now) × AllByRecursion IsThere numbers.now }
-    ensures only { bytes.now ≡ ints_form numbers.now → list_any is_none numbers.now ≡ false → IsTrue result }
+    ensures found { IsTrue result
+        → (bytes.now ≡ ints_form numbers.now) × AllByRecursion IsThere numbers.now }
+    ensures only { bytes.now ≡ ints_form numbers.now → list_any is_none numbers.now ≡ false
+        → IsTrue result }
 {
     match plain_words(bytes) {
         Some(words) => are_present(words, numbers),

@@ -47,7 +47,8 @@ pub fn texts_length(texts: &[Option<Text>]) -> usize
 /// Appends the end of each text.
 fn push_ends(form: &mut Vec<u8>, texts: &[Option<Text>]) -> Result<(), AllocError>
     requires { text_bytes texts.now < 2 ^ 32 }
-    ensures { OnOk result (form.new.items ≡ form.old.items ++ flat_map (to_le_bytes w32) (ends_of texts.now)) }
+    ensures { OnOk result
+        (form.new.items ≡ form.old.items ++ flat_map (to_le_bytes w32) (ends_of texts.now)) }
 {
     let mut end = 0;
     for text in texts {
@@ -72,7 +73,8 @@ fn push_texts(form: &mut Vec<u8>, texts: &[Option<Text>]) -> Result<(), AllocErr
 pub fn encode_texts(alloc: Global, texts: &[Option<Text>]) -> Result<Vec<u8>, Refusal>
     requires count { length texts.now < 2 ^ 32 }
     requires bytes { text_bytes texts.now < 2 ^ 32 }
-    ensures spelled { IfOk result (λ form. (form.items ≡ texts_form texts.now) × AreTexts texts.now) }
+    ensures spelled { IfOk result
+        (λ form. (form.items ≡ texts_form texts.now) × AreTexts texts.now) }
     ensures length { IfOk result (λ form. length form.items ≡ texts_length texts.now) }
     ensures memory { IfErr result (λ e. e ≡ Refusal.NoMemory) }
 {
@@ -88,8 +90,11 @@ pub fn encode_texts(alloc: Global, texts: &[Option<Text>]) -> Result<Vec<u8>, Re
 /// - text `i` is past the end;
 /// - text `i` is missing.
 pub fn text_at(bytes: &[u8], i: usize) -> Option<&str>
-    ensures found { IfSome result (λ text. IsTextsForm bytes.now × (slice_get (texts_meaning bytes.now) i ≡ Some (Some text.now))) }
-    ensures only { IsTextsForm bytes.now → option_copied result ≡ option_and_then (λ text. text) (slice_get (texts_meaning bytes.now) i) }
+    ensures found { IfSome result (λ text. IsTextsForm bytes.now
+        × (slice_get (texts_meaning bytes.now) i ≡ Some (Some text.now))) }
+    ensures only { IsTextsForm bytes.now
+        → option_copied result
+        ≡ option_and_then (λ text. text) (slice_get (texts_meaning bytes.now) i) }
 {
     let parts = split_texts(bytes)?;
     text_in(parts, i)
@@ -108,7 +113,8 @@ pub(crate) fn form_parts(form: &[u8]) -> TextParts<'_>
     requires { IsTextsForm form.now }
     ensures parts { AreTextParts result.mask.now (ends_in result.ends.now) result.body.now }
     ensures words { result.ends.now ≡ map (to_le_bytes w32) (ends_in result.ends.now) }
-    ensures same { texts_of result.mask.now (ends_in result.ends.now) result.body.now ≡ texts_meaning form.now }
+    ensures same { texts_of result.mask.now (ends_in result.ends.now) result.body.now
+        ≡ texts_meaning form.now }
 {
     let count = u32::from_le_bytes([form[2], form[3], form[4], form[5]]) as usize;
     let (_, rest) = form.split_at(6);
@@ -131,7 +137,8 @@ pub fn count_texts(form: &[u8]) -> usize
 /// Allocates nothing. Reads only the head, one bit of the mask and two ends.
 pub fn text_of(form: &[u8], i: usize) -> Option<&str>
     requires { IsTextsForm form.now }
-    ensures { option_copied result ≡ option_and_then (λ text. text) (slice_get (texts_meaning form.now) i) }
+    ensures { option_copied result
+        ≡ option_and_then (λ text. text) (slice_get (texts_meaning form.now) i) }
 {
     text_in(form_parts(form), i)
 }

@@ -105,8 +105,11 @@ fn are_texts(mask: &[u8], ends: &[[u8; 4]], body: &[u8]) -> bool
 /// Splits a form of texts into its parts. Returns `None` if the bytes are not a far form of texts.
 pub(crate) fn split_texts(bytes: &[u8]) -> Option<TextParts<'_>>
     ensures parts { IfSome result (λ p. AreTextParts p.mask.now (ends_in p.ends.now) p.body.now) }
-    ensures found { IfSome result (λ p. AreTexts (texts_of p.mask.now (ends_in p.ends.now) p.body.now) × (bytes.now ≡ texts_form (texts_of p.mask.now (ends_in p.ends.now) p.body.now))) }
-    ensures only { (texts : List (Option (List ℕ))) → AreTexts texts → bytes.now ≡ texts_form texts → IsSome result }
+    ensures found { IfSome result (λ p. AreTexts
+        (texts_of p.mask.now (ends_in p.ends.now) p.body.now)
+        × (bytes.now ≡ texts_form (texts_of p.mask.now (ends_in p.ends.now) p.body.now))) }
+    ensures only { (texts : List (Option (List ℕ))) → AreTexts texts → bytes.now ≡ texts_form texts
+        → IsSome result }
 {
     let Masked {
         count,
@@ -127,7 +130,9 @@ pub(crate) fn split_texts(bytes: &[u8]) -> Option<TextParts<'_>>
 /// Borrows text `i` of the parts in place. Returns `None` if it is missing or past the end.
 pub(crate) fn text_in<'a>(parts: TextParts<'a>, i: usize) -> Option<&'a str>
     requires { AreTextParts parts.mask.now (ends_in parts.ends.now) parts.body.now }
-    ensures { option_copied result ≡ option_and_then (λ text. text) (slice_get (texts_of parts.entry.mask.now (ends_in parts.entry.ends.now) parts.entry.body.now) i) }
+    ensures { option_copied result
+        ≡ option_and_then (λ text. text) (slice_get
+        (texts_of parts.entry.mask.now (ends_in parts.entry.ends.now) parts.entry.body.now) i) }
 {
     if i >= parts.ends.len() {
         return None;
@@ -154,7 +159,8 @@ fn owned(alloc: Global, text: Option<&str>) -> Result<Option<Text>, Refusal>
 /// Decodes the texts of a form from its parts.
 pub(crate) fn read_texts(alloc: Global, parts: TextParts<'_>) -> Result<Vec<Option<Text>>, Refusal>
     requires { AreTextParts parts.mask.now (ends_in parts.ends.now) parts.body.now }
-    ensures read { IfOk result (λ texts. texts.items ≡ texts_of parts.entry.mask.now (ends_in parts.entry.ends.now) parts.entry.body.now) }
+    ensures read { IfOk result (λ texts. texts.items
+        ≡ texts_of parts.entry.mask.now (ends_in parts.entry.ends.now) parts.entry.body.now) }
     ensures memory { IfErr result (λ e. e ≡ Refusal.NoMemory) }
 {
     let mut texts = Vec::with_capacity(alloc, parts.ends.len())?;

@@ -21,9 +21,11 @@ pub enum Values {
 /// `NoMemory` (1).
 pub fn decode(alloc: Global, bytes: &[u8]) -> Result<Option<Values>, Refusal>
     // Values that are returned have these bytes as their form.
-    ensures found { IfOk result (λ read. IfSome read (λ values. HaveForm values × (bytes.now ≡ form_of values))) }
+    ensures found { IfOk result
+        (λ read. IfSome read (λ values. HaveForm values × (bytes.now ≡ form_of values))) }
     // Values with these bytes as their form are returned.
-    ensures only { (values : Values) → HaveForm values → bytes.now ≡ form_of values → IfOk result (λ read. read ≡ Some values) }
+    ensures only { (values : Values) → HaveForm values → bytes.now ≡ form_of values
+        → IfOk result (λ read. read ≡ Some values) }
     ensures memory { IfErr result (λ e. e ≡ Refusal.NoMemory) }
 {
     if let Some(parts) = split_ints(bytes) {

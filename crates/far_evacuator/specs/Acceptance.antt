@@ -8,8 +8,10 @@ use Rattle.far_evacuator.specs.declared.evacuation.EvacForm.TheVariants.{Dirty, 
 use Rattle.far_evacuator.specs.Jobs.{CarriedEvacuation, CarriedFetch}
 
 -- the bytes are a far form of object o: of its element type and its length
-abbrev pub IsFarForm : {X K : Type 0} → (List X → List ℕ → Type 0) → Movement X K → ℕ → List ℕ → Type 0
-IsFarForm {X} spelled m o bytes = IsSomeAnd (record_of m o) (λ object_record. (list : List X) × (length list ≡ object_record.len) × spelled list bytes)
+abbrev pub IsFarForm : {X K : Type 0} → (List X → List ℕ → Type 0) → Movement X K → ℕ → List ℕ
+    → Type 0
+IsFarForm {X} spelled m o bytes = IsSomeAnd (record_of m o)
+    (λ object_record. (list : List X) × (length list ≡ object_record.len) × spelled list bytes)
 
 module _ {X K : Type 0} (number_of : K → ℕ) where
   -- the newest far copy of object o has the same ticket number as this ticket
@@ -43,7 +45,8 @@ module _ {X K : Type 0} (number_of : K → ℕ) where
 
 -- what the end of a job on object o leaves unchanged: every list, and the word and the record of every other object. If each clean object's
 -- list was what its ticket means, it still is. Each ticket is of the store with this id
-pub record LeavesRest {X K : Type 0} (meaning : List ℕ → List X) (content : K → List ℕ) (is_of : K → List ℕ → Type 0) (id : List ℕ) (old new : Movement X K) (o : ℕ) : Type 0 where
+pub record LeavesRest {X K : Type 0} (meaning : List ℕ → List X) (content : K → List ℕ)
+    (is_of : K → List ℕ → Type 0) (id : List ℕ) (old new : Movement X K) (o : ℕ) : Type 0 where
   pub lists : (p : ℕ) → list_of meaning content new p ≡ list_of meaning content old p
   pub others : ChangesObject old new o
   pub clean : AreClean meaning content old → AreClean meaning content new

@@ -16,7 +16,8 @@ use Rattle.far_evacuator.specs.Jobs.{Evacuation, Fetch}
 module _ {X K : Type 0} (spelling : List X → List ℕ) (m : Movement X K) (o : ℕ) where
   -- what an evacuation of object o sends: the spelling of its list if it is dirty, its ticket if it is clean
   abbrev pub IsObjectForm : EvacForm K → Type 0
-  IsObjectForm (Dirty bytes) = (dirty m o ≡ true) × (option_map spelling (list_in m.memory o) ≡ Some bytes)
+  IsObjectForm (Dirty bytes) = (dirty m o ≡ true)
+      × (option_map spelling (list_in m.memory o) ≡ Some bytes)
   IsObjectForm (Clean ticket) = (dirty m o ≡ false) × (ticket_of m o ≡ Some ticket)
 
   -- an evacuation of object o that begins now

@@ -43,11 +43,14 @@ pub fn begin_evac<T: Elem, S: FarTickets>(
 ) -> Result<EvacJob<T, S>, Refusal>
     requires within { IsWanted objects.now want }
     requires here { AreHere S.is_of (S.store_id store.now) objects.now }
-    requires spelled { IfSome (wanted_object objects.now want) (λ o. IfSome (list_in objects.now.memory o) T.has_spelling) }
-    ensures begun { IfOk result (λ job. IsSomeAnd (wanted_object objects.now want) (λ o. IsBegunEvac T.spelling objects.now o job)) }
+    requires spelled { IfSome (wanted_object objects.now want)
+        (λ o. IfSome (list_in objects.now.memory o) T.has_spelling) }
+    ensures begun { IfOk result (λ job. IsSomeAnd (wanted_object objects.now want)
+        (λ o. IsBegunEvac T.spelling objects.now o job)) }
     ensures here { IfOk result (λ job. IsFormOf S.is_of (S.store_id store.now) job.form) }
     ensures free { OnOk result (begin_refusal objects.now want ≡ None) }
-    ensures refused { IfErr result (λ e. (begin_refusal objects.now want ≡ Some e) ⊎ ((begin_refusal objects.now want ≡ None) × (e ≡ Refusal.NoMemory))) }
+    ensures refused { IfErr result (λ e. (begin_refusal objects.now want ≡ Some e)
+        ⊎ ((begin_refusal objects.now want ≡ None) × (e ≡ Refusal.NoMemory))) }
 {
     let number = objects.number();
     let object = chosen(objects, want)?;
@@ -72,7 +75,8 @@ pub fn begin_evac<T: Elem, S: FarTickets>(
 // Returns the number of the object to evict.
 fn chosen<T: Elem, S: FarTickets>(objects: &Objects<T, S>, want: Want) -> Result<u32, Refusal>
     requires within { IsWanted objects.now want }
-    requires tracked { AreTracked T.meaning S.content (IsSpelled T.in_range T.has_spelling T.spelling) objects.now }
+    requires tracked { AreTracked T.meaning S.content
+        (IsSpelled T.in_range T.has_spelling T.spelling) objects.now }
     ensures taken { IfOk result (λ o. wanted_object objects.now want ≡ Some o) }
     ensures within { IfOk result (λ o. o < length objects.now.records) }
     ensures local { IfOk result (λ o. begin_refusal objects.now want ≡ lend_refusal objects.now o) }

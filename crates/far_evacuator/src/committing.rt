@@ -33,12 +33,17 @@ pub fn commit<T: Elem, S: FarTickets>(
     requires here { AreHere S.is_of (S.store_id store.now) objects.old }
     requires carried_here { S.is_of carried.now.ticket (S.store_id store.now) }
     requires clean { AreClean T.meaning S.content objects.old }
-    ensures committed { OnOk result (objects.new ≡ after_leave objects.old carried.now.job.object carried.now.ticket) }
+    ensures committed { OnOk result
+        (objects.new ≡ after_leave objects.old carried.now.job.object carried.now.ticket) }
     ensures accepted { OnOk result (IsCommittable S.number_of T.spelling objects.old carried.now) }
-    ensures stale { IsErrOf result Refusal.StaleJob ↔ (¬ IsCommittable S.number_of T.spelling objects.old carried.now) }
-    ensures pinned { IsErrOf result Refusal.Pinned ↔ (IsCommittable S.number_of T.spelling objects.old carried.now × (pins_of objects.old carried.now.job.object ≢ 0)) }
+    ensures stale { IsErrOf result Refusal.StaleJob
+        ↔ (¬ IsCommittable S.number_of T.spelling objects.old carried.now) }
+    ensures pinned { IsErrOf result Refusal.Pinned
+        ↔ (IsCommittable S.number_of T.spelling objects.old carried.now
+        × (pins_of objects.old carried.now.job.object ≢ 0)) }
     ensures refused { IfErr result (λ e. (e ≡ Refusal.StaleJob) ⊎ (e ≡ Refusal.Pinned)) }
-    ensures rest { LeavesRest T.meaning S.content S.is_of (S.store_id store.now) objects.old objects.new carried.now.job.object }
+    ensures rest { LeavesRest T.meaning S.content S.is_of (S.store_id store.now) objects.old
+        objects.new carried.now.job.object }
     ensures err { OnErr result (objects.new ≡ objects.old) }
 {
     if !is_committable(objects, store, carried) {
@@ -64,7 +69,10 @@ fn is_committable<T: Elem, S: FarTickets>(
     requires clean { AreClean T.meaning S.content objects.now }
     ensures exact { IsTrue result ↔ IsCommittable S.number_of T.spelling objects.now carried.now }
     ensures within { IsTrue result → carried.now.job.object < length objects.now.records }
-    ensures copied { IsTrue result → IsSomeAnd (list_in objects.now.memory carried.now.job.object) (λ list. IsSpelled T.in_range T.has_spelling T.spelling list (S.content carried.now.ticket)) }
+    ensures copied { IsTrue result
+        → IsSomeAnd (list_in objects.now.memory carried.now.job.object)
+        (λ list. IsSpelled T.in_range T.has_spelling T.spelling list
+        (S.content carried.now.ticket)) }
 {
     let job = &carried.job;
     let o = job.object;
@@ -91,10 +99,14 @@ fn is_still<T: Elem, S: FarTickets>(
     requires here { AreHere S.is_of (S.store_id store.now) objects.now }
     requires carried_here { S.is_of carried.now.ticket (S.store_id store.now) }
     requires clean { AreClean T.meaning S.content objects.now }
-    requires tracked { AreTracked T.meaning S.content (IsSpelled T.in_range T.has_spelling T.spelling) objects.now }
+    requires tracked { AreTracked T.meaning S.content
+        (IsSpelled T.in_range T.has_spelling T.spelling) objects.now }
     requires lent { list_in objects.now.memory carried.now.job.object ≡ Some list.now }
-    ensures exact { IsTrue result ↔ IsStill S.number_of T.spelling objects.now carried.now.job.object carried.now.ticket carried.now.job.form }
-    ensures copied { IsTrue result → IsSpelled T.in_range T.has_spelling T.spelling list.now (S.content carried.now.ticket) }
+    ensures exact { IsTrue result
+        ↔ IsStill S.number_of T.spelling objects.now carried.now.job.object carried.now.ticket
+        carried.now.job.form }
+    ensures copied { IsTrue result
+        → IsSpelled T.in_range T.has_spelling T.spelling list.now (S.content carried.now.ticket) }
 {
     let job = &carried.job;
     let o = job.object;

@@ -42,9 +42,16 @@ impl<T: Elem, S: FarTickets> Model for EvacJob<T, S> {
 
     ghost Value = { Evacuation S.Ticket };
 
-    ghost view = { λ job. record { number = job.number; object = job.object; version = job.version; leavings = job.leavings; form = job.form } };
+    ghost view = { λ job. record {
+      number = job.number;
+      object = job.object;
+      version = job.version;
+      leavings = job.leavings;
+      form = job.form;
+    } };
 
-    ghost invariant = { λ job. IsSpelledForm (IsSpelled T.in_range T.has_spelling T.spelling) job.form };
+    ghost invariant = { λ job. IsSpelledForm (IsSpelled T.in_range T.has_spelling T.spelling)
+        job.form };
 }
 
 /// An evacuation that was carried: the job, and the ticket of its far form in the far store.
@@ -115,8 +122,10 @@ impl<T: Elem, S: FarTickets> Carried<T, S> {
     /// begun on a clean object, whose far form the store already had. Allocates nothing.
     pub fn outgoing(&self, store: &S) -> Option<(u64, &[u8])>
         requires here { S.is_of self.now.ticket (S.store_id store.now) }
-        ensures number { option_map (λ out. out.0) result ≡ option_map S.number_of (put_ticket self.now) }
-        ensures bytes { option_map (λ out. out.1.now) result ≡ option_map S.content (put_ticket self.now) }
+        ensures number { option_map (λ out. out.0) result
+            ≡ option_map S.number_of (put_ticket self.now) }
+        ensures bytes { option_map (λ out. out.1.now) result
+            ≡ option_map S.content (put_ticket self.now) }
     {
         match &self.job.form {
             EvacForm::Dirty(form) => Some((store.number(&self.ticket), &form.bytes)),

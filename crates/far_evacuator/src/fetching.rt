@@ -22,7 +22,12 @@ impl<S: FarTickets> Model for FetchJob<S> {
 
     ghost Value = { Fetch S.Ticket };
 
-    ghost view = { λ job. record { number = job.number; object = job.object; leavings = job.leavings; ticket = job.ticket } };
+    ghost view = { λ job. record {
+      number = job.number;
+      object = job.object;
+      leavings = job.leavings;
+      ticket = job.ticket;
+    } };
 }
 
 /// A fetch that was carried: the job, and the content of its ticket.

@@ -32,12 +32,23 @@ pub fn install<T: Elem, S: FarTickets>(
 ) -> Result<(), Refusal>
     requires here { AreHere S.is_of (S.store_id store.now) objects.old }
     requires fetched_here { S.is_of fetched.now.job.ticket (S.store_id store.now) }
-    ensures installed { OnOk result (IsSomeAnd (list_of T.meaning S.content objects.old fetched.now.job.object) (λ list. objects.new ≡ after_arrive objects.old fetched.now.job.object list)) }
-    ensures accepted { OnOk result (IsInstallable S.number_of (IsSpelled T.in_range T.has_spelling T.spelling) objects.old fetched.now) }
-    ensures stale { IsErrOf result Refusal.StaleJob ↔ (¬ IsInstallable S.number_of (IsSpelled T.in_range T.has_spelling T.spelling) objects.old fetched.now) }
-    ensures full { IsErrOf result Refusal.RegionFull ↔ (IsInstallable S.number_of (IsSpelled T.in_range T.has_spelling T.spelling) objects.old fetched.now × IsSomeAnd (list_of T.meaning S.content objects.old fetched.now.job.object) (λ list. fits_in objects.old.memory.state (length list) ≡ false)) }
-    ensures refused { IfErr result (λ e. (e ≡ Refusal.StaleJob) ⊎ ((e ≡ Refusal.RegionFull) ⊎ (e ≡ Refusal.NoMemory))) }
-    ensures rest { LeavesRest T.meaning S.content S.is_of (S.store_id store.now) objects.old objects.new fetched.now.job.object }
+    ensures installed { OnOk result (IsSomeAnd
+        (list_of T.meaning S.content objects.old fetched.now.job.object)
+        (λ list. objects.new ≡ after_arrive objects.old fetched.now.job.object list)) }
+    ensures accepted { OnOk result (IsInstallable S.number_of
+        (IsSpelled T.in_range T.has_spelling T.spelling) objects.old fetched.now) }
+    ensures stale { IsErrOf result Refusal.StaleJob
+        ↔ (¬ IsInstallable S.number_of (IsSpelled T.in_range T.has_spelling T.spelling) objects.old
+        fetched.now) }
+    ensures full { IsErrOf result Refusal.RegionFull
+        ↔ (IsInstallable S.number_of (IsSpelled T.in_range T.has_spelling T.spelling) objects.old
+        fetched.now
+        × IsSomeAnd (list_of T.meaning S.content objects.old fetched.now.job.object)
+        (λ list. fits_in objects.old.memory.state (length list) ≡ false)) }
+    ensures refused { IfErr result
+        (λ e. (e ≡ Refusal.StaleJob) ⊎ ((e ≡ Refusal.RegionFull) ⊎ (e ≡ Refusal.NoMemory))) }
+    ensures rest { LeavesRest T.meaning S.content S.is_of (S.store_id store.now) objects.old
+        objects.new fetched.now.job.object }
     ensures err { OnErr result (objects.new ≡ objects.old) }
 {
     if !is_installable(objects, store, fetched) {
@@ -58,9 +69,13 @@ pub fn install<T: Elem, S: FarTickets>(
 // `install` meets no other bytes, since the content of an object's ticket is its form. Only a store whose contents change could break that.
 // So this function requires nothing of the bytes, and refuses those that are no such form.
 fn read_form<T: Elem>(alloc: Global, bytes: &[u8], len: usize) -> Result<Vec<T>, Refusal>
-    ensures list { IfOk result (λ list. (length list.items ≡ len) × IsSpelled T.in_range T.has_spelling T.spelling list.items bytes.now) }
-    ensures only { (list : List T) → length list ≡ len → IsSpelled T.in_range T.has_spelling T.spelling list bytes.now → IfOk result (λ found. found.items ≡ list) }
-    ensures stale { IsErrOf result Refusal.StaleJob → (list : List T) → length list ≡ len → ¬ IsSpelled T.in_range T.has_spelling T.spelling list bytes.now }
+    ensures list { IfOk result (λ list. (length list.items ≡ len)
+        × IsSpelled T.in_range T.has_spelling T.spelling list.items bytes.now) }
+    ensures only { (list : List T) → length list ≡ len
+        → IsSpelled T.in_range T.has_spelling T.spelling list bytes.now
+        → IfOk result (λ found. found.items ≡ list) }
+    ensures stale { IsErrOf result Refusal.StaleJob → (list : List T) → length list ≡ len
+        → ¬ IsSpelled T.in_range T.has_spelling T.spelling list bytes.now }
     ensures refused { IfErr result (λ e. (e ≡ Refusal.StaleJob) ⊎ (e ≡ Refusal.NoMemory)) }
 {
     match T::unspell(alloc, bytes)? {
@@ -77,8 +92,12 @@ fn is_installable<T: Elem, S: FarTickets>(
 ) -> bool
     requires here { AreHere S.is_of (S.store_id store.now) objects.now }
     requires fetched_here { S.is_of fetched.now.job.ticket (S.store_id store.now) }
-    ensures exact { IsTrue result ↔ IsInstallable S.number_of (IsSpelled T.in_range T.has_spelling T.spelling) objects.now fetched.now }
-    ensures content { IsTrue result → option_map S.content (ticket_of objects.now fetched.now.job.object) ≡ Some fetched.now.bytes }
+    ensures exact { IsTrue result
+        ↔ IsInstallable S.number_of (IsSpelled T.in_range T.has_spelling T.spelling) objects.now
+        fetched.now }
+    ensures content { IsTrue result
+        → option_map S.content (ticket_of objects.now fetched.now.job.object)
+        ≡ Some fetched.now.bytes }
 {
     let job = &fetched.job;
     let o = job.object;

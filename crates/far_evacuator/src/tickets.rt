@@ -20,7 +20,8 @@ pub(crate) fn is_under<T: Elem, S: FarTickets>(
     requires here { IfSome (ticket_of objects.now o) (λ own. S.is_of own (S.store_id store.now)) }
     requires ticket_here { S.is_of ticket.now (S.store_id store.now) }
     ensures number { IsTrue result ↔ IsUnder S.number_of objects.now o ticket.now }
-    ensures content { IsTrue result → option_map S.content (ticket_of objects.now o) ≡ Some (S.content ticket.now) }
+    ensures content { IsTrue result
+        → option_map S.content (ticket_of objects.now o) ≡ Some (S.content ticket.now) }
 {
     match objects.ticket(o) {
         Some(own) => store.same(own, ticket),

@@ -4,7 +4,8 @@ use Rattle.far_pointer.specs.declared.pointer.At.{At}
 use Rattle.far_log.specs.RegionState.{Part, SegmentState, RegionState, fill_of, list_at, segment_of, part_of, target_of}
 
 -- new is old, except that the list at this location is `now`
-pub record ChangesOnly {X : Type 0} (old new : RegionState X) (at : At) (now : Option (List X)) : Type 0 where
+pub record ChangesOnly {X : Type 0} (old new : RegionState X) (at : At)
+    (now : Option (List X)) : Type 0 where
   pub here : part_of new at ≡ now
   pub others : (q : At) → q ≢ at → part_of new q ≡ part_of old q
 
@@ -60,7 +61,8 @@ module _ {X : Type 0} where
   -- the parts that lists form when they are placed one after another, from an offset on
   abbrev pub layout_from : ℕ → List (List X) → List (Part X)
   layout_from from [] = []
-  layout_from from (xs ∷ xss) = record { offset = from; list = xs } ∷ layout_from (from + length xs) xss
+  layout_from from (xs ∷ xss) = record { offset = from; list = xs }
+      ∷ layout_from (from + length xs) xss
 
   -- the list that begins at an offset, or the empty one if none does
   abbrev pub list_or_none : List (Part X) → ℕ → List X
@@ -73,7 +75,10 @@ module _ {X : Type 0} where
   -- the region after the parts of segment `from` were moved to segment `to` in this order
   abbrev pub compacted : RegionState X → ℕ → ℕ → List ℕ → RegionState X
   compacted state from to order =
-      with_segment (with_segment state to (record (segment_of state to) { parts = gathered (segment_of state from).parts order })) from (record (segment_of state from) { parts = [] })
+      with_segment
+      (with_segment state to
+      (record (segment_of state to) { parts = gathered (segment_of state from).parts order }))
+      from (record (segment_of state from) { parts = [] })
 
   -- the order lists the offset of each part of the segment once
   pub record IsOrder (parts : List (Part X)) (order : List ℕ) : Type 0 where
@@ -96,14 +101,20 @@ module _ {X : Type 0} where
 
   -- every segment other than `from` has a part
   abbrev pub HasNoEmptyOther : RegionState X → ℕ → Type 0
-  HasNoEmptyOther state from = (k : ℕ) → k < length state → k ≢ from → (segment_of state k).parts ≢ []
+  HasNoEmptyOther state from = (k : ℕ) → k < length state → k ≢ from
+      → (segment_of state k).parts ≢ []
 
   -- the parts of segment `from` were moved, in this order, to the beginning of segment `to`; these are their new offsets
-  pub record Compacts (old new : RegionState X) (from to : ℕ) (order offsets : List ℕ) : Type 0 where
+  pub record Compacts (old new : RegionState X) (from to : ℕ)
+      (order offsets : List ℕ) : Type 0 where
     pub target : IsEmptyOther old from to
     pub state : new ≡ compacted old from to order
     pub offsets_are : offsets ≡ map (λ p. p.offset) (gathered (segment_of old from).parts order)
-    pub moved : (k : ℕ) → k < length order → list_at (segment_of new to).parts (slice_index offsets k) ≡ list_at (segment_of old from).parts (slice_index order k)
-    pub only : (offset : ℕ) → IsSome (list_at (segment_of new to).parts offset) → Contains offsets offset
+    pub moved : (k : ℕ) → k < length order
+        → list_at (segment_of new to).parts (slice_index offsets k)
+        ≡ list_at (segment_of old from).parts (slice_index order k)
+    pub only : (offset : ℕ) → IsSome (list_at (segment_of new to).parts offset)
+        → Contains offsets offset
     pub emptied : (segment_of new from).parts ≡ []
-    pub others : (number : ℕ) → number ≢ from → number ≢ to → segment_of new number ≡ segment_of old number
+    pub others : (number : ℕ) → number ≢ from → number ≢ to
+        → segment_of new number ≡ segment_of old number

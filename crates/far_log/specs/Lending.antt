@@ -14,7 +14,10 @@ use Rattle.far_log.specs.contracts.region.Region as region
 
 -- internal: a block with ws written over its elements from an index on
 abbrev pub with_list_from : {X : Type 0} → Block X → ℕ → List X → Block X
-with_list_from b from ws = record b { items = with_items b.items (take from b.items.items ++ (ws ++ drop (length ws) (drop from b.items.items))) }
+with_list_from b from ws = record b {
+  items = with_items b.items
+      (take from b.items.items ++ (ws ++ drop (length ws) (drop from b.items.items)));
+}
 
 module _ (T : RattleType) (s : MutBor (Block T.Denot)) where
   -- internal: what the borrow r ends with is written over the block's elements from an index on
@@ -23,12 +26,14 @@ module _ (T : RattleType) (s : MutBor (Block T.Denot)) where
 
   -- internal: the first `most` elements of what the borrow r ends with are written over them
   abbrev pub lends_bounded : ℕ → ℕ → MutBor (List T.Denot) → Fml
-  lends_bounded from most r = Lends (block.the_row T) (Array T 0) s r (λ ws. with_list_from s.now from (take most ws))
+  lends_bounded from most r = Lends (block.the_row T) (Array T 0) s r
+      (λ ws. with_list_from s.now from (take most ws))
 
 module _ (T : RattleType) (s : MutBor (Stacked T.Denot)) where
   -- internal: what the borrow r ends with is written over the elements of a stack from `from` on
   abbrev pub lends_stack : ℕ → ℕ → MutBor (List T.Denot) → Fml
-  lends_stack number from r = Lends (stacks.the_row T) (Array T 0) s r (λ ws. with_stack s.now number (written_over (stack_of s.now number) from ws))
+  lends_stack number from r = Lends (stacks.the_row T) (Array T 0) s r
+      (λ ws. with_stack s.now number (written_over (stack_of s.now number) from ws))
 
 module _ (T : RattleType) (s : MutBor (RegionState T.Denot)) where
   -- internal: what the borrow r ends with is written over the elements from the i-th after a location on

@@ -42,7 +42,9 @@ module _ {X : Type 0} where
   -- each part is not empty and begins where the part before it ends or later; the last ends within the size
   abbrev pub IsLayoutFrom : ℕ → List (Part X) → ℕ → Type 0
   IsLayoutFrom from [] size = from ≤ size
-  IsLayoutFrom from (p ∷ ps) size = (from ≤ p.offset) × (0 < length p.list) × IsLayoutFrom (end_of p) ps size
+  IsLayoutFrom from (p ∷ ps) size = (from ≤ p.offset)
+      × (0 < length p.list)
+      × IsLayoutFrom (end_of p) ps size
 
   -- the parts of a segment do not overlap, and are within it
   abbrev pub IsLayout : SegmentState X → Type 0
@@ -85,7 +87,8 @@ lowest_for spaces n = position (λ space. nat_le n space) spaces
 abbrev pub fit_in_order : List ℕ → List ℕ → Bool
 fit_in_order spaces [] = true
 fit_in_order spaces (n ∷ ns) =
-    option_map_or (λ i. fit_in_order (slice_set spaces i (slice_index spaces i - n)) ns) (lowest_for spaces n) false
+    option_map_or (λ i. fit_in_order (slice_set spaces i (slice_index spaces i - n)) ns)
+    (lowest_for spaces n) false
 
 module _ {X : Type 0} where
   -- the segment in which a list of n elements is placed: the lowest that has the space

@@ -19,19 +19,24 @@ module _ {X : Type 0} where
   -- the lists of these lengths in a block, from an index on
   abbrev pub stacks_from : ℕ → List X → ℕ → List ℕ → List (List X)
   stacks_from size block from [] = []
-  stacks_from size block from (n ∷ ns) = take n (drop from block) ∷ stacks_from size block (from + size) ns
+  stacks_from size block from (n ∷ ns) = take n (drop from block)
+      ∷ stacks_from size block (from + size) ns
 
   -- new is old with xs written at an index. A list before it or after it stays, and one that ends there is longer by xs
   pub record IsPut (old new : List X) (at : ℕ) (xs : List X) : Type 0 where
     pub long : length old ≤ length new
     pub reach : at + length xs ≤ length new
-    pub others : (from n : ℕ) → n ≤ length old - from → (from + n ≤ at) ⊎ (at + length xs ≤ from) → take n (drop from new) ≡ take n (drop from old)
-    pub here : (from n : ℕ) → from + n ≡ at → n ≤ length old - from → take (n + length xs) (drop from new) ≡ take n (drop from old) ++ xs
+    pub others : (from n : ℕ) → n ≤ length old - from → (from + n ≤ at) ⊎ (at + length xs ≤ from)
+        → take n (drop from new) ≡ take n (drop from old)
+    pub here : (from n : ℕ) → from + n ≡ at → n ≤ length old - from
+        → take (n + length xs) (drop from new) ≡ take n (drop from old) ++ xs
 
 -- lists of these lengths fit their ranges, and end within a block of `end` elements
 abbrev pub AreWithin : ℕ → ℕ → ℕ → List ℕ → Type 0
 AreWithin size end from [] = Unit {0}
-AreWithin size end from (n ∷ ns) = (n ≤ size) × (n ≤ end - from) × AreWithin size end (from + size) ns
+AreWithin size end from (n ∷ ns) = (n ≤ size)
+    × (n ≤ end - from)
+    × AreWithin size end (from + size) ns
 
 -- the lists of all stacks fit their ranges, and the block is reserved for all of them
 pub record IsStacked (end capacity size : ℕ) (lens : List ℕ) : Type 0 where

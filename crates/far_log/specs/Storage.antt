@@ -22,7 +22,8 @@ AreAdjacent from (s ∷ ss) = (s.offset ≡ from) × (0 < s.len) × AreAdjacent 
 
 -- each extent begins after those with lower numbers
 abbrev pub IsSorted : List Extent → Type 0
-IsSorted extents = (j k : ℕ) (s t : Extent) → slice_get extents j ≡ Some s → slice_get extents k ≡ Some t → j < k → s.offset < t.offset
+IsSorted extents = (j k : ℕ) (s t : Extent) → slice_get extents j ≡ Some s
+    → slice_get extents k ≡ Some t → j < k → s.offset < t.offset
 
 -- the offset at which the last extent ends
 abbrev pub extents_end : ℕ → List Extent → ℕ
@@ -49,7 +50,8 @@ AreLinked number before behind [] (l ∷ ls) = ⊥
 AreLinked number before behind (s ∷ ss) [] = ⊥
 AreLinked number before behind (s ∷ ss) (l ∷ ls) =
     (s.live ≡ true → (l.before ≡ before) × (0 < before → behind ≡ number))
-    × AreLinked (suc number) (if s.live then suc number else before) (if s.live then l.behind else behind) ss ls
+    × AreLinked (suc number) (if s.live then suc number else before)
+    (if s.live then l.behind else behind) ss ls
 
 -- the links, with another next extent in link i
 abbrev pub with_behind : List Link → ℕ → ℕ → List Link
@@ -90,11 +92,14 @@ module _ {X : Type 0} where
   abbrev pub segment_states : ℕ → List (List X) → List Table → RegionState X
   segment_states size [] ts = []
   segment_states size (xs ∷ xss) [] = []
-  segment_states size (xs ∷ xss) (t ∷ ts) = record { parts = parts_in xs (extents_of t.entries); size = size } ∷ segment_states size xss ts
+  segment_states size (xs ∷ xss) (t ∷ ts) = record
+      { parts = parts_in xs (extents_of t.entries); size = size }
+      ∷ segment_states size xss ts
 
   -- each table stores its segment's parts
   abbrev pub AreSegmentsStored : ℕ → List (List X) → List Table → Type 0
   AreSegmentsStored size [] [] = Unit {0}
   AreSegmentsStored size [] (t ∷ ts) = ⊥
   AreSegmentsStored size (xs ∷ xss) [] = ⊥
-  AreSegmentsStored size (xs ∷ xss) (t ∷ ts) = IsSegmentStored xs t size × AreSegmentsStored size xss ts
+  AreSegmentsStored size (xs ∷ xss) (t ∷ ts) = IsSegmentStored xs t size
+      × AreSegmentsStored size xss ts

@@ -35,7 +35,8 @@ impl<T: Copy + Drop> Block<T> {
     // Extends a shorter list to `len` elements with copies of `filler`.
     fn lengthen(&mut self, len: usize, filler: T)
         requires { len ≤ vec_capacity self.old.items }
-        ensures grown { self.new.items.items ≡ self.old.items.items ++ replicate (len - vec_len self.old.items) filler }
+        ensures grown { self.new.items.items
+            ≡ self.old.items.items ++ replicate (len - vec_len self.old.items) filler }
         ensures capacity { vec_capacity self.old.items ≤ vec_capacity self.new.items }
     {
         if len <= self.items.len() {
@@ -51,7 +52,8 @@ impl<T: Copy + Drop> Block<T> {
         requires some { 0 < len }
         requires within { from + len ≤ length self.old.items.items }
         requires enough { to + len ≤ vec_capacity self.old.items }
-        ensures put { IsPut self.old.items.items self.new.items.items to (take len (drop from self.old.items.items)) }
+        ensures put { IsPut self.old.items.items self.new.items.items to
+            (take len (drop from self.old.items.items)) }
         ensures capacity { vec_capacity self.old.items ≤ vec_capacity self.new.items }
     {
         let filler = self.items[from];

@@ -74,7 +74,8 @@ fn make_chunk<T: Drop>(chunks: &mut Vec<Vec<T>>, chunk: usize) -> Result<(), Ref
     requires few { chunk ≤ 26 }
     requires kept { AreChunks 64 chunks.old.items }
     requires next { chunk ≤ length chunks.old.items }
-    requires full { chunk ≡ length chunks.old.items → length (items_of chunks.old.items) ≡ start_at 64 chunk }
+    requires full { chunk ≡ length chunks.old.items
+        → length (items_of chunks.old.items) ≡ start_at 64 chunk }
     ensures there { OnOk result (chunk < length chunks.new.items) }
     ensures kept { AreChunks 64 chunks.new.items }
     ensures same { items_of chunks.new.items ≡ items_of chunks.old.items }

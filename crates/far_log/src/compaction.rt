@@ -34,11 +34,15 @@ impl<T: Copy + Drop> Segments<T> {
         requires size { (segment_of self.old from).size ≤ (segment_of self.old to).size }
         requires layout { IsLayout (segment_of self.old from) }
         requires order { IsOrder (segment_of self.old from).parts order.now }
-        ensures gathered { OnOk result (self.new ≡ with_segment self.old to (record (segment_of self.old to) { parts = gathered (segment_of self.old from).parts order.now })) }
-        ensures offsets { IfOk result (λ offsets. offsets.items ≡ map (λ p. p.offset) (gathered (segment_of self.old from).parts order.now)) }
+        ensures gathered { OnOk result (self.new
+            ≡ with_segment self.old to (record (segment_of self.old to)
+            { parts = gathered (segment_of self.old from).parts order.now })) }
+        ensures offsets { IfOk result (λ offsets. offsets.items
+            ≡ map (λ p. p.offset) (gathered (segment_of self.old from).parts order.now)) }
         ensures memory { IfErr result (λ e. e ≡ Refusal.NoMemory) }
         ensures count { length self.new ≡ length self.old }
-        ensures rest { with_segment self.new to (record (segment_of self.new to) { parts = [] }) ≡ self.old }
+        ensures rest { with_segment self.new to (record (segment_of self.new to) { parts = [] })
+            ≡ self.old }
     {
         let mut offsets = Vec::with_capacity(alloc, order.len())?;
         for offset in order {
@@ -68,7 +72,8 @@ impl<T: Copy + Drop> Segments<T> {
         requires layout { IsLayout (segment_of self.old from) }
         requires order { IsOrder (segment_of self.old from).parts order.now }
         ensures moved { OnOk result (self.new ≡ compacted self.old from to order.now) }
-        ensures offsets { IfOk result (λ offsets. offsets.items ≡ map (λ p. p.offset) (gathered (segment_of self.old from).parts order.now)) }
+        ensures offsets { IfOk result (λ offsets. offsets.items
+            ≡ map (λ p. p.offset) (gathered (segment_of self.old from).parts order.now)) }
         ensures memory { IfErr result (λ e. e ≡ Refusal.NoMemory) }
         ensures err { OnErr result (self.new ≡ self.old) }
     {

@@ -22,7 +22,8 @@ fn extent_among(entries: &[PartEntry], offset: u32) -> usize
     requires some { 0 < length entries.now }
     requires sorted { IsSorted (extents_of entries.now) }
     ensures within { result < length entries.now }
-    ensures found { (k : ℕ) (s : Extent) → slice_get (extents_of entries.now) k ≡ Some s → s.offset ≡ offset → result ≡ k }
+    ensures found { (k : ℕ) (s : Extent) → slice_get (extents_of entries.now) k ≡ Some s
+        → s.offset ≡ offset → result ≡ k }
 {
     let mut low = 0;
     let mut size = entries.len();
@@ -46,7 +47,9 @@ fn chunk_at(table: &ChunkedVec<PartEntry>, offset: u32) -> usize
     requires adjacent { AreAdjacent 0 (extents_of table.now) }
     ensures few { result ≤ 26 }
     ensures there { start_at 64 result < length table.now }
-    ensures found { (k : ℕ) (s : Extent) → slice_get (extents_of table.now) k ≡ Some s → s.offset ≡ offset → (start_at 64 result ≤ k) × (k < start_at 64 result + capacity_at 64 result) }
+    ensures found { (k : ℕ) (s : Extent) → slice_get (extents_of table.now) k ≡ Some s
+        → s.offset ≡ offset
+        → (start_at 64 result ≤ k) × (k < start_at 64 result + capacity_at 64 result) }
 {
     // The last chunk has about half of the extents, so it is searched first.
     let mut number = chunk_of(table.len() - 1);
@@ -65,7 +68,8 @@ fn chunk_at(table: &ChunkedVec<PartEntry>, offset: u32) -> usize
 fn number_among(table: &ChunkedVec<PartEntry>, offset: u32) -> usize
     requires some { 0 < length table.now }
     requires adjacent { AreAdjacent 0 (extents_of table.now) }
-    ensures { (k : ℕ) (s : Extent) → slice_get (extents_of table.now) k ≡ Some s → s.offset ≡ offset → result ≡ k }
+    ensures { (k : ℕ) (s : Extent) → slice_get (extents_of table.now) k ≡ Some s → s.offset ≡ offset
+        → result ≡ k }
 {
     let chunk = chunk_at(table, offset);
     start_of(chunk) + extent_among(table.chunk(chunk), offset)
@@ -76,7 +80,8 @@ fn number_among(table: &ChunkedVec<PartEntry>, offset: u32) -> usize
 pub fn number_at(table: &ChunkedVec<PartEntry>, offset: u32) -> usize
     requires some { 0 < length table.now }
     requires adjacent { AreAdjacent 0 (extents_of table.now) }
-    ensures { (k : ℕ) (s : Extent) → slice_get (extents_of table.now) k ≡ Some s → s.offset ≡ offset → result ≡ k }
+    ensures { (k : ℕ) (s : Extent) → slice_get (extents_of table.now) k ≡ Some s → s.offset ≡ offset
+        → result ≡ k }
 {
     // An object whose list is replaced drops its old part after the new one is placed. So the last extent but one is tried first. If the
     // new part is in another segment, the old one may be the last.
@@ -95,7 +100,8 @@ pub fn number_at(table: &ChunkedVec<PartEntry>, offset: u32) -> usize
 pub fn extent_at(table: &ChunkedVec<PartEntry>, offset: u32) -> Option<Extent>
     requires { AreAdjacent 0 (extents_of table.now) }
     ensures there { IfSome result (λ s. (k : ℕ) × (slice_get (extents_of table.now) k ≡ Some s)) }
-    ensures found { (k : ℕ) (s : Extent) → slice_get (extents_of table.now) k ≡ Some s → s.offset ≡ offset → result ≡ Some s }
+    ensures found { (k : ℕ) (s : Extent) → slice_get (extents_of table.now) k ≡ Some s
+        → s.offset ≡ offset → result ≡ Some s }
 {
     if table.len() == 0 {
         return None;

@@ -78,9 +78,11 @@ pub fn unlink(table: &mut ChunkedVec<PartEntry>, number: usize) -> usize
     requires there { IsSomeAnd (slice_get (extents_of table.old) number) (λ s. s.live ≡ true) }
     ensures extents { extents_of table.new ≡ extents_of table.old }
     ensures within { result ≤ length table.old }
-    ensures kept { filter (λ s. s.live) (take result (emptied_at (extents_of table.old) number)) ≡ filter (λ s. s.live) (emptied_at (extents_of table.old) number) }
+    ensures kept { filter (λ s. s.live) (take result (emptied_at (extents_of table.old) number))
+        ≡ filter (λ s. s.live) (emptied_at (extents_of table.old) number) }
     ensures last { EndsLive (take result (emptied_at (extents_of table.old) number)) }
-    ensures linked { AreLinked 0 0 0 (take result (emptied_at (extents_of table.old) number)) (take result (links_of table.new)) }
+    ensures linked { AreLinked 0 0 0 (take result (emptied_at (extents_of table.old) number))
+        (take result (links_of table.new)) }
 {
     let count = table.len();
     let Link { before, behind } = table.get(number).link;

@@ -45,7 +45,8 @@ impl<T: Copy + Drop> Region<T> {
     /// it if nothing was written there yet. Refused only with `NoMemory` (1).
     pub fn new(alloc: Global, segments: u32, size: u32) -> Result<Region<T>, Refusal>
         requires { segments ≤ 65536 }
-        ensures empty { IfOk result (λ region. region ≡ replicate segments record { parts = []; size = size }) }
+        ensures empty { IfOk result
+            (λ region. region ≡ replicate segments record { parts = []; size = size }) }
         ensures sound { IfOk result IsRegion }
         ensures memory { IfErr result (λ e. e ≡ Refusal.NoMemory) }
     {
@@ -175,7 +176,9 @@ impl<T: Copy + Drop> Region<T> {
     #[inline(always)]
     pub fn drop_at(&mut self, at: At)
         requires { IsSome (part_of self.old at) }
-        ensures state { self.new ≡ with_segment self.old at.segment (without_part (segment_of self.old at.segment) at.offset) }
+        ensures state { self.new
+            ≡ with_segment self.old at.segment
+            (without_part (segment_of self.old at.segment) at.offset) }
         ensures change { ChangesOnly self.old self.new at None }
         ensures sound { IsRegion self.new }
     {
@@ -198,9 +201,12 @@ impl<T: Copy + Drop> Region<T> {
         ensures placed { IfOk result (λ at. IsPlaced self.old self.new at items.now) }
         ensures free { IfOk result (λ at. part_of self.old at ≡ None) }
         ensures change { IfOk result (λ at. ChangesOnly self.old self.new at (Some items.now)) }
-        ensures space { IfOk result (λ at. spaces_of self.new ≡ slice_set (spaces_of self.old) at.segment (slice_index (spaces_of self.old) at.segment - length items.now)) }
+        ensures space { IfOk result (λ at. spaces_of self.new
+            ≡ slice_set (spaces_of self.old) at.segment
+            (slice_index (spaces_of self.old) at.segment - length items.now)) }
         ensures sound { IsRegion self.new }
-        ensures full { IsErrOf result Refusal.RegionFull ↔ (fits_in self.old (length items.now) ≡ false) }
+        ensures full { IsErrOf result Refusal.RegionFull
+            ↔ (fits_in self.old (length items.now) ≡ false) }
         ensures refused { IfErr result (λ e. (e ≡ Refusal.RegionFull) ⊎ (e ≡ Refusal.NoMemory)) }
         ensures err { OnErr result (self.new ≡ self.old) }
     {
@@ -237,7 +243,8 @@ impl<T: Copy + Drop> Region<T> {
     /// - `RegionFull` (17) exactly if segment `from` exists and every other segment has a part.
     pub fn may_compact(&self, from: u32) -> Result<(), Refusal>
         ensures missing { IsErrOf result Refusal.OutOfRange ↔ (length self.now ≤ from) }
-        ensures full { IsErrOf result Refusal.RegionFull ↔ ((from < length self.now) × HasNoEmptyOther self.now from) }
+        ensures full { IsErrOf result Refusal.RegionFull
+            ↔ ((from < length self.now) × HasNoEmptyOther self.now from) }
         ensures refused { IfErr result (λ e. (e ≡ Refusal.OutOfRange) ⊎ (e ≡ Refusal.RegionFull)) }
     {
         let from = from as usize;
@@ -259,11 +266,14 @@ impl<T: Copy + Drop> Region<T> {
     /// - else only `NoMemory` (1), if the tables cannot grow.
     pub fn compact(&mut self, alloc: Global, from: u32, order: &[u32]) -> Result<Moved, Refusal>
         requires { IsOrder (segment_of self.old from).parts order.now }
-        ensures compacted { IfOk result (λ moved. Compacts self.old self.new from moved.segment order.now moved.offsets.items) }
+        ensures compacted { IfOk result
+            (λ moved. Compacts self.old self.new from moved.segment order.now moved.offsets.items) }
         ensures sound { IsRegion self.new }
         ensures missing { IsErrOf result Refusal.OutOfRange ↔ (length self.old ≤ from) }
-        ensures full { IsErrOf result Refusal.RegionFull ↔ ((from < length self.old) × HasNoEmptyOther self.old from) }
-        ensures refused { IfErr result (λ e. (e ≡ Refusal.OutOfRange) ⊎ ((e ≡ Refusal.RegionFull) ⊎ (e ≡ Refusal.NoMemory))) }
+        ensures full { IsErrOf result Refusal.RegionFull
+            ↔ ((from < length self.old) × HasNoEmptyOther self.old from) }
+        ensures refused { IfErr result
+            (λ e. (e ≡ Refusal.OutOfRange) ⊎ ((e ≡ Refusal.RegionFull) ⊎ (e ≡ Refusal.NoMemory))) }
         ensures err { OnErr result (self.new ≡ self.old) }
     {
         let from = from as usize;
@@ -293,7 +303,8 @@ impl<T: Copy + Drop> Region<T> {
         requires { IsSome (part_of self.old at) }
         ensures* writes_back { sem 𝓛 (lends_part T.row self.entry at 0 result) }
         ensures lent { part_of self.old at ≡ Some result.now }
-        ensures alone { (list : List T) → length list ≡ length result.now → WritesPart self.old (after_write_at self.old at 0 list) at list }
+        ensures alone { (list : List T) → length list ≡ length result.now
+            → WritesPart self.old (after_write_at self.old at 0 list) at list }
     {
         let len = self.part(at).len();
         self.part_long_mut(at, len)
@@ -306,7 +317,8 @@ impl<T: Copy + Drop> Region<T> {
         requires { IsSomeAnd (part_of self.old at) (λ list. length list ≡ len) }
         ensures* writes_back { sem 𝓛 (lends_part T.row self.entry at 0 result) }
         ensures lent { part_of self.old at ≡ Some result.now }
-        ensures alone { (list : List T) → length list ≡ length result.now → WritesPart self.old (after_write_at self.old at 0 list) at list }
+        ensures alone { (list : List T) → length list ≡ length result.now
+            → WritesPart self.old (after_write_at self.old at 0 list) at list }
     {
         self.segments.range_mut(at, 0, len)
     }
@@ -316,8 +328,12 @@ impl<T: Copy + Drop> Region<T> {
         requires ordered { from ≤ to }
         requires within { IsSomeAnd (part_of self.old at) (λ list. to ≤ length list) }
         ensures* writes_back { sem 𝓛 (lends_part T.row self.entry at from result) }
-        ensures lent { IsSomeAnd (part_of self.old at) (λ list. result.now ≡ slice_range list from to) }
-        ensures alone { IsSomeAnd (part_of self.old at) (λ list. (range : List T) → length range ≡ to - from → WritesPart self.old (after_write_at self.old at from range) at (take from list ++ (range ++ drop to list))) }
+        ensures lent { IsSomeAnd (part_of self.old at)
+            (λ list. result.now ≡ slice_range list from to) }
+        ensures alone { IsSomeAnd (part_of self.old at) (λ list. (range : List T)
+            → length range ≡ to - from
+            → WritesPart self.old (after_write_at self.old at from range) at
+            (take from list ++ (range ++ drop to list))) }
     {
         self.segments.range_mut(at, from, to)
     }

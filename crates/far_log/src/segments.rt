@@ -37,7 +37,8 @@ impl<T: Copy + Drop> Segments<T> {
     /// `NoMemory` (1).
     pub fn new(alloc: Global, count: u32, size: u32) -> Result<Segments<T>, Refusal>
         requires { count ≤ 65536 }
-        ensures empty { IfOk result (λ state. state ≡ replicate count record { parts = []; size = size }) }
+        ensures empty { IfOk result
+            (λ state. state ≡ replicate count record { parts = []; size = size }) }
         ensures memory { IfErr result (λ e. e ≡ Refusal.NoMemory) }
     {
         let stacks = Stacks::new(alloc, count, size)?;
@@ -57,7 +58,8 @@ impl<T: Copy + Drop> Segments<T> {
 
     /// Returns the capacity of each segment, in elements.
     pub fn size(&self) -> u32
-        ensures { (number : ℕ) → number < length self.now → (segment_of self.now number).size ≡ result }
+        ensures { (number : ℕ) → number < length self.now
+            → (segment_of self.now number).size ≡ result }
     {
         self.stacks.size()
     }
@@ -136,7 +138,8 @@ impl<T: Copy + Drop> Segments<T> {
         requires there { number < length self.old }
         requires some { 0 < length items.now }
         requires fits { length items.now ≤ space_in (segment_of self.old number) }
-        ensures placed { OnOk result (self.new ≡ with_segment self.old number (with_part (segment_of self.old number) items.now)) }
+        ensures placed { OnOk result (self.new
+            ≡ with_segment self.old number (with_part (segment_of self.old number) items.now)) }
         ensures offset { IfOk result (λ offset. offset ≡ fill_of (segment_of self.old number)) }
         ensures memory { IfErr result (λ e. e ≡ Refusal.NoMemory) }
         ensures err { OnErr result (self.new ≡ self.old) }
@@ -153,8 +156,11 @@ impl<T: Copy + Drop> Segments<T> {
     pub fn place_copy(&mut self, from: At, number: usize) -> Result<u32, Refusal>
         requires there { number < length self.old }
         requires part { IsSome (part_of self.old from) }
-        requires fits { length (list_or_none (segment_of self.old from.segment).parts from.offset) ≤ space_in (segment_of self.old number) }
-        ensures placed { OnOk result (self.new ≡ with_segment self.old number (with_part (segment_of self.old number) (list_or_none (segment_of self.old from.segment).parts from.offset))) }
+        requires fits { length (list_or_none (segment_of self.old from.segment).parts from.offset)
+            ≤ space_in (segment_of self.old number) }
+        ensures placed { OnOk result (self.new
+            ≡ with_segment self.old number (with_part (segment_of self.old number)
+            (list_or_none (segment_of self.old from.segment).parts from.offset))) }
         ensures offset { IfOk result (λ offset. offset ≡ fill_of (segment_of self.old number)) }
         ensures memory { IfErr result (λ e. e ≡ Refusal.NoMemory) }
         ensures err { OnErr result (self.new ≡ self.old) }
@@ -172,7 +178,9 @@ impl<T: Copy + Drop> Segments<T> {
     #[inline(always)]
     pub fn drop_at(&mut self, at: At)
         requires { IsSome (part_of self.old at) }
-        ensures { self.new ≡ with_segment self.old at.segment (without_part (segment_of self.old at.segment) at.offset) }
+        ensures { self.new
+            ≡ with_segment self.old at.segment
+            (without_part (segment_of self.old at.segment) at.offset) }
     {
         let segment = at.segment as usize;
         let table = &mut self.tables[segment];
@@ -190,7 +198,8 @@ impl<T: Copy + Drop> Segments<T> {
     /// Drops all parts of a segment.
     pub fn clear(&mut self, number: usize)
         requires { number < length self.old }
-        ensures { self.new ≡ with_segment self.old number (record (segment_of self.old number) { parts = [] }) }
+        ensures { self.new
+            ≡ with_segment self.old number (record (segment_of self.old number) { parts = [] }) }
     {
         let table = &mut self.tables[number];
         table.clear();
@@ -206,7 +215,8 @@ impl<T> Segments<T> {
         requires ordered { from ≤ to }
         requires within { IsSomeAnd (part_of self.old at) (λ list. to ≤ length list) }
         ensures* writes_back { sem 𝓛 (lends_range T.row self.entry at from result) }
-        ensures value { IsSomeAnd (part_of self.old at) (λ list. result.now ≡ slice_range list from to) }
+        ensures value { IsSomeAnd (part_of self.old at)
+            (λ list. result.now ≡ slice_range list from to) }
     {
         let stacks = &mut self.stacks;
         let begin = at.offset as usize + from;

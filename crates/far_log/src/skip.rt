@@ -45,7 +45,8 @@ impl Skip {
 
     /// Returns which segments a search for several lists skips.
     pub fn for_lists(self, lens: &[usize]) -> Skip
-        ensures { (result ≡ record { first = 0; next = 0; len = 0 }) ⊎ ((result ≡ self) × (list_all (λ n. nat_le self.len n) lens.now ≡ true)) }
+        ensures { (result ≡ record { first = 0; next = 0; len = 0 })
+            ⊎ ((result ≡ self) × (list_all (λ n. nat_le self.len n) lens.now ≡ true)) }
     {
         if none_shorter(lens, self.len) {
             self

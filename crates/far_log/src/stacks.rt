@@ -24,9 +24,11 @@ impl<T> Model for Stacks<T> {
 
     ghost Value = { Stacked T };
 
-    ghost view = { λ s. record { stacks = stacks_from s.size s.block.items.items 0 s.lens.items; size = s.size } };
+    ghost view = { λ s. record
+        { stacks = stacks_from s.size s.block.items.items 0 s.lens.items; size = s.size } };
 
-    ghost invariant = { λ s. IsStacked (length s.block.items.items) (vec_capacity s.block.items) s.size s.lens.items };
+    ghost invariant = { λ s. IsStacked (length s.block.items.items) (vec_capacity s.block.items)
+        s.size s.lens.items };
 }
 
 // Returns where a stack begins in the block.
@@ -109,7 +111,9 @@ impl<T: Copy + Drop> Stacks<T> {
         requires some { 0 < len }
         requires within { from + len ≤ length (stack_of self.old source) }
         requires enough { length (stack_of self.old number) + len ≤ self.old.size }
-        ensures { self.new ≡ with_stack self.old number (stack_of self.old number ++ take len (drop from (stack_of self.old source))) }
+        ensures { self.new
+            ≡ with_stack self.old number
+            (stack_of self.old number ++ take len (drop from (stack_of self.old source))) }
     {
         let begin = begin_of(source, self.size) + from;
         let old = self.lens[number];

@@ -39,13 +39,18 @@ impl Table {
     /// Then it is as before.
     #[inline(always)]
     pub fn push(&mut self, offset: usize, len: usize) -> Result<u32, Refusal>
-        requires linked { AreLinked 0 0 0 (extents_of self.old.entries) (links_of self.old.entries) }
+        requires linked { AreLinked 0 0 0 (extents_of self.old.entries)
+            (links_of self.old.entries) }
         requires ends { EndsLive (extents_of self.old.entries) }
         requires few { length self.old.entries < 2 ^ 32 }
         requires small { offset < 2 ^ 32 }
         requires sum { self.old.used + len < 2 ^ 32 }
-        ensures extents { OnOk result (extents_of self.new.entries ≡ extents_of self.old.entries ++ record { offset = offset; len = len; live = true } ∷ []) }
-        ensures linked { OnOk result (AreLinked 0 0 0 (extents_of self.new.entries) (links_of self.new.entries)) }
+        ensures extents { OnOk result (extents_of self.new.entries
+            ≡ extents_of self.old.entries
+            ++ record { offset = offset; len = len; live = true }
+            ∷ []) }
+        ensures linked { OnOk result
+            (AreLinked 0 0 0 (extents_of self.new.entries) (links_of self.new.entries)) }
         ensures used { OnOk result (self.new.used ≡ self.old.used + len) }
         ensures offset { IfOk result (λ begin. begin ≡ offset) }
         ensures memory { IfErr result (λ e. e ≡ Refusal.NoMemory) }

@@ -16,7 +16,9 @@ bits_of Remote = 2 ^ 60
 
 -- a word can encode this pointer: the parts fit their bits, and an object that is not dirty has a far copy
 abbrev pub HasWord : Pointer → Type 0
-HasWord (Local at dirty hot far) = (at.segment < 2 ^ 16) × (at.offset < 2 ^ 32) × IsTrue (dirty || far)
+HasWord (Local at dirty hot far) = (at.segment < 2 ^ 16)
+    × (at.offset < 2 ^ 32)
+    × IsTrue (dirty || far)
 HasWord Remote = Unit {0}
 
 -- whether the object is local and dirty

@@ -28,5 +28,6 @@ pub record IsWord (n : ℕ) : Type 0 where
   pub says : HasWord (pointer_of n)
 
 -- encoding the pointer that a word encodes returns the word
-pub inside-spelled : (a : Inside) → IsWord a.bits → record { bits = bits_of (pointer_of a.bits) } ≡ a
+pub inside-spelled : (a : Inside) → IsWord a.bits
+    → record { bits = bits_of (pointer_of a.bits) } ≡ a
 inside-spelled a h = ap (λ (n : ℕ). let i : Inside = record { bits = n } in i) h.spelled

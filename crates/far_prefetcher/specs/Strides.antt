@@ -17,7 +17,9 @@ difference from to = pos to -ℤ pos from
 
 -- whether three differences form a stride: they are equal and not 0
 abbrev pub is_stride : ℤ → ℤ → ℤ → Bool
-is_stride first second third = int_eq first second && int_eq second third && not (int_eq third (pos 0))
+is_stride first second third = int_eq first second
+    && int_eq second third
+    && not (int_eq third (pos 0))
 
 -- the group of this number, if it exists
 abbrev pub existing : ℕ → ℤ → Option ℕ

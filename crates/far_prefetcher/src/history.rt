@@ -67,7 +67,8 @@ impl History {
     // Returns the last four groups, or `None` if fewer were accessed.
     fn last_four(&self) -> Option<[u32; 4]>
         ensures fewer { IfNone result (length self.now < 4) }
-        ensures four { IfSome result (λ last. (4 ≤ length self.now) × (keep_last 4 self.now ≡ last)) }
+        ensures four { IfSome result
+            (λ last. (4 ≤ length self.now) × (keep_last 4 self.now ≡ last)) }
     {
         let groups = &self.groups;
         let a = groups.nth_back(3)?;
@@ -109,7 +110,8 @@ fn next_two(alloc: Global, groups: u32, before: u32, last: u32) -> Result<Vec<u3
 
 // Appends the group of this number, if it exists.
 fn push_existing(found: &mut Vec<u32>, groups: u32, number: i64) -> Result<(), Refusal>
-    ensures ok { OnOk result (found.new.items ≡ found.old.items ++ option_to_list (existing groups number)) }
+    ensures ok { OnOk result
+        (found.new.items ≡ found.old.items ++ option_to_list (existing groups number)) }
     ensures memory { IfErr result (λ e. e ≡ Refusal.NoMemory) }
 {
     match u32::try_from(number) {

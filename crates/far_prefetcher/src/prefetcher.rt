@@ -54,7 +54,8 @@ impl Prefetcher {
     /// Records that a row group of a column was read, and forgets the oldest if there are 8. Does nothing if there is no
     /// such column. Allocates nothing.
     pub fn saw(&mut self, column: u32, group: u32)
-        ensures { self.new ≡ slice_set self.old column (with_access (history_of self.old column) group) }
+        ensures { self.new
+            ≡ slice_set self.old column (with_access (history_of self.old column) group) }
     {
         if let Some(history) = self.histories.get_mut(column as usize) {
             history.saw(group);
@@ -66,7 +67,8 @@ impl Prefetcher {
     /// If the last four accesses have three equal differences other than 0, that is their stride. Returns the next two
     /// groups of the stride, without those that do not exist, and none if there is no stride.
     pub fn proposals(&self, alloc: Global, column: u32, groups: u32) -> Result<Vec<u32>, Refusal>
-        ensures found { IfOk result (λ proposals. proposals.items ≡ proposed groups (history_of self.now column)) }
+        ensures found { IfOk result
+            (λ proposals. proposals.items ≡ proposed groups (history_of self.now column)) }
         ensures memory { IfErr result (λ e. e ≡ Refusal.NoMemory) }
     {
         match self.histories.get(column as usize) {

@@ -46,3 +46,4 @@ pub mod ReplacingMovement
 pub mod Outcomes
 pub mod FirstOfCases
 pub mod Alike
+pub mod Several

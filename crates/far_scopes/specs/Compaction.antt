@@ -27,17 +27,21 @@ module _ {X : Type 0} where
   abbrev pub hot_first : Memory X → ℕ → List ℕ
   hot_first memory segment =
       let hot : ℕ → Bool = λ offset. hot_at memory.words record { segment = segment; offset = offset }
-      in filter hot (offsets_in memory.state segment) ++ filter (λ offset. not (hot offset)) (offsets_in memory.state segment)
+      in filter hot (offsets_in memory.state segment)
+      ++ filter (λ offset. not (hot offset)) (offsets_in memory.state segment)
 
   -- the new offset of the part that was at this offset: after all parts that come before it in the order
   abbrev pub offset_after : List (Part X) → List ℕ → ℕ → ℕ
   offset_after parts [] offset = 0
-  offset_after parts (o ∷ order) offset = if o == offset then 0 else length (list_or_none parts o) + offset_after parts order offset
+  offset_after parts (o ∷ order) offset = if o == offset then 0 else length (list_or_none parts o) +
+      offset_after parts order offset
 
   -- the word of an object after the parts of segment `from` moved to segment `to` in this order: it has the new location, and is not hot
   abbrev pub moved_word : List (Part X) → List ℕ → ℕ → ℕ → Pointer → Pointer
   moved_word parts order from to (Local at dirty hot far) =
-      if at.segment == from then Local record { segment = to; offset = offset_after parts order at.offset } dirty false far
+      if at.segment == from
+      then Local record { segment = to; offset = offset_after parts order at.offset } dirty false
+      far
       else Local at dirty hot far
   moved_word parts order from to Remote = Remote
 

@@ -11,11 +11,14 @@ use Rattle.far_scopes.specs.Replacing.{replaced_all as replaced_all_in}
 
 -- the record of a new object
 abbrev pub new_record : {K : Type 0} → Name → ℕ → ObjectRecord K
-new_record name len = record { name = name; len = len; version = 0; leavings = 0; pins = 0; ticket = None }
+new_record name len = record
+    { name = name; len = len; version = 0; leavings = 0; pins = 0; ticket = None }
 
 -- the records, where the record of object o is changed by a function
-abbrev pub with_record : {K : Type 0} → List (ObjectRecord K) → ℕ → (ObjectRecord K → ObjectRecord K) → List (ObjectRecord K)
-with_record records o change = option_map_or (λ object_record. slice_set records o (change object_record)) (slice_get records o) records
+abbrev pub with_record : {K : Type 0} → List (ObjectRecord K) → ℕ
+    → (ObjectRecord K → ObjectRecord K) → List (ObjectRecord K)
+with_record records o change = option_map_or
+    (λ object_record. slice_set records o (change object_record)) (slice_get records o) records
 
 module _ {X K : Type 0} where
   -- the objects and a new one: local, dirty, hot and the most recently used, never written, away or pinned, without a far copy
@@ -42,7 +45,8 @@ module _ {X K : Type 0} where
   abbrev pub after_write : Movement X K → ℕ → Movement X K
   after_write m o = record m {
     memory = after_mark m.memory o;
-    records = with_record m.records o (λ object_record. record object_record { version = object_record.version + 1 });
+    records = with_record m.records o
+        (λ object_record. record object_record { version = object_record.version + 1 });
     order = after_use m.order o;
   }
 
@@ -60,7 +64,8 @@ module _ {X K : Type 0} where
   -- the record of each listed object has the length of its new list
   abbrev pub with_lens : List (ObjectRecord K) → List (Replacement X) → List (ObjectRecord K)
   with_lens records [] = records
-  with_lens records (r ∷ rs) = with_lens (with_record records r.object (λ object_record. record object_record { len = length r.list.items })) rs
+  with_lens records (r ∷ rs) = with_lens (with_record records r.object
+      (λ object_record. record object_record { len = length r.list.items })) rs
 
   -- the listed objects count as written, one after another
   abbrev pub after_write_all : Movement X K → List (Replacement X) → Movement X K
@@ -69,21 +74,30 @@ module _ {X K : Type 0} where
 
   -- each listed object has its new list
   abbrev pub after_replace_all : Movement X K → List (Replacement X) → Movement X K
-  after_replace_all m lists = after_write_all (record m { memory = replaced_all_in m.memory lists; records = with_lens m.records lists }) lists
+  after_replace_all m lists = after_write_all
+      (record m { memory = replaced_all_in m.memory lists; records = with_lens m.records lists })
+      lists
 
   -- object o has one more pin
   abbrev pub after_pin : Movement X K → ℕ → Movement X K
-  after_pin m o = record m { records = with_record m.records o (λ object_record. record object_record { pins = object_record.pins + 1 }) }
+  after_pin m o = record m {
+    records = with_record m.records o
+        (λ object_record. record object_record { pins = object_record.pins + 1 });
+  }
 
   -- object o has one pin less
   abbrev pub after_unpin : Movement X K → ℕ → Movement X K
-  after_unpin m o = record m { records = with_record m.records o (λ object_record. record object_record { pins = object_record.pins - 1 }) }
+  after_unpin m o = record m {
+    records = with_record m.records o
+        (λ object_record. record object_record { pins = object_record.pins - 1 });
+  }
 
   -- object o goes away; its newest far copy has this ticket
   abbrev pub after_leave : Movement X K → ℕ → K → Movement X K
   after_leave m o ticket = record m {
     memory = after_send_away m.memory o;
-    records = with_record m.records o (λ object_record. record object_record { leavings = object_record.leavings + 1; ticket = Some ticket });
+    records = with_record m.records o (λ object_record. record object_record
+        { leavings = object_record.leavings + 1; ticket = Some ticket });
     order = without m.order o;
   }
 

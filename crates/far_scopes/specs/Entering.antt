@@ -16,7 +16,8 @@ module _ {X K : Type 0} where
   -- the refusal if some listed object already has 65,535 pins when it is pinned
   abbrev pub pins_overflow : Movement X K → List ℕ → Option Refusal
   pins_overflow m [] = None
-  pins_overflow m (o ∷ objects) = if pins_of m o == 65535 then Some refusal.EditsUsedUp else pins_overflow (after_pin m o) objects
+  pins_overflow m (o ∷ objects) = if pins_of m o == 65535 then Some refusal.EditsUsedUp else
+      pins_overflow (after_pin m o) objects
 
   -- why `enter` is refused for these objects
   abbrev pub enter_refusal : Movement X K → List ℕ → Option Refusal
@@ -27,4 +28,5 @@ module _ {X K : Type 0} where
   after_close m [] = (m, 0)
   after_close m (o ∷ objects) =
       if pins_of m o == 0 then after_close m objects
-      else (let rest : Movement X K × ℕ = after_close (after_unpin m o) objects in (rest.0, rest.1 + 1))
+      else (let rest : Movement X K × ℕ = after_close (after_unpin m o) objects in
+      (rest.0, rest.1 + 1))

@@ -25,13 +25,15 @@ abbrev pub list_in : {X : Type 0} → Memory X → ℕ → Option (List X)
 list_in memory o = option_and_then (part_of memory.state) (place_of memory.words o)
 
 -- only the list of object o changes: it is `now` afterwards, which may be none
-pub record ChangesList {X : Type 0} (old new : ℕ → Option (List X)) (o : ℕ) (now : Option (List X)) : Type 0 where
+pub record ChangesList {X : Type 0} (old new : ℕ → Option (List X)) (o : ℕ)
+    (now : Option (List X)) : Type 0 where
   pub here : new o ≡ now
   pub others : (p : ℕ) → p ≢ o → new p ≡ old p
 
 -- `place` maps objects to locations, and `part` maps locations to lists. No two objects have the same location, each location of an object
 -- has a list, and no other location has one
-pub record OwnPlaces {X : Type 0} (place : ℕ → Option At) (part : At → Option (List X)) : Type 0 where
+pub record OwnPlaces {X : Type 0} (place : ℕ → Option At)
+    (part : At → Option (List X)) : Type 0 where
   pub placed : (o : ℕ) (at : At) → place o ≡ Some at → IsSome (part at)
   pub disjoint : (o p : ℕ) (at : At) → place o ≡ Some at → place p ≡ Some at → o ≡ p
   pub only : (at : At) → IsSome (part at) → (o : ℕ) × (place o ≡ Some at)

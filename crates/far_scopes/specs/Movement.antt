@@ -85,12 +85,16 @@ module _ {X K : Type 0} where
 
     module _ (spelled : List X → List ℕ → Type 0) where
       -- what is true of one object, given its word, its list if it is local, and its record
-      pub record IsTracked (max_writes leavings : ℕ) (word : Pointer) (list : Option (List X)) (object_record : ObjectRecord K) : Type 0 where
+      pub record IsTracked (max_writes leavings : ℕ) (word : Pointer) (list : Option (List X))
+          (object_record : ObjectRecord K) : Type 0 where
         pub version : object_record.version ≤ max_writes
         pub left : object_record.leavings ≤ leavings
         pub some : 0 < object_record.len
         pub long : IfSome list (λ xs. length xs ≡ object_record.len)
-        pub away : word ≡ Remote → (object_record.pins ≡ 0) × IsSomeAnd object_record.ticket (λ ticket. length (meant ticket) ≡ object_record.len)
+        pub away : word ≡ Remote
+            → (object_record.pins ≡ 0)
+            × IsSomeAnd object_record.ticket
+            (λ ticket. length (meant ticket) ≡ object_record.len)
         pub copy : has_copy word ≡ is_some object_record.ticket
         pub far : IfSome object_record.ticket (λ ticket. spelled (meant ticket) (content ticket))
 
@@ -98,6 +102,8 @@ module _ {X K : Type 0} where
       pub record AreTracked (m : Movement X K) : Type 0 where
         pub same_length : length m.records ≡ length m.memory.words
         pub few : length m.records ≤ 2 ^ 28
-        pub each : (o : ℕ) (word : Pointer) (object_record : ObjectRecord K) → word_of m o ≡ Some word → record_of m o ≡ Some object_record → IsTracked m.max_writes m.leavings word (list_in m.memory o) object_record
+        pub each : (o : ℕ) (word : Pointer) (object_record : ObjectRecord K)
+            → word_of m o ≡ Some word → record_of m o ≡ Some object_record
+            → IsTracked m.max_writes m.leavings word (list_in m.memory o) object_record
         pub once : Once m.order
         pub ordered : (o : ℕ) → has m.order o ≡ is_local m o

@@ -9,7 +9,8 @@ no_objects number limits = record {
   number = number;
   max_writes = limits.max_writes;
   leavings = limits.leavings;
-  memory = record { words = []; state = replicate limits.segments record { parts = []; size = limits.size } };
+  memory = record
+      { words = []; state = replicate limits.segments record { parts = []; size = limits.size } };
   records = [];
   order = [];
 }

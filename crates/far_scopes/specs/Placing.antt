@@ -25,7 +25,8 @@ module _ {X : Type 0} where
   -- the region without the part at a location
   abbrev pub without_at : RegionState X → Option At → RegionState X
   without_at state None = state
-  without_at state (Some at) = with_segment state at.segment (without_part (segment_of state at.segment) at.offset)
+  without_at state (Some at) = with_segment state at.segment
+      (without_part (segment_of state at.segment) at.offset)
 
   -- the memory with one more object, which has this list: dirty and hot, and without a far copy
   abbrev pub with_object : Memory X → List X → Memory X
@@ -38,11 +39,17 @@ module _ {X : Type 0} where
   abbrev pub after_remove_last : Memory X → Memory X
   after_remove_last memory =
       let last : ℕ = length memory.words - 1
-      in record { words = take last memory.words; state = without_at memory.state (place_of memory.words last) }
+      in record {
+        words = take last memory.words;
+        state = without_at memory.state (place_of memory.words last);
+      }
 
   -- the memory, where the word of object o is changed by a function
   abbrev pub with_word : Memory X → ℕ → (Pointer → Pointer) → Memory X
-  with_word memory o change = record memory { words = option_map_or (λ word. slice_set memory.words o (change word)) (slice_get memory.words o) memory.words }
+  with_word memory o change = record memory {
+    words = option_map_or
+        (λ word. slice_set memory.words o (change word)) (slice_get memory.words o) memory.words;
+  }
 
   -- object o is written: dirty and hot
   abbrev pub after_mark : Memory X → ℕ → Memory X
@@ -69,7 +76,8 @@ module _ {X : Type 0} where
   -- ws is written over the elements of object o from the i-th on
   abbrev pub after_overwrite : Memory X → ℕ → ℕ → List X → Memory X
   after_overwrite memory o i ws = record memory {
-    state = option_map_or (λ at. after_write_at memory.state at i ws) (place_of memory.words o) memory.state;
+    state = option_map_or (λ at. after_write_at memory.state at i ws) (place_of memory.words o)
+        memory.state;
   }
 
   -- object o, which is local, has this list, which was placed before the old one was dropped

@@ -19,7 +19,11 @@ refusal_in (Err refusal) = Some refusal
 module _ {X K : Type 0} (m : Movement X K) (o : ℕ) where
   -- the object is away
   abbrev pub absent : Bool × Refusal
-  absent = (not (is_local m o), option_map_or (λ e. refusal.Absent e.name.column e.name.group) (record_of m o) refusal.StaleJob)
+  absent = (
+    not (is_local m o),
+    option_map_or (λ e. refusal.Absent e.name.column e.name.group) (record_of m o)
+        refusal.StaleJob,
+  )
 
   -- the object was written as often as the limits allow
   abbrev pub written_out : Bool × Refusal
@@ -57,7 +61,8 @@ module _ {X K : Type 0} where
   -- the refusal that names the first listed object that is away
   abbrev pub first_absent : Movement X K → List ℕ → Option Refusal
   first_absent m [] = None
-  first_absent m (o ∷ objects) = if is_local m o then first_absent m objects else Some (absent m o).1
+  first_absent m (o ∷ objects) = if is_local m o then first_absent m objects else Some
+      (absent m o).1
 
   -- whether some listed object was written as often as the limits allow
   abbrev pub any_written_out : Movement X K → List (Replacement X) → Bool × Refusal
@@ -66,4 +71,5 @@ module _ {X K : Type 0} where
   -- why replacing the lists of several objects is refused (`replace_all`)
   abbrev pub replace_all_refusal : Movement X K → List (Replacement X) → Option Refusal
   replace_all_refusal m lists =
-      option_or (first_absent m (map (λ r. r.object) lists)) (first_of (no_space_for_all m.memory.state lists ∷ any_written_out m lists ∷ []))
+      option_or (first_absent m (map (λ r. r.object) lists))
+      (first_of (no_space_for_all m.memory.state lists ∷ any_written_out m lists ∷ []))

@@ -20,7 +20,14 @@ renewed_memory memory = record memory { words = map renewed_word memory.words }
 module _ {K L : Type 0} where
   -- the record of an object with another ticket, or without one
   abbrev pub renewed_record : ObjectRecord K → Option L → ObjectRecord L
-  renewed_record object_record ticket = record { name = object_record.name; len = object_record.len; version = object_record.version; leavings = object_record.leavings; pins = object_record.pins; ticket = ticket }
+  renewed_record object_record ticket = record {
+    name = object_record.name;
+    len = object_record.len;
+    version = object_record.version;
+    leavings = object_record.leavings;
+    pins = object_record.pins;
+    ticket = ticket;
+  }
 
   -- the objects after a renewal with these tickets, listed by object number
   abbrev pub after_renew : {X : Type 0} → Movement X K → List (Option L) → Movement X L
@@ -29,7 +36,8 @@ module _ {K L : Type 0} where
     max_writes = m.max_writes;
     leavings = m.leavings;
     memory = renewed_memory m.memory;
-    records = map (λ (e : ObjectRecord K × Option L). renewed_record e.0 e.1) (zip m.records tickets);
+    records = map (λ (e : ObjectRecord K × Option L). renewed_record e.0 e.1)
+        (zip m.records tickets);
     order = m.order;
   }
 
@@ -38,9 +46,12 @@ abbrev pub ticket_in : {L : Type 0} → List (Option L) → ℕ → Option L
 ticket_in tickets o = option_and_then (λ ticket. ticket) (slice_get tickets o)
 
 -- these tickets renew the objects: each object that is away has a ticket with the content of its old one, and a local one has none
-pub record Renews {X K L : Type 0} (content : K → List ℕ) (new_content : L → List ℕ) (m : Movement X K) (tickets : List (Option L)) : Type 0 where
+pub record Renews {X K L : Type 0} (content : K → List ℕ) (new_content : L → List ℕ)
+    (m : Movement X K) (tickets : List (Option L)) : Type 0 where
   pub same_length : length tickets ≡ length m.records
-  pub each : (o : ℕ) → option_map new_content (ticket_in tickets o) ≡ (if is_local m o then None else option_map content (ticket_of m o))
+  pub each : (o : ℕ)
+      → option_map new_content (ticket_in tickets o)
+      ≡ (if is_local m o then None else option_map content (ticket_of m o))
 
 -- each of these tickets is of the store with this id
 abbrev pub AreTicketsHere : {L : Type 0} → (L → List ℕ → Type 0) → List ℕ → List (Option L) → Type 0

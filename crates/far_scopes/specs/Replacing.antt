@@ -14,7 +14,8 @@ use Rattle.far_scopes.specs.Movement.{Movement, dirty, ticket_of, meant, list_of
 
 -- the words, with another location in the word of object o
 abbrev pub with_place : List Pointer → ℕ → At → List Pointer
-with_place words o at = option_map_or (λ word. slice_set words o (with_at word at)) (slice_get words o) words
+with_place words o at = option_map_or (λ word. slice_set words o (with_at word at))
+    (slice_get words o) words
 
 module _ {X : Type 0} where
   -- no object is listed twice
@@ -26,13 +27,18 @@ module _ {X : Type 0} where
   IsUnlisted lists o = All (λ r. o ≢ r.object) lists
 
   -- only the lists of listed objects change: each gets its new list
-  pub record ChangesLists (old new : ℕ → Option (List X)) (lists : List (Replacement X)) : Type 0 where
+  pub record ChangesLists (old new : ℕ → Option (List X))
+      (lists : List (Replacement X)) : Type 0 where
     pub here : All (λ r. new r.object ≡ Some r.list.items) lists
     pub others : (p : ℕ) → IsUnlisted lists p → new p ≡ old p
 
   -- the new lists, placed one after another, do not fit
   abbrev pub no_space_for_all : RegionState X → List (Replacement X) → Bool × Refusal
-  no_space_for_all state lists = (not (fit_in_order (spaces_of state) (map (λ r. length r.list.items) lists)), refusal.RegionFull)
+  no_space_for_all state lists = (
+    not
+        (fit_in_order (spaces_of state) (map (λ r. length r.list.items) lists)),
+    refusal.RegionFull,
+  )
 
   -- whether the first of the new lists fits, if there is one
   abbrev pub first_fits : RegionState X → List (Replacement X) → Bool
@@ -47,12 +53,14 @@ module _ {X : Type 0} where
   -- the region without the parts of these objects
   abbrev pub without_all : RegionState X → List Pointer → List (Replacement X) → RegionState X
   without_all state words [] = state
-  without_all state words (r ∷ rs) = without_at (without_all state words rs) (place_of words r.object)
+  without_all state words (r ∷ rs) = without_at (without_all state words rs)
+      (place_of words r.object)
 
   -- the words, with the locations of the new lists in the words of these objects
   abbrev pub moved_all : RegionState X → List Pointer → List (Replacement X) → List Pointer
   moved_all state words [] = words
-  moved_all state words (r ∷ rs) = with_place (moved_all (with_new state r.list.items) words rs) r.object (spot state (length r.list.items))
+  moved_all state words (r ∷ rs) = with_place (moved_all (with_new state r.list.items) words rs)
+      r.object (spot state (length r.list.items))
 
   -- each of these objects, which are local, has its new list; all new lists were placed before an old one was dropped
   abbrev pub replaced_all : Memory X → List (Replacement X) → Memory X
@@ -66,10 +74,13 @@ module _ {X : Type 0} where
   after_take_over memory o =
       let last : ℕ = length memory.words - 1
       in record {
-        words = option_map_or (with_place (take last memory.words) o) (place_of memory.words last) memory.words;
+        words = option_map_or (with_place (take last memory.words) o) (place_of memory.words last)
+            memory.words;
         state = without_at memory.state (place_of memory.words o);
       }
 
   -- the list of each object that is clean and not listed is what its ticket means
-  abbrev pub AreCleanElsewhere : {K : Type 0} → (List ℕ → List X) → (K → List ℕ) → Movement X K → List (Replacement X) → Type 0
-  AreCleanElsewhere meaning content m lists = (o : ℕ) → IsUnlisted lists o → dirty m o ≡ false → list_of meaning content m o ≡ option_map (meant meaning content) (ticket_of m o)
+  abbrev pub AreCleanElsewhere : {K : Type 0} → (List ℕ → List X) → (K → List ℕ) → Movement X K
+      → List (Replacement X) → Type 0
+  AreCleanElsewhere meaning content m lists = (o : ℕ) → IsUnlisted lists o → dirty m o ≡ false
+      → list_of meaning content m o ≡ option_map (meant meaning content) (ticket_of m o)

@@ -19,18 +19,24 @@ abbrev pub offset_of : List Pointer → ℕ → Bool → ℕ → Option ℕ
 offset_of words segment hot o = option_and_then (offset_if segment hot) (slice_get words o)
 
 -- the list has each object below n with its part in the segment and with this hot bit, once
-pub record AreObjects (words : List Pointer) (segment : ℕ) (hot : Bool) (n : ℕ) (objects : List SegmentObject) : Type 0 where
-  pub sound : All (λ found. (found.object < n) × (offset_of words segment hot found.object ≡ Some found.offset)) objects
-  pub whole : (o offset : ℕ) → o < n → offset_of words segment hot o ≡ Some offset → Contains objects record { object = o; offset = offset }
+pub record AreObjects (words : List Pointer) (segment : ℕ) (hot : Bool) (n : ℕ)
+    (objects : List SegmentObject) : Type 0 where
+  pub sound : All
+      (λ found. (found.object < n) × (offset_of words segment hot found.object ≡ Some found.offset))
+      objects
+  pub whole : (o offset : ℕ) → o < n → offset_of words segment hot o ≡ Some offset
+      → Contains objects record { object = o; offset = offset }
   pub once : AllPairs (λ o p. o ≢ p) (map (λ found. found.object) objects)
 
 -- all these objects, by ascending offset
-pub record AreSorted (words : List Pointer) (segment : ℕ) (hot : Bool) (objects : List SegmentObject) : Type 0 where
+pub record AreSorted (words : List Pointer) (segment : ℕ) (hot : Bool)
+    (objects : List SegmentObject) : Type 0 where
   pub all : AreObjects words segment hot (length words) objects
   pub sorted : IsNonDecreasing (map (λ found. found.offset) objects)
 
 -- the objects with parts in a segment: the hot ones, then the others, each by ascending offset
-pub record AreHotFirst (words : List Pointer) (segment : ℕ) (objects : List SegmentObject) : Type 0 where
+pub record AreHotFirst (words : List Pointer) (segment : ℕ)
+    (objects : List SegmentObject) : Type 0 where
   pub hot : List SegmentObject
   pub others : List SegmentObject
   pub joined : objects ≡ hot ++ others
@@ -38,7 +44,14 @@ pub record AreHotFirst (words : List Pointer) (segment : ℕ) (objects : List Se
   pub rest : AreSorted words segment false others
 
 -- new is old, except that the words of these objects have these offsets in segment `to` and are not hot
-pub record Settles (old new : List Pointer) (objects : List SegmentObject) (to : ℕ) (offsets : List ℕ) (n : ℕ) : Type 0 where
+pub record Settles (old new : List Pointer) (objects : List SegmentObject) (to : ℕ)
+    (offsets : List ℕ) (n : ℕ) : Type 0 where
   pub long : length new ≡ length old
-  pub here : (k : ℕ) (d : SegmentObject) → k < n → slice_get new (slice_index_or objects k d).object ≡ option_map (λ word. with_hot (with_at word record { segment = to; offset = slice_index offsets k }) false) (slice_get old (slice_index_or objects k d).object)
-  pub others : (p : ℕ) → ((k : ℕ) (d : SegmentObject) → k < n → (slice_index_or objects k d).object ≢ p) → slice_get new p ≡ slice_get old p
+  pub here : (k : ℕ) (d : SegmentObject) → k < n
+      → slice_get new (slice_index_or objects k d).object
+      ≡ option_map (λ word. with_hot
+      (with_at word record { segment = to; offset = slice_index offsets k }) false)
+      (slice_get old (slice_index_or objects k d).object)
+  pub others : (p : ℕ)
+      → ((k : ℕ) (d : SegmentObject) → k < n → (slice_index_or objects k d).object ≢ p)
+      → slice_get new p ≡ slice_get old p

@@ -46,7 +46,9 @@ impl<T: Elem> LocalMemory<T> {
     /// Makes memory without objects. Allocates all memory for elements.
     pub fn new(alloc: Global, segments: u32, size: u32) -> Result<LocalMemory<T>, Refusal>
         requires { segments ≤ 65536 }
-        ensures empty { IfOk result (λ m. m ≡ record { words = []; state = replicate segments record { parts = []; size = size } }) }
+        ensures empty { IfOk result (λ m. m
+            ≡ record
+            { words = []; state = replicate segments record { parts = []; size = size } }) }
         ensures memory { IfErr result (λ e. e ≡ Refusal.NoMemory) }
     {
         Ok(LocalMemory {
@@ -95,9 +97,11 @@ impl<T: Elem> LocalMemory<T> {
     pub fn add(&mut self, items: &[T]) -> Result<(), Refusal>
         requires some { 0 < length items.now }
         ensures ok { OnOk result (self.new ≡ with_object self.old items.now) }
-        ensures list { OnOk result (ChangesList (list_in self.old) (list_in self.new) (length self.old.words) (Some items.now)) }
+        ensures list { OnOk result (ChangesList (list_in self.old) (list_in self.new)
+            (length self.old.words) (Some items.now)) }
         ensures undone { OnOk result (after_remove_last self.new ≡ self.old) }
-        ensures full { IsErrOf result Refusal.RegionFull ↔ (fits_in self.old.state (length items.now) ≡ false) }
+        ensures full { IsErrOf result Refusal.RegionFull
+            ↔ (fits_in self.old.state (length items.now) ≡ false) }
         ensures refused { IfErr result (λ e. (e ≡ Refusal.RegionFull) ⊎ (e ≡ Refusal.NoMemory)) }
         ensures err { OnErr result (self.new ≡ self.old) }
     {
@@ -127,7 +131,8 @@ impl<T: Elem> LocalMemory<T> {
     pub fn remove_last(&mut self)
         requires { IsSome (place_of self.old.words (length self.old.words - 1)) }
         ensures removed { self.new ≡ after_remove_last self.old }
-        ensures list { ChangesList (list_in self.old) (list_in self.new) (length self.old.words - 1) None }
+        ensures list { ChangesList (list_in self.old) (list_in self.new) (length self.old.words - 1)
+            None }
     {
         let Some(word) = self.words.pop() else {
             unreachable!()
@@ -141,8 +146,10 @@ impl<T: Elem> LocalMemory<T> {
         requires some { 0 < length items.now }
         requires away { slice_get self.old.words o ≡ Some Pointer.Remote }
         ensures ok { OnOk result (self.new ≡ after_bring self.old o items.now) }
-        ensures list { OnOk result (ChangesList (list_in self.old) (list_in self.new) o (Some items.now)) }
-        ensures full { IsErrOf result Refusal.RegionFull ↔ (fits_in self.old.state (length items.now) ≡ false) }
+        ensures list { OnOk result
+            (ChangesList (list_in self.old) (list_in self.new) o (Some items.now)) }
+        ensures full { IsErrOf result Refusal.RegionFull
+            ↔ (fits_in self.old.state (length items.now) ≡ false) }
         ensures refused { IfErr result (λ e. (e ≡ Refusal.RegionFull) ⊎ (e ≡ Refusal.NoMemory)) }
         ensures err { OnErr result (self.new ≡ self.old) }
     {
@@ -158,8 +165,10 @@ impl<T: Elem> LocalMemory<T> {
         requires some { 0 < length items.now }
         requires local { IsSome (place_of self.old.words o) }
         ensures ok { OnOk result (self.new ≡ replaced self.old o items.now) }
-        ensures list { OnOk result (ChangesList (list_in self.old) (list_in self.new) o (Some items.now)) }
-        ensures full { IsErrOf result Refusal.RegionFull ↔ (fits_in self.old.state (length items.now) ≡ false) }
+        ensures list { OnOk result
+            (ChangesList (list_in self.old) (list_in self.new) o (Some items.now)) }
+        ensures full { IsErrOf result Refusal.RegionFull
+            ↔ (fits_in self.old.state (length items.now) ≡ false) }
         ensures refused { IfErr result (λ e. (e ≡ Refusal.RegionFull) ⊎ (e ≡ Refusal.NoMemory)) }
         ensures err { OnErr result (self.new ≡ self.old) }
     {

@@ -48,9 +48,24 @@ impl<T: Elem, S: FarTickets> Model for Objects<T, S> {
     ghost use Rattle.far_codec.specs.Spelling.{IsSpelled};
     ghost use Rattle.far_scopes.specs.Movement.{AreTracked};
 
-    ghost view = { λ a. record { number = a.number; max_writes = a.max_writes; leavings = a.leavings; memory = a.memory; records = a.records.items; order = a.order } };
+    ghost view = { λ a. record {
+      number = a.number;
+      max_writes = a.max_writes;
+      leavings = a.leavings;
+      memory = a.memory;
+      records = a.records.items;
+      order = a.order;
+    } };
 
-    ghost invariant = { λ a. AreTracked T.meaning S.content (IsSpelled T.in_range T.has_spelling T.spelling) record { number = a.number; max_writes = a.max_writes; leavings = a.leavings; memory = a.memory; records = a.records.items; order = a.order } };
+    ghost invariant = { λ a. AreTracked T.meaning S.content
+        (IsSpelled T.in_range T.has_spelling T.spelling) record {
+          number = a.number;
+          max_writes = a.max_writes;
+          leavings = a.leavings;
+          memory = a.memory;
+          records = a.records.items;
+          order = a.order;
+        } };
 }
 
 impl<T: Elem, S: FarTickets> Objects<T, S> {
@@ -79,7 +94,8 @@ impl<T: Elem, S: FarTickets> Objects<T, S> {
     /// is no other part (`own`).
     pub fn number(&self) -> u32
         ensures number { result ≡ self.now.number }
-        ensures tracked { AreTracked T.meaning S.content (IsSpelled T.in_range T.has_spelling T.spelling) self.now }
+        ensures tracked { AreTracked T.meaning S.content
+            (IsSpelled T.in_range T.has_spelling T.spelling) self.now }
         ensures own { IsMemory self.now.memory.words self.now.memory.state }
     {
         self.memory.each_owns_its_part();

@@ -24,5 +24,6 @@ impl<N: FarTickets> Model for Renewal<N> {
 
     ghost view = { λ r. r.tickets.items };
 
-    ghost invariant = { λ r. (r.records.items ≡ []) × (length r.tickets.items ≤ vec_capacity r.records) };
+    ghost invariant = { λ r. (r.records.items ≡ [])
+        × (length r.tickets.items ≤ vec_capacity r.records) };
 }

@@ -1,1 +1,2 @@
 pub mod StoreStateTickets
+pub mod Tokens

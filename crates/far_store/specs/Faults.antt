@@ -21,4 +21,5 @@ outcome (Err refused) = Err refused.0
 
 -- a refusal of the call has one of these numbers
 abbrev pub RefusedBy : {A : Type 0} → List ℕ → Result A Refusal → Type 0
-RefusedBy numbers result = IfErr result (λ refusal. IsTrue (list_any (λ number. number == number_of refusal) numbers))
+RefusedBy numbers result = IfErr result
+    (λ refusal. IsTrue (list_any (λ number. number == number_of refusal) numbers))

@@ -1,5 +1,5 @@
 -- The state of a store that keeps its contents or keys in a vector that only grows, and how a ticket refers to it.
-use Rattle.std.specs.Prelude.{◌≡◌, ℕ, List, map, slice_index_or}
+use Rattle.std.specs.Prelude.{◌≡◌, ◌<◌, ℕ, List, [], ◌∷◌, map, slice_index_or}
 use base.Stored.{Coded, coded×, coded_ℕ, coded_list, coded_via}
 use Rattle.boxcar.specs.Table.{Shelves, Where}
 
@@ -10,7 +10,13 @@ pub record StoreState : Type 0 where
 
 -- an injective code of a store's state
 abbrev pub store_coded : Coded StoreState
-store_coded = coded_via (coded× (coded_list coded_ℕ) coded_ℕ) (λ (s : StoreState). (s.id, s.capacity)) (λ x y e i. record { id = (e i).0; capacity = (e i).1 })
+store_coded = coded_via (coded× (coded_list coded_ℕ) coded_ℕ)
+    (λ (s : StoreState). (s.id, s.capacity))
+    (λ x y e i. record { id = (e i).0; capacity = (e i).1 })
+
+-- what ties tickets to a store: its capacity, and its id
+abbrev pub full_id : StoreState → List ℕ
+full_id store = store.capacity ∷ store.id
 
 -- the id of a vector that only grows: the ids of its buckets. It has them from the beginning, and no other vector has them
 abbrev pub bucket_ids : Shelves → List ℕ
@@ -19,3 +25,9 @@ bucket_ids shelves = map (λ bucket. bucket.id) shelves.buckets
 -- the location is in the bucket with this id
 abbrev pub IsOf : {T : Type 0} → Where T → List ℕ → Type 0
 IsOf place id = place.row ≡ slice_index_or id place.bucket 0
+
+-- the ticket is of the store with this full id: its number is below the capacity, and it is in a
+-- bucket of the store
+abbrev pub IsTicketOf : {T : Type 0} → Where T → List ℕ → Type 0
+IsTicketOf ticket [] = ⊥
+IsTicketOf ticket (capacity ∷ id) = (ticket.index < capacity) × IsOf ticket id

@@ -1,6 +1,6 @@
 // The agent: a far store in this process.
 ghost use Rattle.std.specs.Prelude.{◌≡◌, ◌<◌, [], ◌∷◌, IfOk, IfErr, OnOk, OnErr};
-ghost use Rattle.far_store.specs.StoreState.{IsOf};
+ghost use Rattle.far_store.specs.StoreState.{IsTicketOf, full_id};
 ghost use Rattle.far_store.specs.Faults.{RefusedBy};
 
 use crate::Meter;
@@ -70,9 +70,9 @@ impl<R: Sync + Drop> FarTickets for AgentStore<R> {
 
     ghost number_of = { λ t. t.index };
 
-    ghost store_id = { λ s. s.id };
+    ghost store_id = { full_id };
 
-    ghost is_of = { IsOf };
+    ghost is_of = { IsTicketOf };
 
     ghost capacity_of = { λ s. s.capacity };
 
@@ -102,7 +102,7 @@ impl<R: Sync + Drop> FarRead for AgentStore<R> {
         ticket: &Pushed<Vec<u8>>,
         buffer: &mut Vec<u8>,
     ) -> Result<(), Refusal>
-        requires { IsOf ticket.now self.now.id }
+        requires { IsTicketOf ticket.now (full_id self.now) }
         ensures content { OnOk result (buffer.new.items ≡ ticket.now.value.items) }
         ensures empty { OnErr result (buffer.new.items ≡ []) }
         ensures faultless { meter.new ≡ meter.old }
@@ -121,7 +121,7 @@ impl<R: Sync + Drop + Wait> FarStore for AgentStore<R> {
         meter: &mut Meter,
         bytes: &[u8],
     ) -> Result<Pushed<Vec<u8>>, Refusal>
-        ensures here { IfOk result (λ ticket. IsOf ticket self.now.id) }
+        ensures here { IfOk result (λ ticket. IsTicketOf ticket (full_id self.now)) }
         ensures content { IfOk result (λ ticket. ticket.value.items ≡ bytes.now) }
         ensures number { IfOk result (λ ticket. ticket.index < self.now.capacity) }
         ensures faultless { meter.new ≡ meter.old }

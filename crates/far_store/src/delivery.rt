@@ -28,7 +28,8 @@ pub trait FarDelivery: FarStore {
     ) -> Result<(), Refusal>
         requires few { meter.old < 2 ^ 63 }
         requires here { Self.is_of ticket.now (Self.store_id self.old) }
-        requires no_collision { Self.matches ticket.now bytes.now → bytes.now ≡ Self.content ticket.now }
+        requires no_collision { Self.matches ticket.now bytes.now
+            → bytes.now ≡ Self.content ticket.now }
         ensures same { Self.store_id self.new ≡ Self.store_id self.old }
         ensures capacity { Self.capacity_of self.new ≡ Self.capacity_of self.old }
         ensures content { OnOk result (bytes.now ≡ Self.content ticket.now) }

@@ -1,5 +1,5 @@
 // Drawn numbers.
-ghost use Rattle.std.specs.Prelude.{◌≡◌, ◌≤◌, ◌↔◌, IfOk, IfErr, IsErr};
+ghost use Rattle.std.specs.Prelude.{◌≡◌, ◌<◌, ◌≤◌, ◌↔◌, IfOk, IfErr, IsErr};
 
 use boxcar::{Keeps, Pushed};
 use far_types::Refusal;
@@ -12,6 +12,7 @@ pub(crate) fn below<T: Drop, P: Keeps<T>>(
     ticket: Pushed<T, Global, P>,
 ) -> Result<Pushed<T, Global, P>, Refusal>
     ensures kept { IfOk result (λ kept. kept ≡ ticket) }
+    ensures number { IfOk result (λ kept. kept.index < capacity) }
     ensures full { IsErr result ↔ (capacity ≤ ticket.index) }
     ensures refused { IfErr result (λ e. e ≡ Refusal.FarFull) }
 {

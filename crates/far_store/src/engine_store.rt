@@ -3,7 +3,7 @@ ghost use Rattle.std.specs.Prelude.{◌≡◌, ◌==◌, ◌+◌, ◌<◌, ◌^�
 ghost use Rattle.std.specs.List.{list_any};
 ghost use Rattle.far_types.specs.Refusals.{number_of};
 ghost use Rattle.far_store.specs.Faults.{faults_of, faults_in, RefusedBy};
-ghost use Rattle.far_store.specs.StoreState.{IsOf};
+ghost use Rattle.far_store.specs.StoreState.{IsTicketOf, full_id};
 
 use crate::Meter;
 use crate::drawn::below;
@@ -74,7 +74,7 @@ impl<E: Engine, R: Drop> EngineStore<E, R> {
         })
     }
 
-    /// Borrows the engine, to read its own figures. Allocates nothing.
+    /// Borrows the engine, to read its own figures. Allocates nothing. Contracts see the id and the capacity of a store, not its engine.
     pub fn engine(&self) -> &E {
         &self.engine
     }
@@ -87,9 +87,9 @@ impl<E: Engine, R: Sync + Drop> FarTickets for EngineStore<E, R> {
 
     ghost number_of = { λ t. t.index };
 
-    ghost store_id = { λ s. s.id };
+    ghost store_id = { full_id };
 
-    ghost is_of = { IsOf };
+    ghost is_of = { IsTicketOf };
 
     ghost capacity_of = { λ s. s.capacity };
 
@@ -141,7 +141,7 @@ impl<E: Engine, R: Sync + Drop + Wait> FarStore for EngineStore<E, R> {
         bytes: &[u8],
     ) -> Result<EngineTicket<E>, Refusal>
         requires few { meter.old < 2 ^ 63 }
-        ensures here { IfOk result (λ ticket. IsOf ticket self.now.id) }
+        ensures here { IfOk result (λ ticket. IsTicketOf ticket (full_id self.now)) }
         ensures content { IfOk result (λ ticket. E.written ticket.value ≡ bytes.now) }
         ensures number { IfOk result (λ ticket. ticket.index < self.now.capacity) }
         ensures faults { meter.new ≡ meter.old + faults_in result }

@@ -16,7 +16,7 @@ const TURNS: u32 = 10_000_000;
 const YIELDING: u32 = 10_000;
 
 /// A far store that holds its first `put` at a gate, and otherwise does what the store inside it does. Contracts see the store inside
-/// it.
+/// it. The gate is made of atomics, whose values no clause knows, so `release` and `held` have no clause.
 ///
 /// It is for testing what else a table can do while a put is under way. A put is held for at most 10,000,000 turns of a loop, and then
 /// returns `FarFault` (21). So no call waits for ever.

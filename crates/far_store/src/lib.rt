@@ -6,7 +6,7 @@
 //!
 //! A table knows of a store only what these three traits say. So it runs over any store:
 //! - [`AgentStore`] in this process;
-//! - [`EngineStore`] over an [`Engine`] of your own (docs/FAR_STORE.md);
+//! - [`EngineStore`] over an [`Engine`] of your own (docs/FAR_STORE.md); [`ByteLog`] is an example of one;
 //! - [`FaultyStore`] and [`GateStore`], for testing calls that fail or take long.
 //!
 //! A store that reaches nothing itself is a [`FarDelivery`]: the calling program keeps the contents, and delivers those that are to be
@@ -15,6 +15,7 @@
 //! Threads share stores, and nothing is ever removed from one.
 
 mod agent;
+mod byte_log;
 mod delivery;
 mod drawn;
 mod engine;
@@ -25,6 +26,7 @@ mod meter;
 mod store;
 
 pub use agent::AgentStore;
+pub use byte_log::{ByteLog, LogFull, LogKey};
 pub use delivery::FarDelivery;
 pub use engine::{Engine, Failure};
 pub use engine_store::{EngineStore, EngineTicket};

@@ -46,7 +46,8 @@ ByKey V = fin.FinMap line_cmp V
 
 -- the keys that occur, each with the result over its values
 abbrev pub grouped : {V : Type 0} → (List ℤ → V) → List Pair → ByKey V
-grouped fold pairs = fin.from_entries (map (λ (pair : Pair). (pair.0, fold (values_of pair.0 pairs))) pairs)
+grouped fold pairs = fin.from_entries
+    (map (λ (pair : Pair). (pair.0, fold (values_of pair.0 pairs))) pairs)
 
 -- how many values there are, and their sum
 abbrev pub count_sum : List ℤ → ℕ × ℤ
@@ -78,7 +79,8 @@ TotalLines = List (Option Key × ℕ × ℤ)
 
 -- the lines of totals, in the order of their keys
 abbrev pub total_lines : Totals → TotalLines
-total_lines totals = map (λ (entry : Option Key × (ℕ × ℤ)). (entry.0, entry.1.0, entry.1.1)) (fin.entries totals)
+total_lines totals = map (λ (entry : Option Key × (ℕ × ℤ)). (entry.0, entry.1.0, entry.1.1))
+    (fin.entries totals)
 
 -- a line of extrema: a key, a minimum and a maximum
 abbrev pub ExtremaLines : Type 0
@@ -86,7 +88,8 @@ ExtremaLines = List (Option Key × ℤ × ℤ)
 
 -- the lines of extrema, in the order of their keys
 abbrev pub extrema_lines : Extrema → ExtremaLines
-extrema_lines extrema = map (λ (entry : Option Key × (ℤ × ℤ)). (entry.0, entry.1.0, entry.1.1)) (fin.entries extrema)
+extrema_lines extrema = map (λ (entry : Option Key × (ℤ × ℤ)). (entry.0, entry.1.0, entry.1.1))
+    (fin.entries extrema)
 
 -- totals without key column always give one line
 abbrev pub or_zero : Option ℕ → TotalLines → TotalLines

@@ -35,7 +35,15 @@ pub record AreLimits (limits : Limits) : Type 0 where
 
 -- the limits of a table for which none are named, in row groups of g places
 abbrev pub usual_limits : ℕ → Limits
-usual_limits g = record { group = g; places = 16777216; edits = 1099511627776; int_segments = 64; int_size = max g 4096; text_segments = 64; text_size = 65536 }
+usual_limits g = record {
+  group = g;
+  places = 16777216;
+  edits = 1099511627776;
+  int_segments = 64;
+  int_size = max g 4096;
+  text_segments = 64;
+  text_size = 65536;
+}
 
 -- the column that a test reads
 abbrev pub column_of : Test → ℕ
@@ -69,16 +77,23 @@ has_its_kind schema (test.TextBegins column constant) = is_text (slice_get schem
 
 -- whether an aggregate needs a column: that of a test, of its key or of its value
 abbrev pub needs : Spec → ℕ → Bool
-needs spec column = list_any (λ test. column_of test == column) spec.filter || option_map_or (λ key. key == column) spec.key false || spec.value == column
+needs spec column = list_any (λ test. column_of test == column) spec.filter
+    || option_map_or (λ key. key == column) spec.key false
+    || spec.value == column
 
 -- whether all columns that an aggregate needs are among the first ones
 abbrev pub is_within : ℕ → Spec → Bool
-is_within columns spec = list_all (λ test. nat_lt (column_of test) columns) spec.filter && option_map_or (λ key. nat_lt key columns) spec.key true && nat_lt spec.value columns
+is_within columns spec = list_all (λ test. nat_lt (column_of test) columns) spec.filter
+    && option_map_or (λ key. nat_lt key columns) spec.key true
+    && nat_lt spec.value columns
 
 -- why a table with this schema refuses an aggregate: the first refusal that applies
 abbrev pub spec_refusal : List Kind → Spec → Option Refusal
 spec_refusal schema spec = first_of (
     (nat_lt 4 (length spec.filter) || list_any has_long_constant spec.filter, refusal.BadSpec)
     ∷ (not (is_within (length schema) spec), refusal.NoColumn)
-    ∷ (not (is_int (slice_get schema spec.value) && list_all (has_its_kind schema) spec.filter), refusal.WrongKind)
+    ∷ (
+      not (is_int (slice_get schema spec.value) && list_all (has_its_kind schema) spec.filter),
+      refusal.WrongKind,
+    )
     ∷ [])

@@ -12,7 +12,15 @@ use Rattle.far_types.specs.Examples.{row, a, b}
 
 -- a column of numbers and one of texts, in row groups of 4 places or of another size; a text object may have 64 bytes
 abbrev pub in_groups_of : ℕ → Table
-in_groups_of size = empty_table (kind.Int ∷ kind.Text ∷ []) (record { group = size; places = 9; edits = 9; int_segments = 1; int_size = 4; text_segments = 2; text_size = 64 })
+in_groups_of size = empty_table (kind.Int ∷ kind.Text ∷ []) (record {
+  group = size;
+  places = 9;
+  edits = 9;
+  int_segments = 1;
+  int_size = 4;
+  text_segments = 2;
+  text_size = 64;
+})
 
 -- a row of a number and as many letters
 abbrev pub letters : ℤ → ℕ → Edit
@@ -20,14 +28,17 @@ letters number count = edit.Insert (row number (replicate count 97))
 
 -- the rows 5 a, 6 b, 7 a
 abbrev pub three : Table
-three = after_edit (edit.Insert (row (pos 7) a)) (after_edit (edit.Insert (row (pos 6) b)) (after_edit (edit.Insert (row (pos 5) a)) (in_groups_of 4)))
+three = after_edit (edit.Insert (row (pos 7) a)) (after_edit (edit.Insert (row (pos 6) b))
+    (after_edit (edit.Insert (row (pos 5) a)) (in_groups_of 4)))
 
 -- a set replaces one cell of one place, and a removed row's cells stay in the columns
 abbrev pub WhatEditsDo : Type 0
 WhatEditsDo =
-    (rows_of (after_edit (edit.Set 1 0 cell.Missing) three).places ≡ row (pos 5) a ∷ (cell.Missing ∷ cell.Text b ∷ []) ∷ row (pos 7) a ∷ [])
+    (rows_of (after_edit (edit.Set 1 0 cell.Missing) three).places
+    ≡ row (pos 5) a ∷ (cell.Missing ∷ cell.Text b ∷ []) ∷ row (pos 7) a ∷ [])
     × (rows_of (after_edit (edit.Remove 1) three).places ≡ row (pos 5) a ∷ row (pos 7) a ∷ [])
-    × (part 0 1 3 (after_edit (edit.Remove 1) three).places ≡ cell.Int (pos 6) ∷ cell.Int (pos 7) ∷ [])
+    × (part 0 1 3 (after_edit (edit.Remove 1) three).places
+    ≡ cell.Int (pos 6) ∷ cell.Int (pos 7) ∷ [])
     × ((after_edit (edit.Remove 1) three).edits ≡ 4)
 
 -- a row of 54 letters, whose text object has just 64 bytes
@@ -36,7 +47,8 @@ one_text = after_edit (letters (pos 1) 54) (in_groups_of 4)
 
 -- b in place of the 54 letters, and then a row of c. In a third row 44 letters fit, and 45 do not
 abbrev pub two_texts : Table
-two_texts = after_edit (edit.Insert (row (pos 2) (codes "c"))) (after_edit (edit.Set 0 1 (cell.Text b)) one_text)
+two_texts = after_edit (edit.Insert (row (pos 2) (codes "c")))
+    (after_edit (edit.Set 0 1 (cell.Text b)) one_text)
 
 -- the same 54 letters in a row group of one place
 abbrev pub one_alone : Table
@@ -50,16 +62,28 @@ SpaceForTexts =
     × (edit_refusal two_texts (letters (pos 3) 44) ≡ None)
     × (edit_refusal one_text (edit.Set 0 1 (cell.Text (replicate 55 97))) ≡ Some refusal.ChunkFull)
     × (edit_refusal one_text (edit.Set 0 0 cell.Missing) ≡ None)
-    × (edit_refusal (after_edit (edit.Remove 0) one_text) (letters (pos 2) 0) ≡ Some refusal.ChunkFull)
+    × (edit_refusal (after_edit (edit.Remove 0) one_text) (letters (pos 2) 0)
+    ≡ Some refusal.ChunkFull)
     × (edit_refusal one_alone (letters (pos 2) 54) ≡ None)
     × (edit_refusal one_alone (letters (pos 2) 55) ≡ Some refusal.ChunkFull)
-    × (edit_refusal (after_edit (letters (pos 2) 1) one_alone) (edit.Set 1 1 (cell.Text (replicate 55 97))) ≡ Some refusal.ChunkFull)
+    × (edit_refusal (after_edit (letters (pos 2) 1) one_alone)
+    (edit.Set 1 1 (cell.Text (replicate 55 97)))
+    ≡ Some refusal.ChunkFull)
     × (edit_refusal one_text (letters (pos 2) 4096) ≡ Some refusal.ChunkFull)
     × (edit_refusal one_text (letters (pos 2) 4097) ≡ Some refusal.TextTooLong)
 
 -- a table for one row of 54 letters, and for as many edits
 abbrev pub with_edits : ℕ → Table
-with_edits edits = after_edit (letters (pos 1) 54) (empty_table (kind.Int ∷ kind.Text ∷ []) (record { group = 4; places = 1; edits = edits; int_segments = 1; int_size = 4; text_segments = 2; text_size = 64 }))
+with_edits edits = after_edit (letters (pos 1) 54) (empty_table (kind.Int ∷ kind.Text ∷ [])
+    (record {
+      group = 4;
+      places = 1;
+      edits = edits;
+      int_segments = 1;
+      int_size = 4;
+      text_segments = 2;
+      text_size = 64;
+    }))
 
 -- the row is removed, and no place and no edit are left: so every refusal applies to an edit
 abbrev pub used_up : Table
@@ -83,7 +107,8 @@ OrderOfRefusals =
     × (edit_refusal used_up (edit.Set 0 1 (cell.Text (replicate 55 97))) ≡ Some refusal.RemovedRow)
     × (edit_refusal used_up (edit.Remove 1) ≡ Some refusal.NoRow)
     × (edit_refusal used_up (edit.Remove 0) ≡ Some refusal.RemovedRow)
-    × (edit_refusal (with_edits 1) (edit.Set 0 1 (cell.Text (replicate 55 97))) ≡ Some refusal.ChunkFull)
+    × (edit_refusal (with_edits 1) (edit.Set 0 1 (cell.Text (replicate 55 97)))
+    ≡ Some refusal.ChunkFull)
     × (edit_refusal (with_edits 1) (edit.Set 0 1 (cell.Text b)) ≡ Some refusal.EditsUsedUp)
     × (edit_refusal (with_edits 1) (edit.Remove 0) ≡ Some refusal.EditsUsedUp)
 
@@ -91,7 +116,9 @@ OrderOfRefusals =
 abbrev pub RowGroups : Type 0
 RowGroups =
     (map (groups 4) (0 ∷ 1 ∷ 4 ∷ 5 ∷ []) ≡ 0 ∷ 1 ∷ 1 ∷ 2 ∷ [])
-    × (map (λ g. in_group 4 g (codes "abcde")) (0 ∷ 1 ∷ 2 ∷ []) ≡ codes "abcd" ∷ codes "e" ∷ [] ∷ [])
+    × (map (λ g. in_group 4 g (codes "abcde")) (0 ∷ 1 ∷ 2 ∷ [])
+    ≡ codes "abcd" ∷ codes "e" ∷ [] ∷ [])
     × (all_pending 2 three.places ≡ true ∷ true ∷ [])
-    × (map (is_pending (true ∷ false ∷ true ∷ [])) (0 ∷ 1 ∷ 2 ∷ 3 ∷ []) ≡ true ∷ false ∷ true ∷ false ∷ [])
+    × (map (is_pending (true ∷ false ∷ true ∷ [])) (0 ∷ 1 ∷ 2 ∷ 3 ∷ [])
+    ≡ true ∷ false ∷ true ∷ false ∷ [])
     × (left (true ∷ false ∷ true ∷ []) ≡ 2)

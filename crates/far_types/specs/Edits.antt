@@ -30,7 +30,8 @@ is_dead (Some place) = not place.alive
 
 -- how long the text object of a column and a row group is: its far form, with one text for each place, dead ones too
 abbrev pub text_object_length : Limits → ℕ → ℕ → List Place → ℕ
-text_object_length limits c g places = texts_length (map text_in (in_group limits.group g (column c places)))
+text_object_length limits c g places = texts_length
+    (map text_in (in_group limits.group g (column c places)))
 
 -- whether the text object would be longer than a text segment
 abbrev pub is_over : Limits → ℕ → ℕ → List Place → Bool
@@ -63,9 +64,14 @@ after_edit e table = record table { places = places_after e table.places; edits 
 -- whether a text object that the edit writes would be too long: an insert writes each column's, a set its own
 abbrev pub overfills : List Kind → Limits → Edit → List Place → Bool
 overfills schema limits (edit.Insert row) places =
-    list_any (λ (at : ℕ × Kind). is_text (Some at.1) && is_over limits at.0 (length places / limits.group) (places_after (edit.Insert row) places)) (enumerate_from 0 schema)
+    list_any
+    (λ (at : ℕ × Kind). is_text (Some at.1)
+    && is_over limits at.0 (length places / limits.group)
+    (places_after (edit.Insert row) places))
+    (enumerate_from 0 schema)
 overfills schema limits (edit.Set p c cell) places =
-    is_text (slice_get schema c) && is_over limits c (p / limits.group) (places_after (edit.Set p c cell) places)
+    is_text (slice_get schema c)
+    && is_over limits c (p / limits.group) (places_after (edit.Set p c cell) places)
 overfills schema limits (edit.Remove p) places = false
 
 -- the refusals of the edit itself, whichever objects are local: 4 to 10. A table whose objects move checks after these, and before the

@@ -28,7 +28,8 @@ with_pair totals pair = fin.insert totals pair.0 (count_sum_with pair.1 (fin.get
 -- totals with one value less under a key that has this count and this sum. A key whose last value goes is listed no more
 abbrev pub without_value : Totals → Option Key → ℤ → Option (ℕ × ℤ) → Totals
 without_value totals key value None = totals
-without_value totals key value (Some count_sum) = cond (count_sum.0 == 1) (fin.remove totals key) (fin.insert totals key (count_sum_without value count_sum))
+without_value totals key value (Some count_sum) = cond (count_sum.0 == 1) (fin.remove totals key)
+    (fin.insert totals key (count_sum_without value count_sum))
 
 -- totals with one pair less
 abbrev pub without_pair : Totals → Pair → Totals
@@ -36,7 +37,8 @@ without_pair totals pair = without_value totals pair.0 pair.1 (fin.get totals pa
 
 -- extrema with one pair more
 abbrev pub with_observed : Extrema → Pair → Extrema
-with_observed extrema pair = fin.insert extrema pair.0 (min_max_with pair.1 (fin.get extrema pair.0))
+with_observed extrema pair = fin.insert extrema pair.0
+    (min_max_with pair.1 (fin.get extrema pair.0))
 
 -- two values merged, if both are there; else the one that is there
 abbrev pub merge_two : {V : Type 0} → (V → V → V) → Option V → Option V → Option V
@@ -47,7 +49,10 @@ merge_two join (Some value) (Some other) = Some (join value other)
 -- the keys of either, each with its values merged
 abbrev pub joined : {V : Type 0} → (V → V → V) → ByKey V → ByKey V → ByKey V
 joined join one other =
-    fin.from_entries (filter_map (λ key. option_map (λ value. (key, value)) (merge_two join (fin.get one key) (fin.get other key))) (fin.keys one ++ fin.keys other))
+    fin.from_entries (filter_map
+    (λ key. option_map (λ value. (key, value))
+    (merge_two join (fin.get one key) (fin.get other key)))
+    (fin.keys one ++ fin.keys other))
 
 -- counts and sums are added
 abbrev pub add_count_sums : ℕ × ℤ → ℕ × ℤ → ℕ × ℤ

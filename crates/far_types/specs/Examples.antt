@@ -38,7 +38,8 @@ OverNoRows =
 -- totals by key: 5 a, 7 b, 5 a; and without the second row, whose key is then not listed
 abbrev pub TotalsByKey : Type 0
 TotalsByKey =
-    (answer_over (of_column fold.Totals (Some 1) []) (row (pos 5) a ∷ row (pos 7) b ∷ row (pos 5) a ∷ [])
+    (answer_over (of_column fold.Totals (Some 1) [])
+    (row (pos 5) a ∷ row (pos 7) b ∷ row (pos 5) a ∷ [])
     ≡ answer.Totals ((Some (key.Text a), 2, pos 10) ∷ (Some (key.Text b), 1, pos 7) ∷ []))
     × (answer_over (of_column fold.Totals (Some 1) []) (row (pos 5) a ∷ row (pos 5) a ∷ [])
     ≡ answer.Totals ((Some (key.Text a), 2, pos 10) ∷ []))
@@ -46,29 +47,43 @@ TotalsByKey =
 -- the sum is exact, far below the least number of 64 bits
 abbrev pub ExactSum : Type 0
 ExactSum =
-    answer_over (of_column fold.Totals None []) (row (negsuc 9223372036854775807) a ∷ row (negsuc 9223372036854775807) a ∷ [])
+    answer_over (of_column fold.Totals None [])
+    (row (negsuc 9223372036854775807) a ∷ row (negsuc 9223372036854775807) a ∷ [])
     ≡ answer.Totals ((None, 2, negsuc 18446744073709551615) ∷ [])
 
 -- extrema: 3, 3, 9; without one of the 3, and without both
 abbrev pub LeastAndGreatest : Type 0
 LeastAndGreatest =
-    (answer_over (of_column fold.Extrema None []) (row (pos 3) a ∷ row (pos 3) a ∷ row (pos 9) a ∷ []) ≡ answer.Extrema ((None, pos 3, pos 9) ∷ []))
-    × (answer_over (of_column fold.Extrema None []) (row (pos 3) a ∷ row (pos 9) a ∷ []) ≡ answer.Extrema ((None, pos 3, pos 9) ∷ []))
-    × (answer_over (of_column fold.Extrema None []) (row (pos 9) a ∷ []) ≡ answer.Extrema ((None, pos 9, pos 9) ∷ []))
+    (answer_over (of_column fold.Extrema None [])
+    (row (pos 3) a ∷ row (pos 3) a ∷ row (pos 9) a ∷ [])
+    ≡ answer.Extrema ((None, pos 3, pos 9) ∷ []))
+    × (answer_over (of_column fold.Extrema None []) (row (pos 3) a ∷ row (pos 9) a ∷ [])
+    ≡ answer.Extrema ((None, pos 3, pos 9) ∷ []))
+    × (answer_over (of_column fold.Extrema None []) (row (pos 9) a ∷ [])
+    ≡ answer.Extrema ((None, pos 9, pos 9) ∷ []))
 
 -- extrema by key of the rows whose number is above 4 and whose text begins with a: 5 ab, 4 ab, 9 b, 8 ab
 abbrev pub Filtered : Type 0
 Filtered =
     answer_over (of_column fold.Extrema (Some 1) (test.Int 0 op.Gt (pos 4) ∷ test.TextBegins 1 a ∷ []))
-    (row (pos 5) (codes "ab") ∷ row (pos 4) (codes "ab") ∷ row (pos 9) b ∷ row (pos 8) (codes "ab") ∷ [])
+    (row (pos 5) (codes "ab")
+    ∷ row (pos 4) (codes "ab")
+    ∷ row (pos 9) b
+    ∷ row (pos 8) (codes "ab")
+    ∷ [])
     ≡ answer.Extrema ((Some (key.Text (codes "ab")), pos 5, pos 8) ∷ [])
 
 -- rows without a value or without a key are not folded: 5 a, nothing a, 7 nothing
 abbrev pub some_missing : List (List Cell)
-some_missing = row (pos 5) a ∷ (cell.Missing ∷ cell.Text a ∷ []) ∷ (cell.Int (pos 7) ∷ cell.Missing ∷ []) ∷ []
+some_missing = row (pos 5) a
+    ∷ (cell.Missing ∷ cell.Text a ∷ [])
+    ∷ (cell.Int (pos 7) ∷ cell.Missing ∷ [])
+    ∷ []
 
 -- what totals of these rows are
 abbrev pub WithMissing : Type 0
 WithMissing =
-    (answer_over (of_column fold.Totals (Some 1) []) some_missing ≡ answer.Totals ((Some (key.Text a), 1, pos 5) ∷ []))
-    × (answer_over (of_column fold.Totals None (test.Int 0 op.Ne (pos 9) ∷ [])) some_missing ≡ answer.Totals ((None, 2, pos 12) ∷ []))
+    (answer_over (of_column fold.Totals (Some 1) []) some_missing
+    ≡ answer.Totals ((Some (key.Text a), 1, pos 5) ∷ []))
+    × (answer_over (of_column fold.Totals None (test.Int 0 op.Ne (pos 9) ∷ [])) some_missing
+    ≡ answer.Totals ((None, 2, pos 12) ∷ []))

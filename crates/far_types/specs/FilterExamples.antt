@@ -16,8 +16,10 @@ use Rattle.far_types.specs.Examples.{of_column, row, a}
 -- 4 against 4 by each comparison, and a number below zero
 abbrev pub Comparisons : Type 0
 Comparisons =
-    (map (λ o. compares o (pos 4) (pos 4)) (op.Eq ∷ op.Ne ∷ op.Lt ∷ op.Le ∷ op.Gt ∷ op.Ge ∷ []) ≡ true ∷ false ∷ false ∷ true ∷ false ∷ true ∷ [])
-    × (map (λ o. compares o (negsuc 4) (pos 4)) (op.Eq ∷ op.Ne ∷ op.Lt ∷ op.Le ∷ op.Gt ∷ op.Ge ∷ []) ≡ false ∷ true ∷ true ∷ true ∷ false ∷ false ∷ [])
+    (map (λ o. compares o (pos 4) (pos 4)) (op.Eq ∷ op.Ne ∷ op.Lt ∷ op.Le ∷ op.Gt ∷ op.Ge ∷ [])
+    ≡ true ∷ false ∷ false ∷ true ∷ false ∷ true ∷ [])
+    × (map (λ o. compares o (negsuc 4) (pos 4)) (op.Eq ∷ op.Ne ∷ op.Lt ∷ op.Le ∷ op.Gt ∷ op.Ge ∷ [])
+    ≡ false ∷ true ∷ true ∷ true ∷ false ∷ false ∷ [])
 
 -- whether a test holds of the row 5 ab
 abbrev pub holds_of_ab : Test → Bool
@@ -27,8 +29,11 @@ holds_of_ab t = passes t (cells_of (row (pos 5) (codes "ab")))
 abbrev pub TestsOfTexts : Type 0
 TestsOfTexts =
     (map (λ text. holds_of_ab (test.TextIs 1 text)) (codes "ab" ∷ a ∷ []) ≡ true ∷ false ∷ [])
-    × (map (λ text. holds_of_ab (test.TextBegins 1 text)) ([] ∷ a ∷ codes "abc" ∷ []) ≡ true ∷ true ∷ false ∷ [])
-    × (map holds_of_ab (test.TextBegins 0 [] ∷ test.Int 1 op.Ne (pos 9) ∷ test.Int 2 op.Ne (pos 9) ∷ []) ≡ false ∷ false ∷ false ∷ [])
+    × (map (λ text. holds_of_ab (test.TextBegins 1 text)) ([] ∷ a ∷ codes "abc" ∷ [])
+    ≡ true ∷ true ∷ false ∷ [])
+    × (map holds_of_ab
+    (test.TextBegins 0 [] ∷ test.Int 1 op.Ne (pos 9) ∷ test.Int 2 op.Ne (pos 9) ∷ [])
+    ≡ false ∷ false ∷ false ∷ [])
 
 -- why a table of a column of numbers and one of texts refuses an aggregate
 abbrev pub refusal_of : Spec → Option Refusal
@@ -43,11 +48,13 @@ of_numbers key t = of_column fold.Totals (Some key) (t ∷ [])
 abbrev pub AllowedAggregates : Type 0
 AllowedAggregates =
     (refusal_of (of_column fold.Extrema (Some 0) (replicate 4 (test.TextIs 1 a))) ≡ None)
-    × (refusal_of (of_column fold.Extrema (Some 9) (replicate 5 (test.TextIs 9 a))) ≡ Some refusal.BadSpec)
+    × (refusal_of (of_column fold.Extrema (Some 9) (replicate 5 (test.TextIs 9 a)))
+    ≡ Some refusal.BadSpec)
     × (refusal_of (of_numbers 1 (test.TextBegins 1 (replicate 4096 97))) ≡ None)
     × (refusal_of (of_numbers 1 (test.TextBegins 1 (replicate 4097 97))) ≡ Some refusal.BadSpec)
     × (refusal_of (of_numbers 2 (test.TextIs 0 a)) ≡ Some refusal.NoColumn)
     × (refusal_of (of_numbers 1 (test.TextIs 2 a)) ≡ Some refusal.NoColumn)
     × (refusal_of (of_numbers 1 (test.TextIs 0 a)) ≡ Some refusal.WrongKind)
     × (refusal_of (of_numbers 1 (test.Int 1 op.Ne (pos 9))) ≡ Some refusal.WrongKind)
-    × (refusal_of (record { fold = fold.Totals; value = 1; key = None; filter = [] }) ≡ Some refusal.WrongKind)
+    × (refusal_of (record { fold = fold.Totals; value = 1; key = None; filter = [] })
+    ≡ Some refusal.WrongKind)

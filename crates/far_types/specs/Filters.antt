@@ -36,9 +36,12 @@ text_passes holds None = false
 
 -- a test of one column: texts are compared by bytes
 abbrev pub passes : Test → Cells → Bool
-passes (test.Int column op value) cells = number_passes (λ number. compares op number value) (cells column)
-passes (test.TextIs column constant) cells = text_passes (λ text. pointwise ◌==◌ text constant) (cells column)
-passes (test.TextBegins column constant) cells = text_passes (λ text. starts_with ◌==◌ text constant) (cells column)
+passes (test.Int column op value) cells = number_passes (λ number. compares op number value)
+    (cells column)
+passes (test.TextIs column constant) cells = text_passes (λ text. pointwise ◌==◌ text constant)
+    (cells column)
+passes (test.TextBegins column constant) cells = text_passes
+    (λ text. starts_with ◌==◌ text constant) (cells column)
 
 -- a filter keeps a row that passes all its tests
 abbrev pub keeps : List Test → Cells → Bool

@@ -11,7 +11,15 @@ use Rattle.far_types.specs.Examples.{a}
 
 -- a table of numbers with space for 2 places and 3 edits
 abbrev pub small : Table
-small = empty_table (kind.Int ∷ []) (record { group = 4; places = 2; edits = 3; int_segments = 1; int_size = 4; text_segments = 1; text_size = 64 })
+small = empty_table (kind.Int ∷ []) (record {
+  group = 4;
+  places = 2;
+  edits = 3;
+  int_segments = 1;
+  int_size = 4;
+  text_segments = 1;
+  text_size = 64;
+})
 
 -- an insert of a number
 abbrev pub number : ℤ → Edit
@@ -26,21 +34,33 @@ abbrev pub UsedUp : Type 0
 UsedUp =
     (edit_refusal full (number (pos 3)) ≡ Some refusal.TableFull)
     × (edit_refusal full (edit.Set 0 0 (cell.Int (pos 1))) ≡ None)
-    × (edit_refusal (after_edit (edit.Set 0 0 (cell.Int (pos 1))) full) (edit.Set 0 0 (cell.Int (pos 1))) ≡ Some refusal.EditsUsedUp)
+    × (edit_refusal (after_edit (edit.Set 0 0 (cell.Int (pos 1))) full)
+    (edit.Set 0 0 (cell.Int (pos 1)))
+    ≡ Some refusal.EditsUsedUp)
     × (rows_of (after_edit (edit.Remove 1) full).places ≡ (cell.Int (pos 1) ∷ []) ∷ [])
 
 -- the order of refusals: kinds before the width, the column before the place, the place before its flag
 abbrev pub FirstRefusal : Type 0
 FirstRefusal =
-    (edit_refusal small (edit.Insert (cell.Text a ∷ cell.Int (pos 2) ∷ [])) ≡ Some refusal.WrongKind)
-    × (edit_refusal small (edit.Insert (cell.Int (pos 1) ∷ cell.Int (pos 2) ∷ [])) ≡ Some refusal.RowWidth)
+    (edit_refusal small (edit.Insert (cell.Text a ∷ cell.Int (pos 2) ∷ []))
+    ≡ Some refusal.WrongKind)
+    × (edit_refusal small (edit.Insert (cell.Int (pos 1) ∷ cell.Int (pos 2) ∷ []))
+    ≡ Some refusal.RowWidth)
     × (edit_refusal small (edit.Set 0 7 (cell.Int (pos 1))) ≡ Some refusal.NoColumn)
     × (edit_refusal small (edit.Set 0 0 (cell.Int (pos 1))) ≡ Some refusal.NoRow)
     × (edit_refusal (after_edit (edit.Remove 0) full) (edit.Remove 0) ≡ Some refusal.RemovedRow)
 
 -- a table of texts whose objects may have 64 bytes: a head of 6, 4 for each text's end, and the texts
 abbrev pub texts : Table
-texts = empty_table (kind.Text ∷ []) (record { group = 4; places = 100; edits = 100; int_segments = 4; int_size = 4; text_segments = 2; text_size = 64 })
+texts = empty_table (kind.Text ∷ []) (record {
+  group = 4;
+  places = 100;
+  edits = 100;
+  int_segments = 4;
+  int_size = 4;
+  text_segments = 2;
+  text_size = 64;
+})
 
 -- an insert of as many letters
 abbrev pub text_of : ℕ → Edit
@@ -53,4 +73,5 @@ OverLength =
     × (edit_refusal texts (text_of 55) ≡ Some refusal.ChunkFull)
     × (edit_refusal (after_edit (text_of 54) texts) (text_of 0) ≡ Some refusal.ChunkFull)
     × (edit_refusal (after_edit (text_of 50) texts) (text_of 0) ≡ None)
-    × (edit_refusal (after_edit (text_of 50) texts) (edit.Insert (cell.Missing ∷ [])) ≡ Some refusal.ChunkFull)
+    × (edit_refusal (after_edit (text_of 50) texts) (edit.Insert (cell.Missing ∷ []))
+    ≡ Some refusal.ChunkFull)

@@ -20,7 +20,11 @@ sentence_of NoAggregate = codes "no aggregate has this number"
 sentence_of TooManyAggregates = codes "no further aggregate may be registered"
 sentence_of OutOfRange = codes "a number is out of its range"
 sentence_of (Building left) = codes "row groups still to be scanned: " ++ decimal left
-sentence_of (Absent column group) = codes "column " ++ decimal column ++ codes " of row group " ++ decimal group ++ codes " is away"
+sentence_of (Absent column group) = codes "column "
+    ++ decimal column
+    ++ codes " of row group "
+    ++ decimal group
+    ++ codes " is away"
 sentence_of RegionFull = codes "local memory has no room for the object"
 sentence_of NotPinned = codes "the object has no pin"
 sentence_of Pinned = codes "the object is pinned"

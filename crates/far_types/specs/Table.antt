@@ -32,7 +32,14 @@ pub record Table : Type 0 where
 
 -- a table as it is opened
 abbrev pub empty_table : List Kind → Limits → Table
-empty_table schema limits = record { schema = schema; limits = limits; places = []; edits = 0; registrations = 0; aggregates = replicate 32 None }
+empty_table schema limits = record {
+  schema = schema;
+  limits = limits;
+  places = [];
+  edits = 0;
+  registrations = 0;
+  aggregates = replicate 32 None;
+}
 
 -- the rows: the cells of the places that are alive, in order of place
 abbrev pub rows_of : List Place → List (List Cell)

@@ -17,7 +17,8 @@ ghost use Rattle.far_types.specs.EditExamples.{WhatEditsDo, SpaceForTexts, Order
 
 /// The rows of a table give an aggregate the same pairs, in the same order, as the table's places.
 pub fn pairs_follow_the_places()
-    ensures { (spec : Spec) → (places : List Place) → pairs_of spec (rows_of places) ≡ filter_map (place_pair spec) places }
+    ensures { (spec : Spec) → (places : List Place)
+        → pairs_of spec (rows_of places) ≡ filter_map (place_pair spec) places }
 {}
 
 /// How totals follow the folded rows:
@@ -26,10 +27,14 @@ pub fn pairs_follow_the_places()
 /// - in another order, which changes nothing;
 /// - when two lists are joined.
 pub fn totals_follow_the_pairs()
-    ensures more { (pair : Pair) → (pairs : List Pair) → totals (pair ∷ pairs) ≡ with_pair (totals pairs) pair }
-    ensures less { (pair : Pair) → (pairs : List Pair) → without_pair (totals (pair ∷ pairs)) pair ≡ totals pairs }
-    ensures anywhere { (before : List Pair) → (pair : Pair) → (after : List Pair) → totals (before ++ pair ∷ after) ≡ totals (pair ∷ (before ++ after)) }
-    ensures joined { (some : List Pair) → (others : List Pair) → totals (some ++ others) ≡ joined_totals (totals some) (totals others) }
+    ensures more { (pair : Pair) → (pairs : List Pair)
+        → totals (pair ∷ pairs) ≡ with_pair (totals pairs) pair }
+    ensures less { (pair : Pair) → (pairs : List Pair)
+        → without_pair (totals (pair ∷ pairs)) pair ≡ totals pairs }
+    ensures anywhere { (before : List Pair) → (pair : Pair) → (after : List Pair)
+        → totals (before ++ pair ∷ after) ≡ totals (pair ∷ (before ++ after)) }
+    ensures joined { (some : List Pair) → (others : List Pair)
+        → totals (some ++ others) ≡ joined_totals (totals some) (totals others) }
 {}
 
 /// How extrema follow the folded rows:
@@ -39,9 +44,12 @@ pub fn totals_follow_the_pairs()
 ///
 /// One pair less has no such law, since only the extremes are kept: the row group is read again.
 pub fn extrema_follow_the_pairs()
-    ensures more { (pair : Pair) → (pairs : List Pair) → extrema (pair ∷ pairs) ≡ with_observed (extrema pairs) pair }
-    ensures anywhere { (before : List Pair) → (pair : Pair) → (after : List Pair) → extrema (before ++ pair ∷ after) ≡ extrema (pair ∷ (before ++ after)) }
-    ensures joined { (some : List Pair) → (others : List Pair) → extrema (some ++ others) ≡ joined_extrema (extrema some) (extrema others) }
+    ensures more { (pair : Pair) → (pairs : List Pair)
+        → extrema (pair ∷ pairs) ≡ with_observed (extrema pairs) pair }
+    ensures anywhere { (before : List Pair) → (pair : Pair) → (after : List Pair)
+        → extrema (before ++ pair ∷ after) ≡ extrema (pair ∷ (before ++ after)) }
+    ensures joined { (some : List Pair) → (others : List Pair)
+        → extrema (some ++ others) ≡ joined_extrema (extrema some) (extrema others) }
 {}
 
 /// What the lines of totals are:
@@ -49,22 +57,34 @@ pub fn extrema_follow_the_pairs()
 /// - A key is there exactly if a folded row has it. Its line has the count of these rows, at least one, and the sum of their values.
 /// - The sum of at most 2^26 values is at most 2^89 in absolute value.
 pub fn total_lines_are_by_key()
-    ensures ascending { (pairs : List Pair) → IsStrictlySortedBy line_cmp (map (λ line. line.0) (total_lines (totals pairs))) }
-    ensures occurring { (pairs : List Pair) → (key : Option Key) → list_any (eq_by_cmp line_cmp key) (map (λ line. line.0) (total_lines (totals pairs))) ≡ list_any (is_under key) pairs }
-    ensures counts { (pairs : List Pair) → All (λ line. line.1 ≡ length (values_of line.0 pairs)) (total_lines (totals pairs)) }
-    ensures sums { (pairs : List Pair) → All (λ line. line.2 ≡ int_sum (values_of line.0 pairs)) (total_lines (totals pairs)) }
+    ensures ascending { (pairs : List Pair)
+        → IsStrictlySortedBy line_cmp (map (λ line. line.0) (total_lines (totals pairs))) }
+    ensures occurring { (pairs : List Pair) → (key : Option Key)
+        → list_any (eq_by_cmp line_cmp key) (map (λ line. line.0) (total_lines (totals pairs)))
+        ≡ list_any (is_under key) pairs }
+    ensures counts { (pairs : List Pair)
+        → All (λ line. line.1 ≡ length (values_of line.0 pairs)) (total_lines (totals pairs)) }
+    ensures sums { (pairs : List Pair)
+        → All (λ line. line.2 ≡ int_sum (values_of line.0 pairs)) (total_lines (totals pairs)) }
     ensures counted { (pairs : List Pair) → All (λ line. 1 ≤ line.1) (total_lines (totals pairs)) }
-    ensures bounded { (pairs : List Pair) → PairsFit pairs → length pairs ≤ 2 ^ 26 → All (λ line. (neg_ℤ (pos (2 ^ 89)) ≤ℤ line.2) × (line.2 ≤ℤ pos (2 ^ 89))) (total_lines (totals pairs)) }
+    ensures bounded { (pairs : List Pair) → PairsFit pairs → length pairs ≤ 2 ^ 26
+        → All (λ line. (neg_ℤ (pos (2 ^ 89)) ≤ℤ line.2) × (line.2 ≤ℤ pos (2 ^ 89)))
+        (total_lines (totals pairs)) }
 {}
 
 /// What the lines of extrema are:
 /// - Their keys ascend, and none stands twice.
 /// - A key is there exactly if a folded row has it. Its line has the least and the greatest value of these rows.
 pub fn extrema_lines_are_by_key()
-    ensures ascending { (pairs : List Pair) → IsStrictlySortedBy line_cmp (map (λ line. line.0) (extrema_lines (extrema pairs))) }
-    ensures occurring { (pairs : List Pair) → (key : Option Key) → list_any (eq_by_cmp line_cmp key) (map (λ line. line.0) (extrema_lines (extrema pairs))) ≡ list_any (is_under key) pairs }
-    ensures minima { (pairs : List Pair) → All (λ line. line.1 ≡ least (values_of line.0 pairs)) (extrema_lines (extrema pairs)) }
-    ensures maxima { (pairs : List Pair) → All (λ line. line.2 ≡ greatest (values_of line.0 pairs)) (extrema_lines (extrema pairs)) }
+    ensures ascending { (pairs : List Pair)
+        → IsStrictlySortedBy line_cmp (map (λ line. line.0) (extrema_lines (extrema pairs))) }
+    ensures occurring { (pairs : List Pair) → (key : Option Key)
+        → list_any (eq_by_cmp line_cmp key) (map (λ line. line.0) (extrema_lines (extrema pairs)))
+        ≡ list_any (is_under key) pairs }
+    ensures minima { (pairs : List Pair)
+        → All (λ line. line.1 ≡ least (values_of line.0 pairs)) (extrema_lines (extrema pairs)) }
+    ensures maxima { (pairs : List Pair)
+        → All (λ line. line.2 ≡ greatest (values_of line.0 pairs)) (extrema_lines (extrema pairs)) }
 {}
 
 /// Small tables, and what the definitions say of them. A wrong definition fails here.

@@ -18,7 +18,12 @@ fn byte_at(bytes: &[u8], place: usize) -> u8
 #[inline(always)]
 fn four_from(bytes: &[u8], place: usize) -> u32
     requires { place + 4 ≤ length bytes.now }
-    ensures { result ≡ from_be_bytes w32 (slice_index bytes.now place ∷ slice_index bytes.now (place + 1) ∷ slice_index bytes.now (place + 2) ∷ slice_index bytes.now (place + 3) ∷ []) }
+    ensures { result
+        ≡ from_be_bytes w32 (slice_index bytes.now place
+        ∷ slice_index bytes.now (place + 1)
+        ∷ slice_index bytes.now (place + 2)
+        ∷ slice_index bytes.now (place + 3)
+        ∷ []) }
 {
     u32::from_be_bytes([
         bytes[place],

@@ -135,7 +135,8 @@ impl Spec {
 
     /// Returns the same aggregate over only those rows that also pass this test. Refused with `NoMemory` (1) alone.
     pub fn only(self, test: Test) -> Result<Spec, Refusal>
-        ensures test { IfOk result (λ spec. spec ≡ record self { filter = self.filter ++ test ∷ [] }) }
+        ensures test { IfOk result
+            (λ spec. spec ≡ record self { filter = self.filter ++ test ∷ [] }) }
         ensures memory { IfErr result (λ e. e ≡ Refusal.NoMemory) }
     {
         let Spec {

@@ -30,7 +30,8 @@ impl Model for Text {
 
     ghost view = { λ t. string_bytes t.string };
 
-    ghost invariant = { λ t. (t.prefix ≡ prefix_of (string_bytes t.string)) × AreBytes (string_bytes t.string) };
+    ghost invariant = { λ t. (t.prefix ≡ prefix_of (string_bytes t.string))
+        × AreBytes (string_bytes t.string) };
 }
 
 impl Text {
@@ -133,7 +134,8 @@ impl Ord for Text {
 impl PartialOrd for Text {
     ghost partial_cmp = { as_partial_cmp (slice_cmp nat_cmp) };
 
-    ghost laws = { partial_order_from_own_ties (Prim.search (comparing, rules)) (Prim.search (comparing, rules)) };
+    ghost laws = { partial_order_from_own_ties (Prim.search (comparing, rules))
+        (Prim.search (comparing, rules)) };
 
     fn partial_cmp(&self, other: &Text) -> Option<Ordering> {
         Some(self.cmp(other))

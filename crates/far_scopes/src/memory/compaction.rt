@@ -30,8 +30,10 @@ impl<T: Elem> LocalMemory<T> {
         ensures ok { OnOk result (IsCompacted self.old self.new segment) }
         ensures lists { (p : ℕ) → list_in self.new p ≡ list_in self.old p }
         ensures missing { IsErrOf result Refusal.OutOfRange ↔ (length self.old.state ≤ segment) }
-        ensures full { IsErrOf result Refusal.RegionFull ↔ ((segment < length self.old.state) × HasNoEmptyOther self.old.state segment) }
-        ensures refused { IfErr result (λ e. (e ≡ Refusal.OutOfRange) ⊎ ((e ≡ Refusal.RegionFull) ⊎ (e ≡ Refusal.NoMemory))) }
+        ensures full { IsErrOf result Refusal.RegionFull
+            ↔ ((segment < length self.old.state) × HasNoEmptyOther self.old.state segment) }
+        ensures refused { IfErr result
+            (λ e. (e ≡ Refusal.OutOfRange) ⊎ ((e ≡ Refusal.RegionFull) ⊎ (e ≡ Refusal.NoMemory))) }
         ensures err { OnErr result (self.new ≡ self.old) }
     {
         self.region.may_compact(segment)?;
@@ -75,7 +77,8 @@ fn objects_in(
     segment: u32,
     hot: bool,
 ) -> Result<Vec<SegmentObject>, Refusal>
-    ensures found { IfOk result (λ found. AreObjects words.now segment hot (length words.now) found.items) }
+    ensures found { IfOk result
+        (λ found. AreObjects words.now segment hot (length words.now) found.items) }
     ensures memory { IfErr result (λ e. e ≡ Refusal.NoMemory) }
 {
     let mut found = Vec::new(alloc);
@@ -103,7 +106,8 @@ fn offset_if(word: Word, segment: u32, hot: bool) -> Option<u32>
 
 // Returns the offsets of the objects' parts.
 fn offsets_of(alloc: Global, objects: &[SegmentObject]) -> Result<Vec<u32>, Refusal>
-    ensures offsets { IfOk result (λ offsets. offsets.items ≡ map (λ found. found.offset) objects.now) }
+    ensures offsets { IfOk result
+        (λ offsets. offsets.items ≡ map (λ found. found.offset) objects.now) }
     ensures memory { IfErr result (λ e. e ≡ Refusal.NoMemory) }
 {
     let mut offsets = Vec::with_capacity(alloc, objects.len())?;
@@ -116,7 +120,8 @@ fn settle(words: &mut [Word], objects: &[SegmentObject], moved: &Moved) -> usize
     requires within { All (λ found. found.object < length words.old) objects.now }
     requires once { AllPairs (λ o p. o ≢ p) (map (λ found. found.object) objects.now) }
     requires long { length moved.now.offsets.items ≡ length objects.now }
-    ensures settled { Settles words.old words.new objects.now moved.now.segment moved.now.offsets.items (length objects.now) }
+    ensures settled { Settles words.old words.new objects.now moved.now.segment
+        moved.now.offsets.items (length objects.now) }
     ensures cooled { cool_in words.new ≡ cool_in words.old + result }
 {
     let mut cooled = 0;

@@ -15,7 +15,9 @@ impl<T: Elem> LocalMemory<T> {
         requires long { IfSome (list_in self.old o) (λ list. length list ≡ len) }
         ensures* writes_back { sem 𝓛 (lends_part T.row self.entry o 0 result) }
         ensures lent { list_in self.old o ≡ Some result.now }
-        ensures alone { (list : List T) → length list ≡ length result.now → ChangesList (list_in self.old) (list_in (after_overwrite self.old o 0 list)) o (Some list) }
+        ensures alone { (list : List T) → length list ≡ length result.now
+            → ChangesList (list_in self.old) (list_in (after_overwrite self.old o 0 list)) o
+            (Some list) }
     {
         let at = at_of(self.words[o]);
         let region = &mut self.region;
@@ -27,8 +29,12 @@ impl<T: Elem> LocalMemory<T> {
         requires ordered { from ≤ to }
         requires within { IsSomeAnd (list_in self.old o) (λ list. to ≤ length list) }
         ensures* writes_back { sem 𝓛 (lends_part T.row self.entry o from result) }
-        ensures lent { IsSomeAnd (list_in self.old o) (λ list. result.now ≡ slice_range list from to) }
-        ensures alone { IsSomeAnd (list_in self.old o) (λ list. (range : List T) → length range ≡ to - from → ChangesList (list_in self.old) (list_in (after_overwrite self.old o from range)) o (Some (take from list ++ (range ++ drop to list)))) }
+        ensures lent { IsSomeAnd (list_in self.old o)
+            (λ list. result.now ≡ slice_range list from to) }
+        ensures alone { IsSomeAnd (list_in self.old o) (λ list. (range : List T)
+            → length range ≡ to - from
+            → ChangesList (list_in self.old) (list_in (after_overwrite self.old o from range)) o
+            (Some (take from list ++ (range ++ drop to list)))) }
     {
         let at = at_of(self.words[o]);
         let region = &mut self.region;

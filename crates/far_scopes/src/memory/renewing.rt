@@ -12,7 +12,8 @@ impl<T: Elem> LocalMemory<T> {
     pub fn forget_copies(&mut self)
         ensures renewed { self.new ≡ renewed_memory self.old }
         ensures lists { (p : ℕ) → list_in self.new p ≡ list_in self.old p }
-        ensures placed { (p : ℕ) → IsSome (place_of self.old.words p) → IsSome (list_in self.old p) }
+        ensures placed { (p : ℕ) → IsSome (place_of self.old.words p)
+            → IsSome (list_in self.old p) }
     {
         for word in self.words.iter_mut() {
             *word = without_copy(*word);

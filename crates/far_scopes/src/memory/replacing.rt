@@ -26,9 +26,15 @@ impl<T: Elem> LocalMemory<T> {
         requires once { AreListedOnce lists.now }
         ensures ok { OnOk result (self.new ≡ replaced_all self.old lists.now) }
         ensures lists { OnOk result (ChangesLists (list_in self.old) (list_in self.new) lists.now) }
-        ensures free { OnOk result (option_or (first_of (no_space_for_all self.old.state lists.now ∷ [])) (refusal_in checked) ≡ None) }
-        ensures refused { IfErr result (λ e. (option_or (first_of (no_space_for_all self.old.state lists.now ∷ [])) (refusal_in checked) ≡ Some e) ⊎ (e ≡ Refusal.NoMemory)) }
-        ensures memory { IfErr result (λ e. e ≡ Refusal.NoMemory → first_fits self.old.state lists.now ≡ true) }
+        ensures free { OnOk result (option_or
+            (first_of (no_space_for_all self.old.state lists.now ∷ [])) (refusal_in checked)
+            ≡ None) }
+        ensures refused { IfErr result (λ e. (option_or
+            (first_of (no_space_for_all self.old.state lists.now ∷ [])) (refusal_in checked)
+            ≡ Some e)
+            ⊎ (e ≡ Refusal.NoMemory)) }
+        ensures memory { IfErr result
+            (λ e. e ≡ Refusal.NoMemory → first_fits self.old.state lists.now ≡ true) }
         ensures err { OnErr result (self.new ≡ self.old) }
     {
         let Some((first, rest)) = lists.split_first() else {
@@ -51,7 +57,8 @@ impl<T: Elem> LocalMemory<T> {
         requires last { IsSome (place_of self.old.words (length self.old.words - 1)) }
         ensures effect { self.new ≡ after_take_over self.old o }
         ensures here { list_in self.new o ≡ list_in self.old (length self.old.words - 1) }
-        ensures others { (p : ℕ) → p ≢ o → p ≢ length self.old.words - 1 → list_in self.new p ≡ list_in self.old p }
+        ensures others { (p : ℕ) → p ≢ o → p ≢ length self.old.words - 1
+            → list_in self.new p ≡ list_in self.old p }
     {
         let Some(last) = self.words.pop() else {
             unreachable!()

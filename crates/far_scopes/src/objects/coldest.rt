@@ -18,7 +18,8 @@ impl<T: Elem, S: FarTickets> Objects<T, S> {
         ensures coldest { result ≡ coldest self.now }
         ensures local { IfSome result (λ o. is_local self.now o ≡ true) }
         ensures unpinned { IfSome result (λ o. pins_of self.now o ≡ 0) }
-        ensures none { (result ≡ None) ↔ ((o : ℕ) → is_local self.now o ≡ true → pins_of self.now o ≢ 0) }
+        ensures none { (result ≡ None)
+            ↔ ((o : ℕ) → is_local self.now o ≡ true → pins_of self.now o ≢ 0) }
     {
         if self.memory.cool() == 0 {
             return self.last_unpinned();

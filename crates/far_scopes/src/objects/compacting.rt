@@ -24,12 +24,18 @@ impl<T: Elem, S: FarTickets> Objects<T, S> {
     pub fn compact(&mut self, alloc: Global, segment: u32) -> Result<(), Refusal>
         ensures compacted { OnOk result (IsCompacted self.old.memory self.new.memory segment) }
         ensures kept { self.new ≡ record self.old { memory = self.new.memory } }
-        ensures lists { (p : ℕ) → list_of T.meaning S.content self.new p ≡ list_of T.meaning S.content self.old p }
-        ensures clean { AreClean T.meaning S.content self.old → AreClean T.meaning S.content self.new }
+        ensures lists { (p : ℕ)
+            → list_of T.meaning S.content self.new p ≡ list_of T.meaning S.content self.old p }
+        ensures clean { AreClean T.meaning S.content self.old
+            → AreClean T.meaning S.content self.new }
         ensures store { (id : List ℕ) → AreHere S.is_of id self.old → AreHere S.is_of id self.new }
-        ensures missing { IsErrOf result Refusal.OutOfRange ↔ (length self.old.memory.state ≤ segment) }
-        ensures full { IsErrOf result Refusal.RegionFull ↔ ((segment < length self.old.memory.state) × HasNoEmptyOther self.old.memory.state segment) }
-        ensures refused { IfErr result (λ e. (e ≡ Refusal.OutOfRange) ⊎ ((e ≡ Refusal.RegionFull) ⊎ (e ≡ Refusal.NoMemory))) }
+        ensures missing { IsErrOf result Refusal.OutOfRange
+            ↔ (length self.old.memory.state ≤ segment) }
+        ensures full { IsErrOf result Refusal.RegionFull
+            ↔ ((segment < length self.old.memory.state)
+            × HasNoEmptyOther self.old.memory.state segment) }
+        ensures refused { IfErr result
+            (λ e. (e ≡ Refusal.OutOfRange) ⊎ ((e ≡ Refusal.RegionFull) ⊎ (e ≡ Refusal.NoMemory))) }
         ensures err { OnErr result (self.new ≡ self.old) }
     {
         self.memory.compact(alloc, segment)?;

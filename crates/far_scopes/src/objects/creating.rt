@@ -26,14 +26,20 @@ impl<T: Elem, S: FarTickets> Objects<T, S> {
         requires few { length self.old.records < 2 ^ 28 }
         ensures number { IfOk result (λ o. o ≡ length self.old.records) }
         ensures created { OnOk result (self.new ≡ after_create self.old name items.now) }
-        ensures list { OnOk result (ChangesList (list_of T.meaning S.content self.old) (list_of T.meaning S.content self.new) (length self.old.records) (Some items.now)) }
+        ensures list { OnOk result (ChangesList (list_of T.meaning S.content self.old)
+            (list_of T.meaning S.content self.new) (length self.old.records) (Some items.now)) }
         ensures undone { OnOk result (after_uncreate self.new ≡ self.old) }
-        ensures last { OnOk result ((is_local self.new (length self.old.records) ≡ true) × (pins_of self.new (length self.old.records) ≡ 0)) }
-        ensures next { OnOk result ((lens : List ℕ) → fit_in_order (spaces_of self.old.memory.state) (length items.now ∷ lens) ≡ fit_in_order (spaces_of self.new.memory.state) lens) }
-        ensures clean { AreClean T.meaning S.content self.old → AreClean T.meaning S.content self.new }
+        ensures last { OnOk result ((is_local self.new (length self.old.records) ≡ true)
+            × (pins_of self.new (length self.old.records) ≡ 0)) }
+        ensures next { OnOk result ((lens : List ℕ)
+            → fit_in_order (spaces_of self.old.memory.state) (length items.now ∷ lens)
+            ≡ fit_in_order (spaces_of self.new.memory.state) lens) }
+        ensures clean { AreClean T.meaning S.content self.old
+            → AreClean T.meaning S.content self.new }
         ensures others { OnOk result (ChangesObject self.old self.new (length self.old.records)) }
         ensures store { (id : List ℕ) → AreHere S.is_of id self.old → AreHere S.is_of id self.new }
-        ensures full { IsErrOf result Refusal.RegionFull ↔ (fits_in self.old.memory.state (length items.now) ≡ false) }
+        ensures full { IsErrOf result Refusal.RegionFull
+            ↔ (fits_in self.old.memory.state (length items.now) ≡ false) }
         ensures refused { IfErr result (λ e. (e ≡ Refusal.RegionFull) ⊎ (e ≡ Refusal.NoMemory)) }
         ensures err { OnErr result (self.new ≡ self.old) }
     {
@@ -63,8 +69,10 @@ impl<T: Elem, S: FarTickets> Objects<T, S> {
         requires local { is_local self.old (length self.old.records - 1) ≡ true }
         requires unpinned { pins_of self.old (length self.old.records - 1) ≡ 0 }
         ensures uncreated { self.new ≡ after_uncreate self.old }
-        ensures list { ChangesList (list_of T.meaning S.content self.old) (list_of T.meaning S.content self.new) (length self.old.records - 1) None }
-        ensures clean { AreClean T.meaning S.content self.old → AreClean T.meaning S.content self.new }
+        ensures list { ChangesList (list_of T.meaning S.content self.old)
+            (list_of T.meaning S.content self.new) (length self.old.records - 1) None }
+        ensures clean { AreClean T.meaning S.content self.old
+            → AreClean T.meaning S.content self.new }
         ensures others { ChangesObject self.old self.new (length self.old.records - 1) }
         ensures store { (id : List ℕ) → AreHere S.is_of id self.old → AreHere S.is_of id self.new }
     {

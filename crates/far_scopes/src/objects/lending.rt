@@ -63,12 +63,20 @@ impl<T: Elem, S: FarTickets> Objects<T, S> {
     pub fn lend_mut(&mut self, o: u32) -> &mut [T]
         requires within { o < length self.old.records }
         requires free { write_refusal self.old o ≡ None }
-        ensures* writes_back { sem 𝓛 (lends_written T.row S.row S.Ticket.row T.Elem S.FarTickets self.entry o 0 result) }
+        ensures* writes_back { sem 𝓛
+            (lends_written T.row S.row S.Ticket.row T.Elem S.FarTickets self.entry o 0 result) }
         ensures lent { list_in self.old.memory o ≡ Some result.now }
-        ensures alone { (list : List T) → length list ≡ length result.now → ChangesList (list_of T.meaning S.content self.old) (list_of T.meaning S.content (after_overwrite (after_write self.old o) o 0 list)) o (Some list) }
-        ensures clean { (list : List T) → length list ≡ length result.now → AreClean T.meaning S.content self.old → AreClean T.meaning S.content (after_overwrite (after_write self.old o) o 0 list) }
-        ensures others { (list : List T) → ChangesObject self.old (after_overwrite (after_write self.old o) o 0 list) o }
-        ensures store { (list : List T) (id : List ℕ) → AreHere S.is_of id self.old → AreHere S.is_of id (after_overwrite (after_write self.old o) o 0 list) }
+        ensures alone { (list : List T) → length list ≡ length result.now
+            → ChangesList (list_of T.meaning S.content self.old)
+            (list_of T.meaning S.content (after_overwrite (after_write self.old o) o 0 list)) o
+            (Some list) }
+        ensures clean { (list : List T) → length list ≡ length result.now
+            → AreClean T.meaning S.content self.old
+            → AreClean T.meaning S.content (after_overwrite (after_write self.old o) o 0 list) }
+        ensures others { (list : List T)
+            → ChangesObject self.old (after_overwrite (after_write self.old o) o 0 list) o }
+        ensures store { (list : List T) (id : List ℕ) → AreHere S.is_of id self.old
+            → AreHere S.is_of id (after_overwrite (after_write self.old o) o 0 list) }
     {
         self.mark(o);
         let len = self.records[o as usize].len;
@@ -84,12 +92,22 @@ impl<T: Elem, S: FarTickets> Objects<T, S> {
         requires free { write_refusal self.old o ≡ None }
         requires ordered { from ≤ to }
         requires there { IsSomeAnd (list_in self.old.memory o) (λ list. to ≤ length list) }
-        ensures* writes_back { sem 𝓛 (lends_written T.row S.row S.Ticket.row T.Elem S.FarTickets self.entry o from result) }
-        ensures lent { IsSomeAnd (list_in self.old.memory o) (λ list. result.now ≡ slice_range list from to) }
-        ensures alone { IsSomeAnd (list_in self.old.memory o) (λ list. (range : List T) → length range ≡ to - from → ChangesList (list_of T.meaning S.content self.old) (list_of T.meaning S.content (after_overwrite (after_write self.old o) o from range)) o (Some (take from list ++ (range ++ drop to list)))) }
-        ensures clean { (range : List T) → length range ≡ to - from → AreClean T.meaning S.content self.old → AreClean T.meaning S.content (after_overwrite (after_write self.old o) o from range) }
-        ensures others { (range : List T) → ChangesObject self.old (after_overwrite (after_write self.old o) o from range) o }
-        ensures store { (range : List T) (id : List ℕ) → AreHere S.is_of id self.old → AreHere S.is_of id (after_overwrite (after_write self.old o) o from range) }
+        ensures* writes_back { sem 𝓛
+            (lends_written T.row S.row S.Ticket.row T.Elem S.FarTickets self.entry o from result) }
+        ensures lent { IsSomeAnd (list_in self.old.memory o)
+            (λ list. result.now ≡ slice_range list from to) }
+        ensures alone { IsSomeAnd (list_in self.old.memory o) (λ list. (range : List T)
+            → length range ≡ to - from
+            → ChangesList (list_of T.meaning S.content self.old) (list_of T.meaning S.content
+            (after_overwrite (after_write self.old o) o from range)) o
+            (Some (take from list ++ (range ++ drop to list)))) }
+        ensures clean { (range : List T) → length range ≡ to - from
+            → AreClean T.meaning S.content self.old
+            → AreClean T.meaning S.content (after_overwrite (after_write self.old o) o from range) }
+        ensures others { (range : List T)
+            → ChangesObject self.old (after_overwrite (after_write self.old o) o from range) o }
+        ensures store { (range : List T) (id : List ℕ) → AreHere S.is_of id self.old
+            → AreHere S.is_of id (after_overwrite (after_write self.old o) o from range) }
     {
         self.mark(o);
         let memory = &mut self.memory;
@@ -104,8 +122,10 @@ impl<T: Elem, S: FarTickets> Objects<T, S> {
         ensures dirty { dirty self.new o ≡ true }
         ensures local { is_local self.new o ≡ true }
         ensures parts { (p : ℕ) → list_in self.new.memory p ≡ list_in self.old.memory p }
-        ensures lists { (p : ℕ) → list_of T.meaning S.content self.new p ≡ list_of T.meaning S.content self.old p }
-        ensures clean { AreClean T.meaning S.content self.old → AreClean T.meaning S.content self.new }
+        ensures lists { (p : ℕ)
+            → list_of T.meaning S.content self.new p ≡ list_of T.meaning S.content self.old p }
+        ensures clean { AreClean T.meaning S.content self.old
+            → AreClean T.meaning S.content self.new }
     {
         // The word comes last, so that the next borrow of the object finds it in cache.
         self.order.touch(o);

@@ -17,14 +17,18 @@ impl<T: Elem, S: FarTickets> Objects<T, S> {
     /// nothing.
     pub fn leave(&mut self, store: &S, o: u32, ticket: &S::Ticket)
         requires here { S.is_of ticket.now (S.store_id store.now) }
-        requires copied { IsSomeAnd (list_in self.old.memory o) (λ list. IsSpelled T.in_range T.has_spelling T.spelling list (S.content ticket.now)) }
+        requires copied { IsSomeAnd (list_in self.old.memory o)
+            (λ list. IsSpelled T.in_range T.has_spelling T.spelling list (S.content ticket.now)) }
         requires unpinned { pins_of self.old o ≡ 0 }
         requires left { leavings_of self.old o < self.old.leavings }
         ensures departed { self.new ≡ after_leave self.old o ticket.now }
-        ensures lists { (p : ℕ) → list_of T.meaning S.content self.new p ≡ list_of T.meaning S.content self.old p }
-        ensures clean { AreClean T.meaning S.content self.old → AreClean T.meaning S.content self.new }
+        ensures lists { (p : ℕ)
+            → list_of T.meaning S.content self.new p ≡ list_of T.meaning S.content self.old p }
+        ensures clean { AreClean T.meaning S.content self.old
+            → AreClean T.meaning S.content self.new }
         ensures others { ChangesObject self.old self.new o }
-        ensures store { AreHere S.is_of (S.store_id store.now) self.old → AreHere S.is_of (S.store_id store.now) self.new }
+        ensures store { AreHere S.is_of (S.store_id store.now) self.old
+            → AreHere S.is_of (S.store_id store.now) self.new }
     {
         self.memory.send_away(o as usize);
         let object_record = &mut self.records[o as usize];
@@ -43,11 +47,14 @@ impl<T: Elem, S: FarTickets> Objects<T, S> {
         requires away { is_local self.old o ≡ false }
         requires meant { list_of T.meaning S.content self.old o ≡ Some items.now }
         ensures arrived { OnOk result (self.new ≡ after_arrive self.old o items.now) }
-        ensures lists { (p : ℕ) → list_of T.meaning S.content self.new p ≡ list_of T.meaning S.content self.old p }
-        ensures clean { AreClean T.meaning S.content self.old → AreClean T.meaning S.content self.new }
+        ensures lists { (p : ℕ)
+            → list_of T.meaning S.content self.new p ≡ list_of T.meaning S.content self.old p }
+        ensures clean { AreClean T.meaning S.content self.old
+            → AreClean T.meaning S.content self.new }
         ensures others { OnOk result (ChangesObject self.old self.new o) }
         ensures store { (id : List ℕ) → AreHere S.is_of id self.old → AreHere S.is_of id self.new }
-        ensures full { IsErrOf result Refusal.RegionFull ↔ (fits_in self.old.memory.state (length items.now) ≡ false) }
+        ensures full { IsErrOf result Refusal.RegionFull
+            ↔ (fits_in self.old.memory.state (length items.now) ≡ false) }
         ensures refused { IfErr result (λ e. (e ≡ Refusal.RegionFull) ⊎ (e ≡ Refusal.NoMemory)) }
         ensures err { OnErr result (self.new ≡ self.old) }
     {

@@ -18,8 +18,10 @@ impl<T: Elem, S: FarTickets> Objects<T, S> {
     pub fn pin(&mut self, o: u32) -> Result<(), Refusal>
         requires { o < length self.old.records }
         ensures pinned { OnOk result (self.new ≡ after_pin self.old o) }
-        ensures lists { (p : ℕ) → list_of T.meaning S.content self.new p ≡ list_of T.meaning S.content self.old p }
-        ensures clean { AreClean T.meaning S.content self.old → AreClean T.meaning S.content self.new }
+        ensures lists { (p : ℕ)
+            → list_of T.meaning S.content self.new p ≡ list_of T.meaning S.content self.old p }
+        ensures clean { AreClean T.meaning S.content self.old
+            → AreClean T.meaning S.content self.new }
         ensures others { OnOk result (ChangesObject self.old self.new o) }
         ensures store { (id : List ℕ) → AreHere S.is_of id self.old → AreHere S.is_of id self.new }
         ensures refused { refusal_in result ≡ pin_refusal self.old o }
@@ -42,8 +44,10 @@ impl<T: Elem, S: FarTickets> Objects<T, S> {
     pub fn unpin(&mut self, o: u32) -> Result<(), Refusal>
         requires { o < length self.old.records }
         ensures unpinned { OnOk result (self.new ≡ after_unpin self.old o) }
-        ensures lists { (p : ℕ) → list_of T.meaning S.content self.new p ≡ list_of T.meaning S.content self.old p }
-        ensures clean { AreClean T.meaning S.content self.old → AreClean T.meaning S.content self.new }
+        ensures lists { (p : ℕ)
+            → list_of T.meaning S.content self.new p ≡ list_of T.meaning S.content self.old p }
+        ensures clean { AreClean T.meaning S.content self.old
+            → AreClean T.meaning S.content self.new }
         ensures others { OnOk result (ChangesObject self.old self.new o) }
         ensures store { (id : List ℕ) → AreHere S.is_of id self.old → AreHere S.is_of id self.new }
         ensures refused { refusal_in result ≡ unpin_refusal self.old o }
@@ -62,8 +66,10 @@ impl<T: Elem, S: FarTickets> Objects<T, S> {
     pub fn touch(&mut self, o: u32)
         requires { o < length self.old.records }
         ensures touched { self.new ≡ after_touch self.old o }
-        ensures lists { (p : ℕ) → list_of T.meaning S.content self.new p ≡ list_of T.meaning S.content self.old p }
-        ensures clean { AreClean T.meaning S.content self.old → AreClean T.meaning S.content self.new }
+        ensures lists { (p : ℕ)
+            → list_of T.meaning S.content self.new p ≡ list_of T.meaning S.content self.old p }
+        ensures clean { AreClean T.meaning S.content self.old
+            → AreClean T.meaning S.content self.new }
         ensures others { ChangesObject self.old self.new o }
         ensures store { (id : List ℕ) → AreHere S.is_of id self.old → AreHere S.is_of id self.new }
     {

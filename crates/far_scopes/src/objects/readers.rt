@@ -19,7 +19,8 @@ impl<T: Elem, S: FarTickets> Objects<T, S> {
     /// Returns whether every object is local. Allocates nothing, and reads no object: it compares their count with the length of the
     /// order of use.
     pub fn are_all_local(&self) -> bool
-        ensures { IsTrue result ↔ ((o : ℕ) → o < length self.now.records → is_local self.now o ≡ true) }
+        ensures { IsTrue result
+            ↔ ((o : ℕ) → o < length self.now.records → is_local self.now o ≡ true) }
     {
         let local = self.order.len();
         let all = self.records.len();
@@ -29,7 +30,8 @@ impl<T: Elem, S: FarTickets> Objects<T, S> {
     /// Returns the length of an object's list, local or away. Allocates nothing.
     pub fn len(&self, o: u32) -> usize
         requires { o < length self.now.records }
-        ensures { option_map (λ object_record. object_record.len) (record_of self.now o) ≡ Some result }
+        ensures { option_map (λ object_record. object_record.len) (record_of self.now o)
+            ≡ Some result }
     {
         self.records[o as usize].len
     }
@@ -37,7 +39,8 @@ impl<T: Elem, S: FarTickets> Objects<T, S> {
     /// Returns the name of an object: the column and the row group that were given to `create`. Allocates nothing.
     pub fn name(&self, o: u32) -> Name
         requires { o < length self.now.records }
-        ensures { option_map (λ object_record. object_record.name) (record_of self.now o) ≡ Some result }
+        ensures { option_map (λ object_record. object_record.name) (record_of self.now o)
+            ≡ Some result }
     {
         self.records[o as usize].name
     }

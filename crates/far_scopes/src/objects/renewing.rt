@@ -29,7 +29,8 @@ impl<T: Elem, S: FarRead> Objects<T, S> {
         requires few { meter.old < 2 ^ 63 }
         requires here { AreHere S.is_of (S.store_id store.now) self.now }
         ensures renews { IfOk result (λ tickets. Renews S.content N.content self.now tickets) }
-        ensures there { IfOk result (λ tickets. AreTicketsHere N.is_of (N.store_id new_store.now) tickets) }
+        ensures there { IfOk result
+            (λ tickets. AreTicketsHere N.is_of (N.store_id new_store.now) tickets) }
         ensures faults { meter.new ≡ meter.old + faults_in result }
         ensures refused { RefusedBy (21 ∷ 22 ∷ 1 ∷ []) result }
     {
@@ -64,9 +65,11 @@ impl<T: Elem, S: FarTickets> Objects<T, S> {
     pub fn renew<N: FarTickets>(self, renewal: Renewal<N>) -> Objects<T, N>
         requires { Renews S.content N.content self renewal }
         ensures renewed { result ≡ after_renew self renewal }
-        ensures lists { (p : ℕ) → list_of T.meaning N.content result p ≡ list_of T.meaning S.content self p }
+        ensures lists { (p : ℕ)
+            → list_of T.meaning N.content result p ≡ list_of T.meaning S.content self p }
         ensures clean { AreClean T.meaning N.content result }
-        ensures store { (id : List ℕ) → AreTicketsHere N.is_of id renewal → AreHere N.is_of id result }
+        ensures store { (id : List ℕ) → AreTicketsHere N.is_of id renewal
+            → AreHere N.is_of id result }
     {
         let Renewal {
             tickets,
@@ -90,7 +93,8 @@ impl<T: Elem, S: FarTickets> Objects<T, S> {
     // Returns the ticket of an object that is away; none for a local one.
     fn away_ticket(&self, o: u32) -> Option<&S::Ticket>
         requires { o < length self.now.records }
-        ensures { option_map (λ ticket. ticket.now) result ≡ (if is_local self.now o then None else ticket_of self.now o) }
+        ensures { option_map (λ ticket. ticket.now) result
+            ≡ (if is_local self.now o then None else ticket_of self.now o) }
     {
         if self.is_away(o) {
             self.ticket(o)

@@ -27,12 +27,16 @@ impl<T: Elem, S: FarTickets> Objects<T, S> {
         requires some { 0 < length items.now }
         requires within { o < length self.old.records }
         ensures replaced { OnOk result (self.new ≡ after_replace self.old o items.now) }
-        ensures list { OnOk result (ChangesList (list_of T.meaning S.content self.old) (list_of T.meaning S.content self.new) o (Some items.now)) }
-        ensures clean { AreClean T.meaning S.content self.old → AreClean T.meaning S.content self.new }
+        ensures list { OnOk result (ChangesList (list_of T.meaning S.content self.old)
+            (list_of T.meaning S.content self.new) o (Some items.now)) }
+        ensures clean { AreClean T.meaning S.content self.old
+            → AreClean T.meaning S.content self.new }
         ensures others { OnOk result (ChangesObject self.old self.new o) }
         ensures store { (id : List ℕ) → AreHere S.is_of id self.old → AreHere S.is_of id self.new }
         ensures free { OnOk result (replace_refusal self.old o (length items.now) ≡ None) }
-        ensures refused { IfErr result (λ e. (replace_refusal self.old o (length items.now) ≡ Some e) ⊎ ((replace_refusal self.old o (length items.now) ≡ None) × (e ≡ Refusal.NoMemory))) }
+        ensures refused { IfErr result (λ e. (replace_refusal self.old o (length items.now)
+            ≡ Some e)
+            ⊎ ((replace_refusal self.old o (length items.now) ≡ None) × (e ≡ Refusal.NoMemory))) }
         ensures err { OnErr result (self.new ≡ self.old) }
     {
         self.may_write_if_placed(o, items.len())?;
@@ -95,13 +99,18 @@ impl<T: Elem, S: FarTickets> Objects<T, S> {
         requires within { All (λ r. r.object < length self.old.records) lists.now }
         requires once { AreListedOnce lists.now }
         ensures replaced { OnOk result (self.new ≡ after_replace_all self.old lists.now) }
-        ensures lists { OnOk result (ChangesLists (list_of T.meaning S.content self.old) (list_of T.meaning S.content self.new) lists.now) }
+        ensures lists { OnOk result (ChangesLists (list_of T.meaning S.content self.old)
+            (list_of T.meaning S.content self.new) lists.now) }
         ensures count { length self.new.records ≡ length self.old.records }
-        ensures clean { AreClean T.meaning S.content self.old → AreClean T.meaning S.content self.new }
+        ensures clean { AreClean T.meaning S.content self.old
+            → AreClean T.meaning S.content self.new }
         ensures store { (id : List ℕ) → AreHere S.is_of id self.old → AreHere S.is_of id self.new }
         ensures free { OnOk result (replace_all_refusal self.old lists.now ≡ None) }
-        ensures refused { IfErr result (λ e. (replace_all_refusal self.old lists.now ≡ Some e) ⊎ ((first_absent self.old (map (λ r. r.object) lists.now) ≡ None) × (e ≡ Refusal.NoMemory))) }
-        ensures memory { IfErr result (λ e. e ≡ Refusal.NoMemory → first_fits self.old.memory.state lists.now ≡ true) }
+        ensures refused { IfErr result (λ e. (replace_all_refusal self.old lists.now ≡ Some e)
+            ⊎ ((first_absent self.old (map (λ r. r.object) lists.now) ≡ None)
+            × (e ≡ Refusal.NoMemory))) }
+        ensures memory { IfErr result
+            (λ e. e ≡ Refusal.NoMemory → first_fits self.old.memory.state lists.now ≡ true) }
         ensures err { OnErr result (self.new ≡ self.old) }
     {
         self.all_here(lists)?;
@@ -146,8 +155,10 @@ impl<T: Elem, S: FarTickets> Objects<T, S> {
         requires once { AreListedOnce lists.now }
         ensures written { self.new ≡ after_write_all self.old lists.now }
         ensures count { length self.new.records ≡ length self.old.records }
-        ensures lists { (p : ℕ) → list_of T.meaning S.content self.new p ≡ list_of T.meaning S.content self.old p }
-        ensures clean { AreCleanElsewhere T.meaning S.content self.old lists.now → AreClean T.meaning S.content self.new }
+        ensures lists { (p : ℕ)
+            → list_of T.meaning S.content self.new p ≡ list_of T.meaning S.content self.old p }
+        ensures clean { AreCleanElsewhere T.meaning S.content self.old lists.now
+            → AreClean T.meaning S.content self.new }
     {
         for replacement in lists {
             self.mark(replacement.object);

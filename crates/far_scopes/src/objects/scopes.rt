@@ -24,11 +24,14 @@ impl<T: Elem, S: FarTickets> Objects<T, S> {
         requires few { length objects.now < 2 ^ 32 }
         ensures scope { IfOk result (λ scope. scope ≡ objects.now) }
         ensures pinned { OnOk result (self.new ≡ after_pin_all self.old objects.now) }
-        ensures lists { (p : ℕ) → list_of T.meaning S.content self.new p ≡ list_of T.meaning S.content self.old p }
-        ensures clean { AreClean T.meaning S.content self.old → AreClean T.meaning S.content self.new }
+        ensures lists { (p : ℕ)
+            → list_of T.meaning S.content self.new p ≡ list_of T.meaning S.content self.old p }
+        ensures clean { AreClean T.meaning S.content self.old
+            → AreClean T.meaning S.content self.new }
         ensures store { (id : List ℕ) → AreHere S.is_of id self.old → AreHere S.is_of id self.new }
         ensures free { OnOk result (enter_refusal self.old objects.now ≡ None) }
-        ensures refused { IfErr result (λ e. (enter_refusal self.old objects.now ≡ Some e) ⊎ ((enter_refusal self.old objects.now ≡ None) × (e ≡ Refusal.NoMemory))) }
+        ensures refused { IfErr result (λ e. (enter_refusal self.old objects.now ≡ Some e)
+            ⊎ ((enter_refusal self.old objects.now ≡ None) × (e ≡ Refusal.NoMemory))) }
         ensures err { OnErr result (self.new ≡ self.old) }
     {
         self.all_local(objects)?;
@@ -60,7 +63,8 @@ impl<T: Elem, S: FarTickets> Objects<T, S> {
         requires within { All (λ o. o < length self.old.records) objects.now }
         requires local { first_absent self.old objects.now ≡ None }
         ensures pinned { OnOk result (self.new ≡ after_pin_all self.old objects.now) }
-        ensures clean { AreClean T.meaning S.content self.old → AreClean T.meaning S.content self.new }
+        ensures clean { AreClean T.meaning S.content self.old
+            → AreClean T.meaning S.content self.new }
         ensures refused { refusal_in result ≡ pins_overflow self.old objects.now }
         ensures err { OnErr result (self.new ≡ self.old) }
     {
@@ -76,7 +80,8 @@ impl<T: Elem, S: FarTickets> Objects<T, S> {
     // Removes the pins that `pin_all` added.
     fn unpin_all(&mut self, objects: &[u32])
         requires { All (λ o. o < length self.old.records) objects.now }
-        ensures undone { (m : Movement T S.Ticket) → self.old ≡ after_pin_all m objects.now → self.new ≡ m }
+        ensures undone { (m : Movement T S.Ticket) → self.old ≡ after_pin_all m objects.now
+            → self.new ≡ m }
     {
         let mut left = objects.len();
         while left > 0 {
@@ -92,7 +97,8 @@ impl<T: Elem, S: FarTickets> Objects<T, S> {
         ensures none { result ≡ not (pins_of self.old o == 0) }
         ensures kept { result ≡ false → self.new ≡ self.old }
         ensures long { length self.new.records ≡ length self.old.records }
-        ensures clean { AreClean T.meaning S.content self.old → AreClean T.meaning S.content self.new }
+        ensures clean { AreClean T.meaning S.content self.old
+            → AreClean T.meaning S.content self.new }
     {
         self.unpin(o).is_ok()
     }
@@ -103,8 +109,10 @@ impl<T: Elem, S: FarTickets> Objects<T, S> {
         requires { All (λ o. o < length self.old.records) scope }
         ensures closed { self.new ≡ (after_close self.old scope).0 }
         ensures count { result ≡ (after_close self.old scope).1 }
-        ensures lists { (p : ℕ) → list_of T.meaning S.content self.new p ≡ list_of T.meaning S.content self.old p }
-        ensures clean { AreClean T.meaning S.content self.old → AreClean T.meaning S.content self.new }
+        ensures lists { (p : ℕ)
+            → list_of T.meaning S.content self.new p ≡ list_of T.meaning S.content self.old p }
+        ensures clean { AreClean T.meaning S.content self.old
+            → AreClean T.meaning S.content self.new }
         ensures store { (id : List ℕ) → AreHere S.is_of id self.old → AreHere S.is_of id self.new }
     {
         let Scope { objects } = scope;

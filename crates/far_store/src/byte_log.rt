@@ -1,9 +1,9 @@
-// A log of bytes.
+// An engine as an example: a log of bytes in memory. docs/FAR_STORE.md explains it step by step.
 ghost use Rattle.std.specs.Prelude.{◌≡◌, ◌≤◌, ◌+◌, ◌<◌, ℕ, ⊤, Some, map, length, slice_get, IfOk, IfSome};
 
+use crate::engine::{Engine, Failure};
 use boxcar::slot::{OnceSlot, SlotRule, Written};
 use boxcar::tag::Tag;
-use far_store::{Engine, Failure};
 use std::alloc::{AllocError, Global};
 use std::error::Error;
 use std::fmt;
@@ -151,7 +151,8 @@ impl Engine for ByteLog {
 
     ghost engine_id = { λ log. log };
 
-    ghost is_of = { λ key id. (i : ℕ) → IfSome (slice_get key.written.items i) (λ token. slice_get id (key.offset + i) ≡ Some token.of) };
+    ghost is_of = { λ key id. (i : ℕ) → IfSome (slice_get key.written.items i)
+        (λ token. slice_get id (key.offset + i) ≡ Some token.of) };
 
     fn write(&self, alloc: Global, bytes: &[u8]) -> Result<LogKey, Failure<LogFull>> {
         let mut written = Vec::with_capacity(alloc, bytes.len())?;

@@ -1,7 +1,7 @@
 use Rattle.std.proofs.Common.{◌≡◌, ◌+◌, ◌∙◌, Some, length, slice_get, ap, arith}
 use Rattle.std.proofs.lemmas.List.{length_push, map_push, take_more}
-use Rattle.far_byte_log.proofs.Tokens.{each-pushed}
-use Rattle.far_byte_log.proofs.byte_log.ByteLogEngine.write.Goals as goal
+use Rattle.far_store.proofs.Tokens.{each-pushed}
+use Rattle.far_store.proofs.byte_log.ByteLogEngine.write.Goals as goal
 
 pub overflow_add-offset : goal.overflow_add-offset
 overflow_add-offset c = let fits = c.in-Some.ensures in omega arith

@@ -1,5 +1,5 @@
 use Rattle.std.proofs.Common.{◌≡◌, ◌+◌, ℕ, Some, map, slice_get, IfSome, take, length}
-use Rattle.far_byte_log.proofs.byte_log.ByteLogEngine.write.Given as goal
+use Rattle.far_store.proofs.byte_log.ByteLogEngine.write.Given as goal
 
 -- the loop made one token for each byte so far, of its slot and its byte
 abbrev pub invariant-loop-i : goal.invariant-loop-i

@@ -1,5 +1,5 @@
 use Rattle.std.proofs.Common.{◌≡◌, map, take}
-use Rattle.far_byte_log.proofs.byte_log.ByteLogEngine.read.Given as goal
+use Rattle.far_store.proofs.byte_log.ByteLogEngine.read.Given as goal
 
 -- the buffer has the first i bytes
 abbrev pub invariant-loop-i : goal.invariant-loop-i

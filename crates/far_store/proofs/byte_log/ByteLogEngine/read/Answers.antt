@@ -1,7 +1,7 @@
 use Rattle.std.proofs.Common.{◌≡◌, ◌<◌, ◌+◌, Some, length, slice_get, arith}
 use Rattle.std.proofs.lemmas.Option.{slice_get_within}
-use Rattle.far_byte_log.proofs.Tokens.{at-index, take-next}
-use Rattle.far_byte_log.proofs.byte_log.ByteLogEngine.read.Goals as goal
+use Rattle.far_store.proofs.Tokens.{at-index, take-next}
+use Rattle.far_store.proofs.byte_log.ByteLogEngine.read.Goals as goal
 
 pub overflow_add-key : goal.overflow_add-key
 overflow_add-key c =

@@ -1,6 +1,4 @@
-#![tactic(auto)]
-//! Fast division by a number that does not change.
-
+// Fast division by a number that does not change.
 ghost use Rattle.std.specs.Prelude.{◌≡◌, ◌<◌, ◌/◌, ◌%◌, ◌+◌, ◌^◌};
 
 /// A hint for divisions by a number that does not change, such as the number of places of a row group: 2^40 divided by it, and a little

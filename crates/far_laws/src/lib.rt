@@ -1,2 +1,0 @@
-#![tactic(auto)]
-//! Laws about the standard library's lists that several crates cite. It has no code.
