@@ -1,5 +1,21 @@
+pub mod VectorPlaces
+pub mod VectorLaws
+pub mod VectorWrites
+pub mod EffectsGroups
+pub mod VectorDisjointness
+pub mod MovementInUse
+pub mod LastGroup
+pub mod RefusingLaws
+pub mod VectorRanges
+pub mod RefusingObjects
+pub mod PiecesLaws
+pub mod RefusingParts
+pub mod VectorsLaws
+pub mod VectorGroups
+pub mod VectorChanges
 pub mod NumbersTogether
 pub mod NumbersTogetherAppends
 pub mod NumbersTogetherBeginning
 pub mod NumbersUndo
 mod NumbersFlags
+pub mod NumbersChanges

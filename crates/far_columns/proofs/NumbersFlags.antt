@@ -5,10 +5,10 @@ use Rattle.std.specs.Prelude.{slice_range, ◌-◌, suc}
 use Rattle.std.proofs.lemmas.List.{take-append-drop, length-take-le, length-drop}
 use Rattle.std.proofs.lemmas.List.Elements.{All-cons}
 use Rattle.far_scopes.specs.Movement.{Movement}
-use Rattle.far_vector.specs.Vector.{Vector, IsShaped, IsVector}
-use Rattle.far_vector.specs.Refusing.{pieces_refusal}
-use Rattle.far_vector.proofs.VectorLaws.{length-elements}
-use Rattle.far_vector.proofs.RefusingParts.{range-free}
+use Rattle.far_columns.specs.Vector.{Vector, IsShaped, IsVector}
+use Rattle.far_columns.specs.Refusing.{pieces_refusal}
+use Rattle.far_columns.proofs.VectorLaws.{length-elements}
+use Rattle.far_columns.proofs.RefusingParts.{range-free}
 use Rattle.far_columns.specs.Numbers.{Numbers, number_lists, numbers_in, with_flags}
 
 -- there are as many flagged pieces as pieces

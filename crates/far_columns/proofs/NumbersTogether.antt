@@ -16,9 +16,9 @@ use Rattle.far_scopes.specs.Memory.{at_of}
 use Rattle.far_scopes.specs.Movement.{Movement, ChangesObject}
 use Rattle.far_scopes.specs.Refusing.{absent, written_out, write_refusal, no_space}
 use Rattle.far_scopes.proofs.EnteringPins.{length-with}
-use Rattle.far_vector.specs.Vector.{Vector, IsShaped, AreDisjoint, object_at}
-use Rattle.far_vector.specs.Effects.{is_full, after_push, objects_after_push}
-use Rattle.far_vector.specs.Refusing.{push_refusal}
+use Rattle.far_columns.specs.Vector.{Vector, IsShaped, AreDisjoint, object_at}
+use Rattle.far_columns.specs.Effects.{is_full, after_push, objects_after_push}
+use Rattle.far_columns.specs.Refusing.{push_refusal}
 use Rattle.far_scopes.proofs.FirstOfCases.{first-append, two-free}
 use Rattle.far_scopes.proofs.Alike.{none-pass}
 use Rattle.far_columns.specs.NumbersTogether.{NumberLists, NumberColumns, AreNumberColumns, all_begin, after_push_all, absents, some_written_out, no_space_for_groups, push_numbers_refusal}

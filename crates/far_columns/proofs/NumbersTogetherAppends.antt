@@ -4,10 +4,10 @@ use Rattle.std.specs.Prelude.{All}
 use Rattle.std.proofs.lemmas.List.Elements.{All-cons, All-head, All-tail}
 use Rattle.std.proofs.lemmas.List.Kept.{AllPairs-cons}
 use Rattle.far_scopes.specs.Movement.{Movement, ChangesObject}
-use Rattle.far_vector.specs.Vector.{Vector, IsShaped, IsVector, AreDisjoint, IsUntouched, elements, object_at}
-use Rattle.far_vector.specs.Vectors.{AreVectors, ChangesVector}
-use Rattle.far_vector.specs.Effects.{is_full, objects_after_push}
-use Rattle.far_vector.specs.Refusing.{push_refusal}
+use Rattle.far_columns.specs.Vector.{Vector, IsShaped, IsVector, AreDisjoint, IsUntouched, elements, object_at}
+use Rattle.far_columns.specs.Vectors.{AreVectors, ChangesVector}
+use Rattle.far_columns.specs.Effects.{is_full, objects_after_push}
+use Rattle.far_columns.specs.Refusing.{push_refusal}
 use Rattle.far_columns.specs.Numbers.{Numbers}
 use Rattle.far_columns.specs.NumbersTogether.{NumberLists, NumberColumns, all_numbers_with, KeepsNumbers}
 use Rattle.far_columns.proofs.NumbersTogether.{pairs-head, pairs-tail, disjoint-turned, next-disjoint, push-free, free-push, write-other, changes-same}

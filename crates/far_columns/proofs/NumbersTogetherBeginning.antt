@@ -13,9 +13,9 @@ use Rattle.far_log.specs.RegionState.{spaces_of, lowest_for, fits_in, fit_in_ord
 use Rattle.far_scopes.specs.Movement.{Movement}
 use Rattle.far_scopes.specs.Effects.{after_create, new_record}
 use Rattle.far_scopes.specs.Refusing.{no_space, write_refusal}
-use Rattle.far_vector.specs.Vector.{Vector, IsShaped, object_at}
-use Rattle.far_vector.specs.Effects.{is_full, after_push, objects_after_push, next_name, next_group, after_write_range}
-use Rattle.far_vector.specs.Refusing.{push_refusal}
+use Rattle.far_columns.specs.Vector.{Vector, IsShaped, object_at}
+use Rattle.far_columns.specs.Effects.{is_full, after_push, objects_after_push, next_name, next_group, after_write_range}
+use Rattle.far_columns.specs.Refusing.{push_refusal}
 use Rattle.far_columns.specs.NumbersTogether.{NumberColumns}
 
 module _ {K : Type 0} (m mid : Movement (Option ℤ) K) (c c' : Vector (Option ℤ)) (x : Option ℤ) (full : is_full c ≡ true) (is : c' ≡ after_push c (length m.records)) (written : mid ≡ objects_after_push m c x) where

@@ -10,11 +10,11 @@ use Rattle.std.proofs.lemmas.Nat.{div-mul-add}
 use Rattle.far_scopes.specs.Memory.{at_of}
 use Rattle.far_scopes.specs.Movement.{Movement, ChangesObject, is_local, pins_of}
 use Rattle.far_scopes.specs.Effects.{after_uncreate}
-use Rattle.far_vector.specs.Vector.{Vector, IsShaped, IsVector, AreDisjoint, IsUntouched, elements, object_at}
-use Rattle.far_vector.specs.Vectors.{AreVectors, ChangesVector}
-use Rattle.far_vector.specs.Effects.{is_full, after_push, objects_after_push, after_unpush}
+use Rattle.far_columns.specs.Vector.{Vector, IsShaped, IsVector, AreDisjoint, IsUntouched, elements, object_at}
+use Rattle.far_columns.specs.Vectors.{AreVectors, ChangesVector}
+use Rattle.far_columns.specs.Effects.{IsNewGroup, is_full, after_push, objects_after_push, after_unpush}
 use Rattle.far_columns.specs.NumbersTogether.{NumberLists, NumberColumns, KeepsNumbers}
-use Rattle.far_columns.specs.NumbersUndo.{KeepsBelow, IsNewGroup, AreBegunFrom, AreBegunLast, after_uncreate_all}
+use Rattle.far_columns.specs.NumbersUndo.{KeepsBelow, AreBegunFrom, AreBegunLast, after_uncreate_all}
 use Rattle.far_columns.proofs.NumbersTogether.{pairs-head, pairs-tail, disjoint-turned}
 use Rattle.far_columns.proofs.NumbersTogetherBeginning.{one-more, alone, last}
 

@@ -1,3 +1,10 @@
+pub mod Vector
+pub mod Pieces
+pub mod Effects
+pub mod Refusing
+pub mod Vectors
+pub mod Changes
 pub mod Numbers
 pub mod NumbersTogether
 pub mod NumbersUndo
+pub mod NumbersChanges

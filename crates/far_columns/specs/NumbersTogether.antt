@@ -7,9 +7,9 @@ use Rattle.far_types.specs.FirstOf.{first_of}
 use Rattle.far_log.specs.RegionState.{spaces_of, fit_in_order}
 use Rattle.far_scopes.specs.Movement.{Movement}
 use Rattle.far_scopes.specs.Refusing.{absent, written_out}
-use Rattle.far_vector.specs.Vector.{Vector, IsVector, AreDisjoint, elements, object_at}
-use Rattle.far_vector.specs.Vectors.{AreVectors}
-use Rattle.far_vector.specs.Effects.{is_full, after_push, objects_after_push}
+use Rattle.far_columns.specs.Vector.{Vector, IsVector, AreDisjoint, elements, object_at}
+use Rattle.far_columns.specs.Vectors.{AreVectors}
+use Rattle.far_columns.specs.Effects.{is_full, after_push, objects_after_push}
 use Rattle.far_columns.specs.Numbers.{Numbers}
 
 -- the list of each object that has one, by object number
@@ -38,20 +38,26 @@ after_push_all n (c ∷ columns) = after_push c n ∷ after_push_all (n + 1) col
 abbrev pub all_numbers_with : NumberLists → NumberColumns → Numbers → List Numbers
 all_numbers_with lists [] numbers = []
 all_numbers_with lists (c ∷ columns) [] = []
-all_numbers_with lists (c ∷ columns) (number ∷ numbers) = (elements lists c ++ number ∷ []) ∷ all_numbers_with lists columns numbers
+all_numbers_with lists (c ∷ columns) (number ∷ numbers) =
+    (elements lists c ++ number ∷ []) ∷ all_numbers_with lists columns numbers
 
 -- every column that is disjoint from these remains a column, keeps its numbers, and is disjoint from what they become
 pub record KeepsNumbers (old new : NumberLists) (columns becoming : NumberColumns) : Type 0 where
-  pub is : (w : Vector (Option ℤ)) → IsVector old w → All (λ c. AreDisjoint c w) columns → IsVector new w
-  pub numbers : (w : Vector (Option ℤ)) → IsVector old w → All (λ c. AreDisjoint c w) columns → elements new w ≡ elements old w
-  pub disjoint : (w : Vector (Option ℤ)) → IsVector old w → All (λ c. AreDisjoint c w) columns → All (λ c. AreDisjoint c w) becoming
+  pub is : (w : Vector (Option ℤ)) → IsVector old w → All (λ c. AreDisjoint c w) columns
+      → IsVector new w
+  pub numbers : (w : Vector (Option ℤ)) → IsVector old w → All (λ c. AreDisjoint c w) columns
+      → elements new w ≡ elements old w
+  pub disjoint : (w : Vector (Option ℤ)) → IsVector old w → All (λ c. AreDisjoint c w) columns
+      → All (λ c. AreDisjoint c w) becoming
 
 module _ {K : Type 0} where
   -- the objects after a number was appended to each column, one column after another
-  abbrev pub objects_after_push_all : Movement (Option ℤ) K → NumberColumns → Numbers → Movement (Option ℤ) K
+  abbrev pub objects_after_push_all : Movement (Option ℤ) K → NumberColumns → Numbers
+      → Movement (Option ℤ) K
   objects_after_push_all m [] numbers = m
   objects_after_push_all m (c ∷ columns) [] = m
-  objects_after_push_all m (c ∷ columns) (number ∷ numbers) = objects_after_push_all (objects_after_push m c number) columns numbers
+  objects_after_push_all m (c ∷ columns) (number ∷ numbers) =
+      objects_after_push_all (objects_after_push m c number) columns numbers
 
   module _ (m : Movement (Option ℤ) K) (columns : NumberColumns) where
     -- for each column in order: its last row group's object is away
@@ -60,12 +66,18 @@ module _ {K : Type 0} where
 
     -- some last row group's object was written as often as the limits allow
     abbrev pub some_written_out : Bool × Refusal
-    some_written_out = (list_any (λ c. (written_out m (object_at c c.len)).0) columns, refusal.EditsUsedUp)
+    some_written_out =
+        (list_any (λ c. (written_out m (object_at c c.len)).0) columns, refusal.EditsUsedUp)
 
     -- the objects of new row groups, placed in order, do not fit
     abbrev pub no_space_for_groups : Bool × Refusal
-    no_space_for_groups = (not (fit_in_order (spaces_of m.memory.state) (map (λ c. c.size) columns)), refusal.RegionFull)
+    no_space_for_groups = (
+      not (fit_in_order (spaces_of m.memory.state) (map (λ c. c.size) columns)),
+      refusal.RegionFull,
+    )
 
     -- why appending a number to each of the columns is refused (`push_numbers`)
     abbrev pub push_numbers_refusal : Option Refusal
-    push_numbers_refusal = first_of (if all_begin columns then no_space_for_groups ∷ [] else absents ++ some_written_out ∷ [])
+    push_numbers_refusal =
+        first_of (if all_begin columns then no_space_for_groups ∷ []
+        else absents ++ some_written_out ∷ [])

@@ -1,8 +1,8 @@
 -- Columns of numbers that began row groups at once, and how that is undone.
-use Rattle.std.specs.Prelude.{◌≡◌, ℕ, zero, suc, ℤ, ◌+◌, ◌-◌, ◌*◌, ◌<◌, true, [], ◌∷◌, length, Option, Some, slice_get}
-use Rattle.far_scopes.specs.Movement.{Movement, is_local, pins_of}
+use Rattle.std.specs.Prelude.{◌≡◌, ℕ, zero, suc, ℤ, ◌+◌, ◌-◌, ◌<◌, [], ◌∷◌, length, Option, slice_get}
+use Rattle.far_scopes.specs.Movement.{Movement}
 use Rattle.far_scopes.specs.Effects.{after_uncreate}
-use Rattle.far_vector.specs.Vector.{Vector}
+use Rattle.far_columns.specs.Effects.{IsNewGroup}
 use Rattle.far_columns.specs.NumbersTogether.{NumberColumns}
 
 module _ {K : Type 0} where
@@ -10,13 +10,6 @@ module _ {K : Type 0} where
   pub record KeepsBelow (n : ℕ) (old new : Movement (Option ℤ) K) : Type 0 where
     pub words : (p : ℕ) → p < n → slice_get new.memory.words p ≡ slice_get old.memory.words p
     pub records : (p : ℕ) → p < n → slice_get new.records p ≡ slice_get old.records p
-
-  -- the last row group of a column has only one number, and object o, which is local and has no pin
-  pub record IsNewGroup (m : Movement (Option ℤ) K) (o : ℕ) (c : Vector (Option ℤ)) : Type 0 where
-    pub alone : c.len ≡ (length c.objects - 1) * c.size + 1
-    pub last : slice_get c.objects (length c.objects - 1) ≡ Some o
-    pub local : is_local m o ≡ true
-    pub unpinned : pins_of m o ≡ 0
 
   -- each column's last row group has just been begun (`IsNewGroup`); their objects are o and the ones after it, up to the last
   abbrev pub AreBegunFrom : Movement (Option ℤ) K → ℕ → NumberColumns → Type 0

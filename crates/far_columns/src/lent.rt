@@ -3,8 +3,8 @@ ghost use Rattle.std.specs.Prelude.{◌≡◌, [], ◌∷◌, length, IfSome, If
 ghost use Rattle.std.specs.List.{flat_map};
 ghost use Rattle.far_columns.specs.Numbers.{with_flags};
 
+use crate::Pieces;
 use far_store::FarTickets;
-use far_vector::Pieces;
 use std::marker::Model;
 
 /// The numbers of adjacent places of one row group, each of which may be missing, and the alive flag of each place. Both
@@ -47,7 +47,8 @@ impl<'a, S: FarTickets> Lents<'a, S> {
 
     /// Returns the next piece with its flags, or `None` at the end. Allocates nothing.
     pub fn next(&mut self) -> Option<Lent<'a>>
-        ensures first { IfSome result (λ lent. self.old ≡ (lent.values.now, lent.alive.now) ∷ self.new) }
+        ensures first { IfSome result
+            (λ lent. self.old ≡ (lent.values.now, lent.alive.now) ∷ self.new) }
         ensures none { IfNone result ((self.old ≡ []) × (self.new ≡ [])) }
     {
         let values = self.pieces.next()?;

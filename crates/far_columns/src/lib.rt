@@ -1,10 +1,17 @@
 #![tactic(auto)]
-//! Which places of a table are alive, and columns of numbers, whose row groups may be away.
+//! Columns of numbers, and which places of a table are alive: vectors over far objects, with one object for each row group.
 
 mod alive;
 mod int_column;
+pub mod laws;
 mod lent;
+mod pieces;
+mod vector;
 
 pub use alive::Alive;
-pub use int_column::{IntColumn, fill_numbers, may_push_numbers, push_numbers, unpush_numbers};
+pub use int_column::{
+    IntColumn, fill_numbers, lend_numbers, may_push_numbers, push_numbers, unpush_numbers,
+};
 pub use lent::{Lent, Lents};
+pub use pieces::Pieces;
+pub use vector::FarVector;

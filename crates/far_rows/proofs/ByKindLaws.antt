@@ -13,8 +13,8 @@ use Rattle.far_types.specs.declared.refusal.Refusal.TheVariants as refusal
 use Rattle.far_types.specs.FirstOf.{first_of}
 use Rattle.far_log.specs.RegionState.{spaces_of, fit_in_order}
 use Rattle.far_scopes.specs.Refusing.{written_out}
-use Rattle.far_vector.specs.Vector.{Vector, IsShaped, object_at}
-use Rattle.far_vector.specs.Effects.{is_full}
+use Rattle.far_columns.specs.Vector.{Vector, IsShaped, object_at}
+use Rattle.far_columns.specs.Effects.{is_full}
 use Rattle.far_texts.specs.Texts.{Texts, Lists, HasGroups, lists_of}
 use Rattle.far_texts.specs.Effects.{begins_group, last_object}
 use Rattle.far_texts.specs.Together.{all_begin, next_forms}

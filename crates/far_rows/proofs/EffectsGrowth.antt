@@ -2,8 +2,8 @@
 use Rattle.std.proofs.Common.{◌≡◌, ℕ, ◌+◌, List, [], ◌∷◌, length, refl, arith}
 use Rattle.std.specs.Prelude.{ℤ, Option, All}
 use Rattle.std.proofs.lemmas.List.Elements.{All-nil, All-cons, All-head, All-tail}
-use Rattle.far_vector.specs.Vector.{Vector}
-use Rattle.far_vector.specs.Effects.{after_push as number_pushed}
+use Rattle.far_columns.specs.Vector.{Vector}
+use Rattle.far_columns.specs.Effects.{after_push as number_pushed}
 use Rattle.far_texts.specs.Texts.{Texts}
 use Rattle.far_texts.specs.Effects.{after_push as text_pushed}
 use Rattle.far_columns.specs.NumbersTogether.{NumberColumns, after_push_all as all_numbers_pushed}

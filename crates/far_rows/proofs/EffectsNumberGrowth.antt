@@ -4,8 +4,8 @@ use Rattle.std.specs.Prelude.{ℤ, Option, All, slice_index_or}
 use Rattle.std.proofs.Math.Nat.{mul-add, mul-one}
 use Rattle.std.proofs.lemmas.Bool.{cases_eq, cases_lt, cases_Bool}
 use Rattle.std.proofs.lemmas.List.{length_push}
-use Rattle.far_vector.specs.Vector.{Vector}
-use Rattle.far_vector.specs.Effects.{is_full, after_push}
+use Rattle.far_columns.specs.Vector.{Vector}
+use Rattle.far_columns.specs.Effects.{is_full, after_push}
 use Rattle.far_columns.specs.NumbersTogether.{NumberColumns, all_begin, after_push_all}
 use Rattle.far_rows.proofs.RowsGroupStarts.{IsNumbers, number-begins, number-begun, numbers-begin, numbers-begun}
 use Rattle.far_rows.proofs.EffectsGrowth.{as-many-numbers, all-numbers}

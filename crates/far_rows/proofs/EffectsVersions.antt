@@ -12,8 +12,8 @@ use Rattle.far_scopes.specs.declared.replacement.Replacement.{Replacement}
 use Rattle.far_scopes.specs.Movement.{Movement, version_of}
 use Rattle.far_scopes.specs.Effects.{new_record, with_record, with_lens, after_create, after_write, after_write_all, after_replace_all}
 use Rattle.far_scopes.proofs.MovementFrames.{object_record-with_other}
-use Rattle.far_vector.specs.Vector.{Vector, IsShaped, AreDisjoint, object_at}
-use Rattle.far_vector.specs.Effects.{is_full, objects_after_push}
+use Rattle.far_columns.specs.Vector.{Vector, IsShaped, AreDisjoint, object_at}
+use Rattle.far_columns.specs.Effects.{is_full, objects_after_push}
 use Rattle.far_columns.specs.Numbers.{Numbers, number_lists}
 use Rattle.far_columns.specs.NumbersTogether.{NumberColumns, AreNumberColumns, objects_after_push_all}
 use Rattle.far_texts.specs.Texts as texts

@@ -14,9 +14,9 @@ use Rattle.far_types.specs.Bounds.{is_text}
 use Rattle.far_types.specs.FirstOf.{first_of}
 use Rattle.far_scopes.specs.Movement.{Movement, is_local}
 use Rattle.far_scopes.specs.Refusing.{absent, first_absent}
-use Rattle.far_vector.specs.Vector.{Vector}
-use Rattle.far_vector.specs.Pieces.{first_overlapped, overlapped_count, overlapped_groups, pieces_of}
-use Rattle.far_vector.specs.Refusing.{pieces_refusal}
+use Rattle.far_columns.specs.Vector.{Vector}
+use Rattle.far_columns.specs.Pieces.{first_overlapped, overlapped_count, overlapped_groups, pieces_of}
+use Rattle.far_columns.specs.Refusing.{pieces_refusal}
 use Rattle.far_columns.specs.Numbers.{Numbers, numbers_in, with_flags}
 use Rattle.far_scopes.proofs.FirstOfCases.{first-append}
 use Rattle.far_rows.specs.declared.column_index.ColumnIndex.{ColumnIndex}

@@ -14,7 +14,7 @@ use Rattle.far_types.specs.Bounds.{is_int}
 use Rattle.far_types.specs.FirstOf.{first_of}
 use Rattle.far_scopes.specs.Movement.{Movement}
 use Rattle.far_scopes.specs.Refusing.{first_absent}
-use Rattle.far_vector.specs.Pieces.{overlapped_groups}
+use Rattle.far_columns.specs.Pieces.{overlapped_groups}
 use Rattle.far_texts.specs.Texts.{Texts, HasGroups, lists_of, texts_in}
 use Rattle.far_texts.specs.Lending.{texts_refusal as column_refusal}
 use Rattle.far_scopes.proofs.FirstOfCases.{first-append}

@@ -4,8 +4,8 @@ use Rattle.std.specs.Prelude.{ℤ, IsSomeAnd, slice_get}
 use Rattle.std.proofs.lemmas.Option.{slice_get_within, get_or_from_slice_get}
 use Rattle.far_codec.specs.Reading.{ints_meaning}
 use Rattle.far_scopes.specs.Movement.{Movement, AreTracked}
-use Rattle.far_vector.specs.Vector.{Vector, IsVector}
-use Rattle.far_vector.proofs.MovementInUse.{in-use}
+use Rattle.far_columns.specs.Vector.{Vector, IsVector}
+use Rattle.far_columns.proofs.MovementInUse.{in-use}
 use Rattle.far_texts.specs.Texts.{Texts, IsTextColumn, IsGroupForm, lists_of}
 use Rattle.far_columns.specs.Numbers.{number_lists}
 use Rattle.far_columns.specs.NumbersTogether.{NumberColumns, AreNumberColumns}

@@ -4,8 +4,8 @@ use Rattle.std.specs.Prelude.{ℤ}
 use Rattle.far_types.specs.declared.name.Name.{Name}
 use Rattle.far_codec.specs.Reading.{ints_meaning}
 use Rattle.far_scopes.specs.Movement.{Movement, AreClean, AreHere}
-use Rattle.far_vector.proofs.VectorsLaws.{vectors-stay, elements-stay}
-use Rattle.far_vector.specs.Vector.{Vector}
+use Rattle.far_columns.proofs.VectorsLaws.{vectors-stay, elements-stay}
+use Rattle.far_columns.specs.Vector.{Vector}
 use Rattle.far_texts.specs.Texts.{Texts, lists_of, texts_in}
 use Rattle.far_columns.specs.Numbers.{number_lists, numbers_in}
 use Rattle.far_texts.proofs.ColumnsLaws.{columns-stay, texts-stay}

@@ -8,8 +8,8 @@ use Rattle.std.proofs.lemmas.Option.{none-some, same_Some, slice_get_within, get
 use Rattle.far_types.specs.declared.name.Name.{Name}
 use Rattle.far_scopes.specs.Movement.{Movement}
 use Rattle.far_scopes.proofs.MemoryWordPlaces.{slice_get-push_last}
-use Rattle.far_vector.specs.Vector.{Vector}
-use Rattle.far_vector.specs.Effects.{is_full, next_name, after_push, objects_after_push}
+use Rattle.far_columns.specs.Vector.{Vector}
+use Rattle.far_columns.specs.Effects.{is_full, next_name, after_push, objects_after_push}
 use Rattle.far_columns.specs.Numbers.{Numbers}
 use Rattle.far_columns.specs.NumbersTogether.{NumberColumns, after_push_all, objects_after_push_all}
 use Rattle.far_rows.specs.Naming.{names_of, AreOwned}

@@ -7,8 +7,8 @@ use Rattle.std.proofs.lemmas.List.Elements.{All-nil, All-cons, All-head, All-tai
 use Rattle.far_types.specs.declared.name.Name.{Name}
 use Rattle.far_scopes.specs.Movement.{Movement}
 use Rattle.far_scopes.specs.Effects.{after_create}
-use Rattle.far_vector.specs.Vector.{Vector, object_at}
-use Rattle.far_vector.specs.Effects.{is_full, next_name, next_group, after_push, objects_after_push}
+use Rattle.far_columns.specs.Vector.{Vector, object_at}
+use Rattle.far_columns.specs.Effects.{is_full, next_name, next_group, after_push, objects_after_push}
 use Rattle.far_columns.specs.Numbers.{Numbers}
 use Rattle.far_columns.specs.NumbersTogether.{NumberColumns, after_push_all, objects_after_push_all}
 use Rattle.far_rows.specs.Naming.{names_of, AreNamed}

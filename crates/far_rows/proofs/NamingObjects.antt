@@ -11,7 +11,7 @@ use Rattle.far_scopes.specs.declared.object_record.ObjectRecord.{ObjectRecord}
 use Rattle.far_scopes.specs.Memory.{list_in}
 use Rattle.far_scopes.specs.Movement.{Movement}
 use Rattle.far_scopes.proofs.MemoryPlaces.{cases_option}
-use Rattle.far_vector.specs.Vector.{Vector, IsVector}
+use Rattle.far_columns.specs.Vector.{Vector, IsVector}
 use Rattle.far_texts.specs.Texts.{Texts, IsTextColumn, IsGroupForm, lists_of}
 use Rattle.far_columns.specs.Numbers.{number_lists}
 use Rattle.far_rows.specs.declared.column_index.ColumnIndex.{ColumnIndex}

@@ -7,7 +7,7 @@ use Rattle.far_types.specs.declared.cell.Kind.{Kind}
 use Rattle.far_types.specs.declared.cell.Kind.TheVariants as kind
 use Rattle.far_types.specs.declared.limits.Limits.{Limits}
 use Rattle.far_types.specs.Bounds.{IsSchema, AreLimits}
-use Rattle.far_vector.specs.Vector.{Vector, IsVector, IsShaped, AreDisjoint}
+use Rattle.far_columns.specs.Vector.{Vector, IsVector, IsShaped, AreDisjoint}
 use Rattle.far_texts.specs.Texts as texts
 use Rattle.far_texts.specs.Texts.{Texts, Lists, HasGroups, IsTextColumn}
 use Rattle.far_columns.specs.NumbersTogether.{NumberLists, AreNumberColumns}

@@ -16,8 +16,8 @@ use Rattle.far_texts.specs.Effects.{begins_group, last_object}
 use Rattle.far_texts.specs.Together.{all_begin}
 use Rattle.far_texts.specs.RefusingTogether.{absents as texts_absent}
 use Rattle.far_columns.specs.NumbersTogether.{NumberColumns, all_begin as all_numbers_begin, absents as numbers_absent}
-use Rattle.far_vector.specs.Vector.{Vector, IsShaped, object_at}
-use Rattle.far_vector.specs.Effects.{is_full}
+use Rattle.far_columns.specs.Vector.{Vector, IsShaped, object_at}
+use Rattle.far_columns.specs.Effects.{is_full}
 use Rattle.far_rows.proofs.EffectsVersions.{last-there}
 use Rattle.far_rows.specs.declared.column_index.ColumnIndex.{ColumnIndex}
 use Rattle.far_rows.specs.declared.column_index.ColumnIndex.TheVariants as column_index

@@ -19,8 +19,8 @@ use Rattle.far_types.specs.FormLengths.{texts_length}
 use Rattle.far_types.specs.FirstOf.{first_of}
 use Rattle.far_log.specs.RegionState.{fits_in}
 use Rattle.far_scopes.specs.Refusing.{absent, written_out}
-use Rattle.far_vector.specs.Vector.{Vector, IsShaped, object_at as number_at}
-use Rattle.far_vector.specs.Refusing.{past_end as past_numbers}
+use Rattle.far_columns.specs.Vector.{Vector, IsShaped, object_at as number_at}
+use Rattle.far_columns.specs.Refusing.{past_end as past_numbers}
 use Rattle.far_texts.specs.Texts.{Texts, HasGroups, lists_of, object_at as text_at}
 use Rattle.far_texts.specs.Effects.{group_with}
 use Rattle.far_texts.specs.Refusing.{text_too_long, past_end, chunk_full}

@@ -10,7 +10,7 @@ use Rattle.far_types.specs.FirstOf.{first_of}
 use Rattle.far_scopes.specs.declared.object_record.ObjectRecord.{ObjectRecord}
 use Rattle.far_scopes.specs.Movement.{Movement, record_of}
 use Rattle.far_scopes.specs.Refusing.{absent}
-use Rattle.far_vector.specs.Vector.{Vector}
+use Rattle.far_columns.specs.Vector.{Vector}
 use Rattle.far_texts.specs.Texts.{Texts}
 use Rattle.far_rows.specs.declared.column_index.ColumnIndex.{ColumnIndex}
 use Rattle.far_rows.specs.declared.column_index.ColumnIndex.TheVariants as column_index

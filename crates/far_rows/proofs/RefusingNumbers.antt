@@ -1,5 +1,5 @@
 -- Why setting a number is refused, given its row group.
-use Rattle.std.proofs.Common.{◌≡◌, ℕ, ℤ, ◌*◌, ◌/◌, ◌<◌, nat_lt, Bool, true, false, cond, List, [], ◌∷◌, length, get_or, Option, None, Some, refl, sym, ap, subst, ◌∙◌, arith}
+use Rattle.std.proofs.Common.{◌≡◌, ℕ, ℤ, ◌/◌, ◌<◌, nat_lt, Bool, true, false, cond, List, [], ◌∷◌, length, get_or, Option, None, Some, refl, sym, ap, subst, ◌∙◌, arith}
 use Rattle.std.specs.Prelude.{not, slice_get}
 use Rattle.std.specs.Option.{option_and_then}
 use Rattle.std.proofs.lemmas.Bool.{lt-ltb, ltb-true, not-false}
@@ -7,9 +7,9 @@ use Rattle.std.proofs.lemmas.Option.{same_Some, slice_get-get_or, slice_get_with
 use Rattle.far_types.specs.declared.refusal.Refusal.TheVariants as refusal
 use Rattle.far_types.specs.FirstOf.{first_of}
 use Rattle.far_scopes.specs.Refusing.{absent, written_out, write_refusal}
-use Rattle.far_vector.specs.Vector.{Vector, IsShaped, object_at}
-use Rattle.far_vector.specs.Refusing.{set_refusal}
-use Rattle.far_vector.proofs.VectorLaws.{object-there}
+use Rattle.far_columns.specs.Vector.{Vector, IsShaped, object_at}
+use Rattle.far_columns.specs.Refusing.{set_refusal}
+use Rattle.far_columns.proofs.VectorLaws.{object-there}
 use Rattle.far_rows.specs.Rows.{Rows, AreRows}
 
 module _ {K : Type 0} (content : K → List ℕ) (r : Rows K) (are : AreRows content r) (i place group : ℕ) (v : Vector (Option ℤ)) (column : slice_get r.numbers i ≡ Some v) (used : place < length r.alive) (of : group ≡ place / r.size) where

@@ -7,8 +7,8 @@ use Rattle.std.proofs.lemmas.Bool.{eqb-true}
 use Rattle.std.proofs.lemmas.Nat.{le-div}
 use Rattle.std.proofs.lemmas.Option.{none-some, same_Some, slice_get-map, slice_get_past}
 use Rattle.far_scopes.specs.Refusing.{written_out}
-use Rattle.far_vector.specs.Vector.{Vector, IsShaped}
-use Rattle.far_vector.specs.Effects.{is_full}
+use Rattle.far_columns.specs.Vector.{Vector, IsShaped}
+use Rattle.far_columns.specs.Effects.{is_full}
 use Rattle.far_texts.specs.Texts.{Texts, Lists, HasGroups}
 use Rattle.far_texts.specs.Effects.{begins_group, last_object}
 use Rattle.far_texts.specs.Together.{object_for, next_forms}

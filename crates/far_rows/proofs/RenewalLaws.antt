@@ -7,8 +7,8 @@ use Rattle.far_codec.specs.Reading.{ints_meaning}
 use Rattle.far_scopes.specs.declared.object_record.ObjectRecord.{ObjectRecord}
 use Rattle.far_scopes.specs.Movement.{Movement, AreClean}
 use Rattle.far_scopes.specs.Renewal.{renewed_record, after_renew}
-use Rattle.far_vector.proofs.VectorsLaws.{vectors-stay, elements-stay}
-use Rattle.far_vector.specs.Vector.{Vector}
+use Rattle.far_columns.proofs.VectorsLaws.{vectors-stay, elements-stay}
+use Rattle.far_columns.specs.Vector.{Vector}
 use Rattle.far_texts.specs.Texts.{Texts, lists_of, texts_in}
 use Rattle.far_columns.specs.Numbers.{number_lists, numbers_in}
 use Rattle.far_texts.proofs.ColumnsLaws.{columns-stay, texts-stay}

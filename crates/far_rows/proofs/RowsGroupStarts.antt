@@ -6,8 +6,8 @@ use Rattle.std.proofs.Math.Nat.{div-add-mod', mul-mod_left, mul-add, mul-one}
 use Rattle.std.proofs.lemmas.Bool.{cases_lt, cases_eq, cases_Bool, eq-eqb, eqb-true}
 use Rattle.std.proofs.lemmas.List.Elements.{All-head, All-weaker}
 use Rattle.std.proofs.lemmas.List.Sums.{AllPass-from_list_all, list_all-from_AllPass}
-use Rattle.far_vector.specs.Vector.{Vector, IsShaped}
-use Rattle.far_vector.specs.Effects.{is_full}
+use Rattle.far_columns.specs.Vector.{Vector, IsShaped}
+use Rattle.far_columns.specs.Effects.{is_full}
 use Rattle.far_texts.specs.Texts.{Texts, HasGroups}
 use Rattle.far_texts.specs.Effects.{begins_group}
 use Rattle.far_columns.specs.NumbersTogether.{NumberColumns, all_begin}

@@ -12,8 +12,8 @@ use Rattle.far_types.specs.declared.refusal.Refusal.{Refusal}
 use Rattle.far_types.specs.declared.refusal.Refusal.TheVariants as refusal
 use Rattle.far_types.specs.FirstOf.{first_of}
 use Rattle.far_scopes.specs.Refusing.{absent}
-use Rattle.far_vector.specs.Vector.{Vector, IsVector, IsShaped}
-use Rattle.far_vector.specs.Refusing.{get_refusal}
+use Rattle.far_columns.specs.Vector.{Vector, IsVector, IsShaped}
+use Rattle.far_columns.specs.Refusing.{get_refusal}
 use Rattle.far_columns.specs.Numbers.{number_lists, numbers_in}
 use Rattle.far_texts.specs.Texts.{Texts, HasGroups, IsTextColumn, lists_of, texts_in}
 use Rattle.far_texts.specs.Refusing.{text_refusal}

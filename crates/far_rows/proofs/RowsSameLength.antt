@@ -5,8 +5,8 @@ use Rattle.std.proofs.lemmas.List.{length-map}
 use Rattle.std.proofs.lemmas.List.Elements.{All-nil, All-cons, All-head, All-tail}
 use Rattle.std.proofs.lemmas.Option.{slice_get-map, get_or_from_slice_get}
 use Rattle.far_types.specs.declared.cell.Cell.{Cell}
-use Rattle.far_vector.specs.Vector.{Vector, IsVector, IsShaped}
-use Rattle.far_vector.proofs.VectorLaws.{length-elements}
+use Rattle.far_columns.specs.Vector.{Vector, IsVector, IsShaped}
+use Rattle.far_columns.proofs.VectorLaws.{length-elements}
 use Rattle.far_texts.specs.Texts.{Texts, HasGroups, IsTextColumn, lists_of, texts_in}
 use Rattle.far_columns.specs.Numbers.{number_lists, numbers_in}
 use Rattle.far_texts.proofs.TextsGroups.{texts-length}

@@ -3,9 +3,9 @@ use Rattle.std.proofs.Common.{◌≡◌, ◌≢◌, ℕ, zero, suc, ◌<◌, Lis
 use Rattle.std.specs.Prelude.{ℤ, slice_get, slice_set}
 use Rattle.std.proofs.lemmas.Option.{slice_get_within, get_or_from_slice_get}
 use Rattle.std.proofs.lemmas.List.{set-get_or}
-use Rattle.far_vector.specs.Vector.{Vector, IsVector, AreDisjoint, IsUntouched, elements}
-use Rattle.far_vector.specs.Vectors.{AreVectors, ChangesVector}
-use Rattle.far_vector.proofs.VectorsLaws.{vectors-after, others-after}
+use Rattle.far_columns.specs.Vector.{Vector, IsVector, AreDisjoint, IsUntouched, elements}
+use Rattle.far_columns.specs.Vectors.{AreVectors, ChangesVector}
+use Rattle.far_columns.proofs.VectorsLaws.{vectors-after, others-after}
 use Rattle.far_texts.specs.Texts.{Texts, Lists, IsTextColumn, KeepsOthers, texts_in}
 use Rattle.far_texts.specs.Columns.{AreTextColumns, ChangesColumn}
 use Rattle.far_columns.specs.NumbersTogether.{NumberLists, NumberColumns, AreNumberColumns}

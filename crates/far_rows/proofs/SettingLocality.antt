@@ -13,8 +13,8 @@ use Rattle.far_scopes.specs.Effects.{after_write, after_replace}
 use Rattle.far_scopes.specs.Placing.{spot}
 use Rattle.far_scopes.specs.Refusing.{absent}
 use Rattle.far_codec.specs.TextForm.{texts_form}
-use Rattle.far_vector.specs.Vector.{Vector, object_at as number_at}
-use Rattle.far_vector.specs.Effects.{after_write_range}
+use Rattle.far_columns.specs.Vector.{Vector, object_at as number_at}
+use Rattle.far_columns.specs.Effects.{after_write_range}
 use Rattle.far_texts.specs.Texts.{Texts, lists_of, object_at as text_at}
 use Rattle.far_texts.specs.Effects.{group_with, set_in as text_set_in}
 use Rattle.far_rows.specs.declared.column_index.ColumnIndex.{ColumnIndex}

@@ -14,4 +14,6 @@ use Rattle.far_rows.specs.Refusing.{absents}
 -- those of numbers
 abbrev pub kinds_refusal : {K : Type 0} → (K → List ℕ) → Rows K → Values → Option Refusal
 kinds_refusal content r values =
-    option_or (first_of (absents r (length r.alive / r.size))) (option_or (push_texts_refusal content r.text_objects r.texts values.texts) (push_numbers_refusal r.number_objects r.numbers))
+    option_or (first_of (absents r (length r.alive / r.size)))
+    (option_or (push_texts_refusal content r.text_objects r.texts values.texts)
+    (push_numbers_refusal r.number_objects r.numbers))

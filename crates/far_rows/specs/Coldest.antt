@@ -11,7 +11,9 @@ use Rattle.far_rows.specs.Rows.{Rows}
 
 -- the name of the coldest object of one kind
 abbrev pub coldest_name : {X K : Type 0} → Movement X K → Option Name
-coldest_name m = option_and_then (λ o. option_map (λ object_record. object_record.name) (record_of m o)) (coldest_in m)
+coldest_name m =
+    option_and_then (λ o. option_map (λ object_record. object_record.name) (record_of m o))
+    (coldest_in m)
 
 module _ {K : Type 0} (r : Rows K) where
   -- whether the objects of numbers have at most as much space, in proportion to their capacity, as those of texts
@@ -23,7 +25,10 @@ module _ {K : Type 0} (r : Rows K) where
 
   -- the name of the coldest object of the kind with less space or, if that kind has none, of the other
   abbrev pub coldest : Option Name
-  coldest = cond numbers_go_first (option_or (coldest_name r.number_objects) (coldest_name r.text_objects)) (option_or (coldest_name r.text_objects) (coldest_name r.number_objects))
+  coldest =
+      cond numbers_go_first
+      (option_or (coldest_name r.number_objects) (coldest_name r.text_objects))
+      (option_or (coldest_name r.text_objects) (coldest_name r.number_objects))
 
   -- how many pins an object has
   abbrev pub pins_at : Object → ℕ

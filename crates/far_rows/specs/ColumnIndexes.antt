@@ -11,8 +11,10 @@ use Rattle.far_types.specs.Lent.{int_cell, text_cell}
 -- the indexes of columns of these kinds, which come after `numbers` columns of numbers and `texts` of texts
 abbrev pub column_indexes_from : ℕ → ℕ → List Kind → List ColumnIndex
 column_indexes_from numbers texts [] = []
-column_indexes_from numbers texts (kind.Int ∷ kinds) = column_index.Number numbers ∷ column_indexes_from (numbers + 1) texts kinds
-column_indexes_from numbers texts (kind.Text ∷ kinds) = column_index.Text texts ∷ column_indexes_from numbers (texts + 1) kinds
+column_indexes_from numbers texts (kind.Int ∷ kinds) =
+    column_index.Number numbers ∷ column_indexes_from (numbers + 1) texts kinds
+column_indexes_from numbers texts (kind.Text ∷ kinds) =
+    column_index.Text texts ∷ column_indexes_from numbers (texts + 1) kinds
 
 -- the kind of the column with this index
 abbrev pub kind_of : ColumnIndex → Kind
@@ -46,16 +48,20 @@ row_of column_indexes values = map (cell_in values) column_indexes
 
 -- the values with another one at an index; the cell has the index's kind
 abbrev pub with_value : Values → ColumnIndex → Cell → Values
-with_value values (column_index.Number i) cell = record values { numbers = slice_set values.numbers i (number_in (Some cell)) }
-with_value values (column_index.Text i) cell = record values { texts = slice_set values.texts i (text_in cell) }
+with_value values (column_index.Number i) cell =
+    record values { numbers = slice_set values.numbers i (number_in (Some cell)) }
+with_value values (column_index.Text i) cell =
+    record values { texts = slice_set values.texts i (text_in cell) }
 
 -- the cells of the column with this index
-abbrev pub column_in : List (List (Option ℤ)) → List (List (Option (List ℕ))) → ColumnIndex → List Cell
+abbrev pub column_in : List (List (Option ℤ)) → List (List (Option (List ℕ))) → ColumnIndex
+    → List Cell
 column_in numbers texts (column_index.Number i) = map int_cell (slice_index_or numbers i [])
 column_in numbers texts (column_index.Text i) = map text_cell (slice_index_or texts i [])
 
 -- the columns of a table, given its number columns and its text columns
-abbrev pub columns_of : List ColumnIndex → List (List (Option ℤ)) → List (List (Option (List ℕ))) → List (List Cell)
+abbrev pub columns_of : List ColumnIndex → List (List (Option ℤ)) → List (List (Option (List ℕ)))
+    → List (List Cell)
 columns_of column_indexes numbers texts = map (column_in numbers texts) column_indexes
 
 -- the columns with one more row: one more cell in each

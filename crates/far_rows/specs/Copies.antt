@@ -27,8 +27,11 @@ module _ {K : Type 0} where
   module _ (content : K → List ℕ) (r : Rows K) (ticket : K) where
     -- the content of a ticket is the far form of an object
     abbrev pub Spells : Object → Type 0
-    Spells (object.Number o) = IsSomeAnd (number_lists content r.number_objects o) (λ list. SpellsNumbers list (content ticket))
-    Spells (object.Text o) = IsSomeAnd (lists_of content r.text_objects o) (λ list. SpellsTexts list (content ticket))
+    Spells (object.Number o) =
+        IsSomeAnd (number_lists content r.number_objects o)
+        (λ list. SpellsNumbers list (content ticket))
+    Spells (object.Text o) =
+        IsSomeAnd (lists_of content r.text_objects o) (λ list. SpellsTexts list (content ticket))
 
     -- the content of a ticket is the far form of a row group of a column
     abbrev pub IsCopyOf : ℕ → ℕ → Type 0

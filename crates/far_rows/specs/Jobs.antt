@@ -45,16 +45,22 @@ module _ {K : Type 0} where
 
   module _ (content : K → List ℕ) where
     -- an evacuation after its carry: the far store has its form
-    abbrev pub IsCarriedEvac : ByKind (Evacuation K) (Evacuation K) → ByKind (CarriedEvacuation K) (CarriedEvacuation K) → Type 0
-    IsCarriedEvac (Numbers job) (Numbers carried) = (carried.job ≡ job) × IsFormTicket content job.form carried.ticket
-    IsCarriedEvac (Texts job) (Texts carried) = (carried.job ≡ job) × IsFormTicket content job.form carried.ticket
+    abbrev pub IsCarriedEvac : ByKind (Evacuation K) (Evacuation K)
+        → ByKind (CarriedEvacuation K) (CarriedEvacuation K) → Type 0
+    IsCarriedEvac (Numbers job) (Numbers carried) =
+        (carried.job ≡ job) × IsFormTicket content job.form carried.ticket
+    IsCarriedEvac (Texts job) (Texts carried) =
+        (carried.job ≡ job) × IsFormTicket content job.form carried.ticket
     IsCarriedEvac (Numbers job) (Texts carried) = ⊥
     IsCarriedEvac (Texts job) (Numbers carried) = ⊥
 
     -- a fetch after its carry: its bytes are the content of its ticket
-    abbrev pub IsCarriedFetch : ByKind (Fetch K) (Fetch K) → ByKind (CarriedFetch K) (CarriedFetch K) → Type 0
-    IsCarriedFetch (Numbers job) (Numbers fetched) = (fetched.job ≡ job) × (fetched.bytes ≡ content job.ticket)
-    IsCarriedFetch (Texts job) (Texts fetched) = (fetched.job ≡ job) × (fetched.bytes ≡ content job.ticket)
+    abbrev pub IsCarriedFetch : ByKind (Fetch K) (Fetch K)
+        → ByKind (CarriedFetch K) (CarriedFetch K) → Type 0
+    IsCarriedFetch (Numbers job) (Numbers fetched) =
+        (fetched.job ≡ job) × (fetched.bytes ≡ content job.ticket)
+    IsCarriedFetch (Texts job) (Texts fetched) =
+        (fetched.job ≡ job) × (fetched.bytes ≡ content job.ticket)
     IsCarriedFetch (Numbers job) (Texts fetched) = ⊥
     IsCarriedFetch (Texts job) (Numbers fetched) = ⊥
 
@@ -84,11 +90,14 @@ module _ {K : Type 0} where
 
       -- why no evacuation begins: there is no such object, or it is away
       abbrev pub evac_refusal : Option Refusal
-      evac_refusal = option_or (object_refusal r column group) (first_of (absent_in r column group ∷ []))
+      evac_refusal =
+          option_or (object_refusal r column group) (first_of (absent_in r column group ∷ []))
 
       -- why no fetch begins: there is no such object, or it is local
       abbrev pub fetch_refusal : Option Refusal
-      fetch_refusal = option_or (object_refusal r column group) (first_of ((not (absent_in r column group).0, refusal.StaleJob) ∷ []))
+      fetch_refusal =
+          option_or (object_refusal r column group)
+          (first_of ((not (absent_in r column group).0, refusal.StaleJob) ∷ []))
 
     -- how many pins the object of a carried evacuation has
     abbrev pub pins_by : ByKind (CarriedEvacuation K) (CarriedEvacuation K) → ℕ
@@ -97,8 +106,10 @@ module _ {K : Type 0} where
 
     -- the rows after the object of a carried evacuation is sent away
     abbrev pub after_commit : ByKind (CarriedEvacuation K) (CarriedEvacuation K) → Rows K
-    after_commit (Numbers carried) = record r { number_objects = after_leave r.number_objects carried.job.object carried.ticket }
-    after_commit (Texts carried) = record r { text_objects = after_leave r.text_objects carried.job.object carried.ticket }
+    after_commit (Numbers carried) =
+        record r { number_objects = after_leave r.number_objects carried.job.object carried.ticket }
+    after_commit (Texts carried) =
+        record r { text_objects = after_leave r.text_objects carried.job.object carried.ticket }
 
   module _ (number_of : K → ℕ) (r : Rows K) where
     -- when a carried evacuation can be committed; it is accepted if the object has no pin either
@@ -108,16 +119,27 @@ module _ {K : Type 0} where
 
     -- when a carried fetch can be installed; it is accepted if a segment has space for it too
     abbrev pub IsFetchAccepted : ByKind (CarriedFetch K) (CarriedFetch K) → Type 0
-    IsFetchAccepted (Numbers fetched) = IsInstallable number_of SpellsNumbers r.number_objects fetched
+    IsFetchAccepted (Numbers fetched) =
+        IsInstallable number_of SpellsNumbers r.number_objects fetched
     IsFetchAccepted (Texts fetched) = IsInstallable number_of SpellsTexts r.text_objects fetched
 
   module _ (content : K → List ℕ) (r : Rows K) where
     -- no segment has the space for the list of the fetched object
     abbrev pub HasNoSpace : ByKind (CarriedFetch K) (CarriedFetch K) → Type 0
-    HasNoSpace (Numbers fetched) = IsSomeAnd (number_lists content r.number_objects fetched.job.object) (λ list. fits_in r.number_objects.memory.state (length list) ≡ false)
-    HasNoSpace (Texts fetched) = IsSomeAnd (lists_of content r.text_objects fetched.job.object) (λ list. fits_in r.text_objects.memory.state (length list) ≡ false)
+    HasNoSpace (Numbers fetched) =
+        IsSomeAnd (number_lists content r.number_objects fetched.job.object)
+        (λ list. fits_in r.number_objects.memory.state (length list) ≡ false)
+    HasNoSpace (Texts fetched) =
+        IsSomeAnd (lists_of content r.text_objects fetched.job.object)
+        (λ list. fits_in r.text_objects.memory.state (length list) ≡ false)
 
     -- the rows after the fetched object is brought back, with its list
     abbrev pub IsAfterInstall : ByKind (CarriedFetch K) (CarriedFetch K) → Rows K → Type 0
-    IsAfterInstall (Numbers fetched) now = IsSomeAnd (number_lists content r.number_objects fetched.job.object) (λ list. now ≡ record r { number_objects = after_arrive r.number_objects fetched.job.object list })
-    IsAfterInstall (Texts fetched) now = IsSomeAnd (lists_of content r.text_objects fetched.job.object) (λ list. now ≡ record r { text_objects = after_arrive r.text_objects fetched.job.object list })
+    IsAfterInstall (Numbers fetched) now =
+        IsSomeAnd (number_lists content r.number_objects fetched.job.object)
+        (λ list. now
+        ≡ record r { number_objects = after_arrive r.number_objects fetched.job.object list })
+    IsAfterInstall (Texts fetched) now =
+        IsSomeAnd (lists_of content r.text_objects fetched.job.object)
+        (λ list. now
+        ≡ record r { text_objects = after_arrive r.text_objects fetched.job.object list })

@@ -5,7 +5,7 @@ use Rattle.std.specs.Option.{option_map_or}
 use Rattle.far_types.specs.declared.cell.Cell.{Cell}
 use Rattle.far_types.specs.Lent.{int_cell, text_cell}
 use Rattle.far_codec.specs.TextForm.{texts_meaning, IsTextsForm}
-use Rattle.far_vector.specs.Pieces.{pieces_of}
+use Rattle.far_columns.specs.Pieces.{pieces_of}
 use Rattle.far_columns.specs.Numbers.{Numbers, with_flags}
 use Rattle.far_rows.specs.declared.lent_column.LentColumn.{LentColumn}
 use Rattle.far_rows.specs.declared.lent_column.LentColumn.TheVariants as lent
@@ -21,7 +21,9 @@ module _ {K : Type 0} (content : K → List ℕ) (r : Rows K) where
 
   -- the lent part of a number column: a piece for each row group that has some of the part, with the flags of its places
   abbrev pub lent_ints : ℕ → ℕ → ℕ → List (Numbers × List Bool)
-  lent_ints column from to = option_map_or (λ s. with_flags (pieces_of (numbers_of s) r.size from to) (slice_range r.alive from to)) (slice_get r.column_indexes column) []
+  lent_ints column from to =
+      option_map_or (λ s. with_flags (pieces_of (numbers_of s) r.size from to)
+      (slice_range r.alive from to)) (slice_get r.column_indexes column) []
 
   -- the texts of the column with this index; none if it is a number column
   abbrev pub texts_of : ColumnIndex → List (Option (List ℕ))
@@ -30,7 +32,9 @@ module _ {K : Type 0} (content : K → List ℕ) (r : Rows K) where
 
   -- the lent texts of a column, each with the flag of its place
   abbrev pub lent_texts : ℕ → ℕ → ℕ → List (Option (List ℕ) × Bool)
-  lent_texts column from to = option_map_or (λ s. zip (slice_range (texts_of s) from to) (slice_range r.alive from to)) (slice_get r.column_indexes column) []
+  lent_texts column from to =
+      option_map_or (λ s. zip (slice_range (texts_of s) from to) (slice_range r.alive from to))
+      (slice_get r.column_indexes column) []
 
 -- the cells of a lent row group
 abbrev pub cells_lent : LentColumn → List Cell

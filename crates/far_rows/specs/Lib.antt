@@ -15,3 +15,4 @@ pub mod Copies
 pub mod Coldest
 pub mod Renewal
 pub mod PlaceRows
+pub mod Appending

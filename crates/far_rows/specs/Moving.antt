@@ -22,7 +22,9 @@ object_in (column_index.Text i) o = object.Text o
 module _ {K : Type 0} where
   -- the object of a row group of a column; none if there is no such column, or no place of the row group is used
   abbrev pub object_at : Rows K → ℕ → ℕ → Option Object
-  object_at r column group = option_and_then (λ s. option_map (object_in s) (object_of r s group)) (slice_get r.column_indexes column)
+  object_at r column group =
+      option_and_then (λ s. option_map (object_in s) (object_of r s group))
+      (slice_get r.column_indexes column)
 
   -- the object exists
   abbrev pub IsInUse : Rows K → Object → Type 0
@@ -45,12 +47,15 @@ module _ {K : Type 0} where
   after_touch r (object.Text o) = record r { text_objects = after_touch_in r.text_objects o }
 
   -- what a pin, an unpin, a use and a compaction keep, accepted or refused: the cells, and the stores of the tickets
-  pub record KeepsCells (content : K → List ℕ) (is_of : K → List ℕ → Type 0) (old new : Rows K) : Type 0 where
+  pub record KeepsCells (content : K → List ℕ) (is_of : K → List ℕ → Type 0)
+      (old new : Rows K) : Type 0 where
     -- each column has the same cells
     pub cells : all_cells content new ≡ all_cells content old
     -- tickets of a store remain tickets of that store
-    pub number_store : (id : List ℕ) → AreHere is_of id old.number_objects → AreHere is_of id new.number_objects
-    pub text_store : (id : List ℕ) → AreHere is_of id old.text_objects → AreHere is_of id new.text_objects
+    pub number_store : (id : List ℕ) → AreHere is_of id old.number_objects
+        → AreHere is_of id new.number_objects
+    pub text_store : (id : List ℕ) → AreHere is_of id old.text_objects
+        → AreHere is_of id new.text_objects
 
   -- the object has 65,535 pins
   abbrev pub pins_used : Rows K → Object → Bool × Refusal
@@ -66,12 +71,18 @@ module _ {K : Type 0} where
   module _ (r : Rows K) (column group : ℕ) where
     -- there is no such column, or no place of the row group is used
     abbrev pub object_refusal : Option Refusal
-    object_refusal = first_of (no_column r column ∷ (is_none (object_at r column group), refusal.OutOfRange) ∷ [])
+    object_refusal =
+        first_of (no_column r column ∷ (is_none (object_at r column group), refusal.OutOfRange)
+        ∷ [])
 
     -- why pinning the object of a row group of a column is refused (`pin`)
     abbrev pub pin_refusal : Option Refusal
-    pin_refusal = option_or object_refusal (first_of (absent_in r column group ∷ option_map_or (pins_used r) (object_at r column group) (false, refusal.StaleJob) ∷ []))
+    pin_refusal =
+        option_or object_refusal
+        (first_of (absent_in r column group
+        ∷ option_map_or (pins_used r) (object_at r column group) (false, refusal.StaleJob) ∷ []))
 
     -- why unpinning the object of a row group of a column is refused (`unpin`)
     abbrev pub unpin_refusal : Option Refusal
-    unpin_refusal = option_or object_refusal (option_and_then (unpin_refusal_of r) (object_at r column group))
+    unpin_refusal =
+        option_or object_refusal (option_and_then (unpin_refusal_of r) (object_at r column group))

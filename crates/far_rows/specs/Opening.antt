@@ -13,22 +13,38 @@ use Rattle.far_rows.specs.Rows.{Rows}
 -- the number columns among columns of these kinds, each empty; the first of the kinds is that of column n of the table
 abbrev pub numbers_from : ℕ → ℕ → List Kind → NumberColumns
 numbers_from size n [] = []
-numbers_from size n (kind.Int ∷ kinds) = record { column = n; size = size; objects = []; len = 0; default_value = Some (pos 0) } ∷ numbers_from size (n + 1) kinds
+numbers_from size n (kind.Int ∷ kinds) =
+    record { column = n; size = size; objects = []; len = 0; default_value = Some (pos 0) }
+    ∷ numbers_from size (n + 1) kinds
 numbers_from size n (kind.Text ∷ kinds) = numbers_from size (n + 1) kinds
 
 -- the text columns, in the same way
 abbrev pub texts_from : ℕ → ℕ → ℕ → List Kind → List Texts
 texts_from size limit n [] = []
 texts_from size limit n (kind.Int ∷ kinds) = texts_from size limit (n + 1) kinds
-texts_from size limit n (kind.Text ∷ kinds) = record { column = n; size = size; limit = limit; objects = []; len = 0 } ∷ texts_from size limit (n + 1) kinds
+texts_from size limit n (kind.Text ∷ kinds) =
+    record { column = n; size = size; limit = limit; objects = []; len = 0 }
+    ∷ texts_from size limit (n + 1) kinds
 
 -- the limits of the objects of numbers: each may be written and go away as often as there are edits
 abbrev pub number_limits : Limits → ObjectLimits
-number_limits limits = record { segments = limits.int_segments; size = limits.int_size; max_writes = limits.edits; leavings = limits.edits }
+number_limits limits =
+    record {
+      segments = limits.int_segments;
+      size = limits.int_size;
+      max_writes = limits.edits;
+      leavings = limits.edits;
+    }
 
 -- the limits of the objects of texts, in the same way
 abbrev pub text_limits : Limits → ObjectLimits
-text_limits limits = record { segments = limits.text_segments; size = limits.text_size; max_writes = limits.edits; leavings = limits.edits }
+text_limits limits =
+    record {
+      segments = limits.text_segments;
+      size = limits.text_size;
+      max_writes = limits.edits;
+      leavings = limits.edits;
+    }
 
 -- an empty table with this schema and these limits
 abbrev pub empty_rows : {K : Type 0} → List Kind → Limits → ℕ → Rows K

@@ -15,7 +15,8 @@ row_at columns place = map (λ cells. slice_index_or cells place Missing) column
 
 -- the places of some columns: for each flag, in order, the row at that place
 abbrev pub places_of : List (List Cell) → List Bool → List Place
-places_of columns flags = map (λ at. record { cells = row_at columns at.0; alive = at.1 }) (enumerate_from 0 flags)
+places_of columns flags =
+    map (λ at. record { cells = row_at columns at.0; alive = at.1 }) (enumerate_from 0 flags)
 
 module _ {K : Type 0} where
   -- the places of rows over objects, local or away
@@ -29,4 +30,6 @@ module _ {K : Type 0} where
 
   -- the lengths of the text objects that an insert writes, in the order of the text columns
   abbrev pub text_parts : (K → List ℕ) → Limits → Rows K → Edit → ℕ → List ℕ
-  text_parts content limits r edit g = map (λ c. text_object_length limits c.column g (places_after edit (places_in content r))) r.texts
+  text_parts content limits r edit g =
+      map (λ c. text_object_length limits c.column g (places_after edit (places_in content r)))
+      r.texts

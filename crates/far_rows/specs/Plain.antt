@@ -29,12 +29,17 @@ module _ {K : Type 0} (content : K → List ℕ) (limits : Limits) (r : Rows K) 
   abbrev pub insert_refusal : Values → Option Refusal
   insert_refusal values =
       let e : Edit = edit.Insert (row_of r.column_indexes values)
-      in first_of (append_tests r (is_too_full e) (text_parts content limits r e (length (places_in content r) / limits.group)))
+      in first_of (append_tests r (is_too_full e)
+      (text_parts content limits r e (length (places_in content r) / limits.group)))
 
   -- the form of a text object, written by itself, does not fit; a number needs no space
   abbrev pub no_space_alone : Edit → ℕ → ℕ → Object → Bool × Refusal
   no_space_alone e column g (object.Number o) = (false, refusal.RegionFull)
-  no_space_alone e column g (object.Text o) = (not (fits_in r.text_objects.memory.state (text_object_length limits column g (places_after e (places_in content r)))), refusal.RegionFull)
+  no_space_alone e column g (object.Text o) = (
+    not (fits_in r.text_objects.memory.state
+        (text_object_length limits column g (places_after e (places_in content r)))),
+    refusal.RegionFull,
+  )
 
   -- the object was written as often as the limits allow
   abbrev pub writes_used : Object → Bool × Refusal
@@ -47,4 +52,7 @@ module _ {K : Type 0} (content : K → List ℕ) (limits : Limits) (r : Rows K) 
   cell_set_refusal column place value =
       let e : Edit = edit.Set place column (cell_of value)
       in let at : Option Object = object_at r column (place / r.size)
-      in first_of (absents r (place / r.size) ++ (is_too_full e, refusal.ChunkFull) ∷ option_map_or (no_space_alone e column (place / limits.group)) at (false, refusal.StaleJob) ∷ option_map_or writes_used at (false, refusal.StaleJob) ∷ [])
+      in first_of (absents r (place / r.size)
+      ++ (is_too_full e, refusal.ChunkFull)
+      ∷ option_map_or (no_space_alone e column (place / limits.group)) at
+      (false, refusal.StaleJob) ∷ option_map_or writes_used at (false, refusal.StaleJob) ∷ [])

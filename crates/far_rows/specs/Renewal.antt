@@ -9,13 +9,15 @@ pub record RowsTickets (L : Type 0) : Type 0 where
   pub texts : List (Option L)
 
 -- each of these tickets is of the store with this id
-pub record AreTicketsAt {L : Type 0} (is_of : L → List ℕ → Type 0) (id : List ℕ) (tickets : RowsTickets L) : Type 0 where
+pub record AreTicketsAt {L : Type 0} (is_of : L → List ℕ → Type 0) (id : List ℕ)
+    (tickets : RowsTickets L) : Type 0 where
   pub numbers : AreTicketsHere is_of id tickets.numbers
   pub texts : AreTicketsHere is_of id tickets.texts
 
 module _ {K L : Type 0} where
   -- these tickets renew the rows: each kind's tickets renew its objects
-  pub record RenewsRows (content : K → List ℕ) (new_content : L → List ℕ) (r : Rows K) (tickets : RowsTickets L) : Type 0 where
+  pub record RenewsRows (content : K → List ℕ) (new_content : L → List ℕ) (r : Rows K)
+      (tickets : RowsTickets L) : Type 0 where
     pub numbers : Renews content new_content r.number_objects tickets.numbers
     pub texts : Renews content new_content r.text_objects tickets.texts
 

@@ -4,7 +4,7 @@ use Rattle.std.specs.Option.{option_and_then}
 use Rattle.far_types.specs.declared.cell.Cell.{Cell}
 use Rattle.far_codec.specs.Reading.{ints_meaning}
 use Rattle.far_scopes.specs.Movement.{Movement, AreClean}
-use Rattle.far_vector.specs.Vector.{IsShaped}
+use Rattle.far_columns.specs.Vector.{IsShaped}
 use Rattle.far_texts.specs.Texts.{Texts, HasGroups, lists_of, texts_in}
 use Rattle.far_columns.specs.Numbers.{Numbers, number_lists, numbers_in}
 use Rattle.far_columns.specs.NumbersTogether.{NumberColumns, AreNumberColumns}
@@ -28,8 +28,10 @@ pub record Rows (K : Type 0) : Type 0 where
 module _ {K : Type 0} where
   -- the object of a row group of a column; none if there is no such column, or no place of the row group is used
   abbrev pub object_of : Rows K → ColumnIndex → ℕ → Option ℕ
-  object_of r (column_index.Number i) g = option_and_then (λ c. slice_get c.objects g) (slice_get r.numbers i)
-  object_of r (column_index.Text i) g = option_and_then (λ c. slice_get c.objects g) (slice_get r.texts i)
+  object_of r (column_index.Number i) g =
+      option_and_then (λ c. slice_get c.objects g) (slice_get r.numbers i)
+  object_of r (column_index.Text i) g =
+      option_and_then (λ c. slice_get c.objects g) (slice_get r.texts i)
 
   module _ (content : K → List ℕ) where
     -- the numbers of each column of numbers
@@ -59,20 +61,34 @@ module _ {K : Type 0} where
       pub grouped : All HasGroups r.texts
       pub same_length_numbers : All (λ c. (c.size ≡ r.size) × (c.len ≡ length r.alive)) r.numbers
       pub same_length_texts : All (λ c. (c.size ≡ r.size) × (c.len ≡ length r.alive)) r.texts
-      pub number_objects : All (λ c. length r.number_objects.records ≡ length r.numbers * length c.objects) r.numbers
-      pub text_objects : All (λ c. length r.text_objects.records ≡ length r.texts * length c.objects) r.texts
-      pub numbered : AreNumbered r.column_indexes (map (λ c. c.column) r.numbers) (map (λ c. c.column) r.texts)
-      pub placed_numbers : ArePlaced r.column_indexes (λ i. column_index.Number i) (map (λ c. c.column) r.numbers)
-      pub placed_texts : ArePlaced r.column_indexes (λ i. column_index.Text i) (map (λ c. c.column) r.texts)
-      pub number_names : All (λ c. AreNamed (names_of r.number_objects) c.column c.objects) r.numbers
+      pub number_objects : All
+          (λ c. length r.number_objects.records ≡ length r.numbers * length c.objects) r.numbers
+      pub text_objects : All
+          (λ c. length r.text_objects.records ≡ length r.texts * length c.objects) r.texts
+      pub numbered : AreNumbered r.column_indexes (map (λ c. c.column) r.numbers)
+          (map (λ c. c.column) r.texts)
+      pub placed_numbers : ArePlaced r.column_indexes (λ i. column_index.Number i)
+          (map (λ c. c.column) r.numbers)
+      pub placed_texts : ArePlaced r.column_indexes (λ i. column_index.Text i)
+          (map (λ c. c.column) r.texts)
+      pub number_names : All (λ c. AreNamed (names_of r.number_objects) c.column c.objects)
+          r.numbers
       pub text_names : All (λ c. AreNamed (names_of r.text_objects) c.column c.objects) r.texts
-      pub owned_numbers : AreOwned (λ c. c.column) (λ c. c.objects) (names_of r.number_objects) r.numbers
+      pub owned_numbers : AreOwned (λ c. c.column) (λ c. c.objects) (names_of r.number_objects)
+          r.numbers
       pub owned_texts : AreOwned (λ c. c.column) (λ c. c.objects) (names_of r.text_objects) r.texts
       pub clean_numbers : AreClean ints_meaning content r.number_objects
       pub clean_texts : AreClean (λ bytes. bytes) content r.text_objects
 
   -- the objects of texts after one of these texts is appended to each text column: new objects if row groups begin, else the last of each
   -- with another form. All forms were placed before an old one was dropped
-  pub record TextsMoved (content : K → List ℕ) (r : Rows K) (texts : List (Option (List ℕ))) (now : Movement ℕ K) : Type 0 where
-    pub begun : all_begin r.texts ≡ true → now ≡ after_create_all r.text_objects r.texts (next_forms (lists_of content r.text_objects) (length r.text_objects.records) r.texts texts)
-    pub replaced : all_begin r.texts ≡ false → AreReplaced r.text_objects (next_forms (lists_of content r.text_objects) (length r.text_objects.records) r.texts texts) now
+  pub record TextsMoved (content : K → List ℕ) (r : Rows K) (texts : List (Option (List ℕ)))
+      (now : Movement ℕ K) : Type 0 where
+    pub begun : all_begin r.texts ≡ true
+        → now
+        ≡ after_create_all r.text_objects r.texts
+        (next_forms (lists_of content r.text_objects) (length r.text_objects.records) r.texts texts)
+    pub replaced : all_begin r.texts ≡ false
+        → AreReplaced r.text_objects
+        (next_forms (lists_of content r.text_objects) (length r.text_objects.records) r.texts texts)
+        now

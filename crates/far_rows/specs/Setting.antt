@@ -6,8 +6,8 @@ use Rattle.far_types.specs.declared.cell.Kind.{Kind}
 use Rattle.far_types.specs.declared.cell.Kind.TheVariants as kind
 use Rattle.far_types.specs.declared.refusal.Refusal.{Refusal}
 use Rattle.far_types.specs.FirstOf.{first_of}
-use Rattle.far_vector.specs.Effects.{after_write_range}
-use Rattle.far_vector.specs.Refusing.{set_refusal as number_refusal}
+use Rattle.far_columns.specs.Effects.{after_write_range}
+use Rattle.far_columns.specs.Refusing.{set_refusal as number_refusal}
 use Rattle.far_texts.specs.Effects.{set_in as text_set_in}
 use Rattle.far_texts.specs.Refusing.{set_refusal as text_refusal}
 use Rattle.far_rows.specs.declared.column_index.ColumnIndex.{ColumnIndex}
@@ -30,21 +30,35 @@ kind_in (new.Text text) = kind.Text
 
 -- the columns with another cell at a place of one column
 abbrev pub with_cell_at : List (List Cell) → ℕ → ℕ → Cell → List (List Cell)
-with_cell_at columns c place cell = slice_set columns c (slice_set (slice_index_or columns c []) place cell)
+with_cell_at columns c place cell =
+    slice_set columns c (slice_set (slice_index_or columns c []) place cell)
 
 module _ {K : Type 0} (content : K → List ℕ) (r : Rows K) where
   -- why setting a cell of this index is refused by the column's own object
   abbrev pub value_refusal : ColumnIndex → ℕ → NewCell → Option Refusal
-  value_refusal (column_index.Number i) place value = option_and_then (λ c. number_refusal r.number_objects c place) (slice_get r.numbers i)
-  value_refusal (column_index.Text i) place (new.Text text) = option_and_then (λ c. text_refusal content r.text_objects c place text) (slice_get r.texts i)
+  value_refusal (column_index.Number i) place value =
+      option_and_then (λ c. number_refusal r.number_objects c place) (slice_get r.numbers i)
+  value_refusal (column_index.Text i) place (new.Text text) =
+      option_and_then (λ c. text_refusal content r.text_objects c place text) (slice_get r.texts i)
   value_refusal (column_index.Text i) place (new.Number number) = None
 
   -- why setting a cell is refused: an object of the place's row group is away, or the cell's column refuses
   abbrev pub set_refusal : ℕ → ℕ → NewCell → Option Refusal
-  set_refusal column place value = option_or (first_of (absents r (place / r.size))) (option_and_then (λ s. value_refusal s place value) (slice_get r.column_indexes column))
+  set_refusal column place value =
+      option_or (first_of (absents r (place / r.size)))
+      (option_and_then (λ s. value_refusal s place value) (slice_get r.column_indexes column))
 
   -- the rows after a cell is set: the object of its row group is written
   abbrev pub set_in : ColumnIndex → ℕ → NewCell → Rows K
-  set_in (column_index.Number i) place (new.Number number) = record r { number_objects = option_map_or (λ c. after_write_range r.number_objects c place (number ∷ [])) (slice_get r.numbers i) r.number_objects }
-  set_in (column_index.Text i) place (new.Text text) = record r { text_objects = option_map_or (λ c. text_set_in content r.text_objects c place text) (slice_get r.texts i) r.text_objects }
+  set_in (column_index.Number i) place (new.Number number) =
+      record r {
+        number_objects = option_map_or
+            (λ c. after_write_range r.number_objects c place (number ∷ [])) (slice_get r.numbers i)
+            r.number_objects;
+      }
+  set_in (column_index.Text i) place (new.Text text) =
+      record r {
+        text_objects = option_map_or (λ c. text_set_in content r.text_objects c place text)
+            (slice_get r.texts i) r.text_objects;
+      }
   set_in s place value = r

@@ -96,7 +96,8 @@ impl<S: FarStore> RowsEvac<S> {
         requires few { meter.old < 2 ^ 63 }
         requires here { IsFormOf S.is_of (S.store_id store.now) (of_either self).form }
         ensures carried { IfOk result (IsCarriedEvac S.content self) }
-        ensures here { IfOk result (λ carried. S.is_of (of_either carried).ticket (S.store_id store.now)) }
+        ensures here { IfOk result
+            (λ carried. S.is_of (of_either carried).ticket (S.store_id store.now)) }
         ensures back { IfErr result (λ refused. refused.1 ≡ self) }
         ensures dirty { IsErr result → IsDirtyForm (of_either self).form }
         ensures faults { meter.new ≡ meter.old + faults_in (outcome result) }
@@ -134,8 +135,10 @@ impl<S: FarTickets> RowsCarried<S> {
     /// job was begun on a clean object, whose far form the store already had. Allocates nothing.
     pub fn outgoing(&self, store: &S) -> Option<(u64, &[u8])>
         requires here { S.is_of (of_either self.now).ticket (S.store_id store.now) }
-        ensures number { option_map (λ out. out.0) result ≡ option_map S.number_of (put_ticket (of_either self.now)) }
-        ensures bytes { option_map (λ out. out.1.now) result ≡ option_map S.content (put_ticket (of_either self.now)) }
+        ensures number { option_map (λ out. out.0) result
+            ≡ option_map S.number_of (put_ticket (of_either self.now)) }
+        ensures bytes { option_map (λ out. out.1.now) result
+            ≡ option_map S.content (put_ticket (of_either self.now)) }
     {
         match &self.carried {
             ByKind::Numbers(carried) => carried.outgoing(store),

@@ -42,7 +42,9 @@ impl NewRow {
     pub fn new(alloc: Global, numbers: usize, texts: usize) -> Result<NewRow, Refusal>
         ensures numbers { IfOk result (λ row. length row.numbers ≡ numbers) }
         ensures texts { IfOk result (λ row. length row.texts ≡ texts) }
-        ensures missing { IfOk result (λ row. row ≡ record { numbers = replicate numbers None; texts = replicate texts None }) }
+        ensures missing { IfOk result
+            (λ row. row
+            ≡ record { numbers = replicate numbers None; texts = replicate texts None }) }
         ensures memory { IfErr result (λ e. e ≡ Refusal.NoMemory) }
     {
         Ok(NewRow {
@@ -55,7 +57,8 @@ impl NewRow {
     /// Loads the cells of a row, whose columns have these indexes. No text may be too long. Allocates nothing.
     #[inline(always)]
     pub fn load(&mut self, column_indexes: &[ColumnIndex], row: Row)
-        requires column_indexes { AreColumnIndexes column_indexes.now (length self.old.numbers) (length self.old.texts) }
+        requires column_indexes { AreColumnIndexes column_indexes.now (length self.old.numbers)
+            (length self.old.texts) }
         requires width { length row ≡ length column_indexes.now }
         requires of_kinds { kinds_fit (map kind_of column_indexes.now) row ≡ true }
         requires short { list_any is_too_long row ≡ false }
@@ -81,7 +84,8 @@ impl NewRow {
     // Sets the value at an index to that of a cell of the index's kind. The cell gets the old text.
     #[inline(always)]
     fn put(&mut self, column_index: ColumnIndex, cell: &mut Cell)
-        requires within { IsColumnIn (length self.old.numbers) (length self.old.texts) column_index }
+        requires within { IsColumnIn (length self.old.numbers) (length self.old.texts)
+            column_index }
         requires of_kind { is_of_kind (kind_of column_index) cell.old ≡ true }
         requires short { is_too_long cell.old ≡ false }
         ensures { self.new ≡ with_value self.old column_index cell.old }
@@ -94,7 +98,8 @@ impl NewRow {
 
     /// Borrows the row, whose columns have these indexes, cell by cell. Allocates nothing.
     pub fn lend(&self, column_indexes: &[ColumnIndex]) -> LentRow<'_>
-        requires column_indexes { AreColumnIndexes column_indexes.now (length self.now.numbers) (length self.now.texts) }
+        requires column_indexes { AreColumnIndexes column_indexes.now (length self.now.numbers)
+            (length self.now.texts) }
         requires few { length column_indexes.now ≤ 16 }
         ensures { result ≡ row_of column_indexes.now self.now }
     {
@@ -108,7 +113,8 @@ impl NewRow {
     /// Returns a view of the row, whose columns have these indexes. It borrows each cell when it is read. Allocates nothing.
     #[inline(always)]
     pub fn row_ref<'a>(&'a self, column_indexes: &'a [ColumnIndex]) -> NewRowRef<'a>
-        requires { AreColumnIndexes column_indexes.now (length self.now.numbers) (length self.now.texts) }
+        requires { AreColumnIndexes column_indexes.now (length self.now.numbers)
+            (length self.now.texts) }
         ensures { result ≡ row_of column_indexes.now self.now }
     {
         NewRowRef::new(self, column_indexes)

@@ -25,14 +25,16 @@ impl<'a> Model for NewRowRef<'a> {
 
     ghost view = { λ row. row_of row.column_indexes.now row.values.now };
 
-    ghost invariant = { λ row. AreColumnIndexes row.column_indexes.now (length row.values.now.numbers) (length row.values.now.texts) };
+    ghost invariant = { λ row. AreColumnIndexes row.column_indexes.now
+        (length row.values.now.numbers) (length row.values.now.texts) };
 }
 
 impl<'a> NewRowRef<'a> {
     // Makes the view of these values, whose columns have these indexes.
     #[inline(always)]
     pub(crate) fn new(values: &'a NewRow, column_indexes: &'a [ColumnIndex]) -> NewRowRef<'a>
-        requires { AreColumnIndexes column_indexes.now (length values.now.numbers) (length values.now.texts) }
+        requires { AreColumnIndexes column_indexes.now (length values.now.numbers)
+            (length values.now.texts) }
         ensures { result ≡ row_of column_indexes.now values.now }
     {
         NewRowRef {

@@ -31,7 +31,8 @@ impl<'a, S: FarTickets> Model for RowRef<'a, S> {
 
     ghost view = { λ row. row_at (all_cells S.content row.rows.now) row.place };
 
-    ghost invariant = { λ row. (row.place < length row.rows.now.alive) × (first_of (absents row.rows.now (row.place / row.rows.now.size)) ≡ None) };
+    ghost invariant = { λ row. (row.place < length row.rows.now.alive)
+        × (first_of (absents row.rows.now (row.place / row.rows.now.size)) ≡ None) };
 }
 
 impl<'a, S: FarTickets> RowRef<'a, S> {

@@ -25,11 +25,10 @@ mod setting;
 
 use super::column_index::ColumnIndex;
 use far_columns::{Alive, IntColumn};
-use far_reciprocal::Reciprocal;
 use far_scopes::Objects;
 use far_store::FarTickets;
 use far_texts::TextColumn;
-use far_types::{Kind, Limits, Refusal, Schema};
+use far_types::{Kind, Limits, Reciprocal, Refusal, Schema};
 use opening::{columns_of, number_limits, text_limits};
 use std::alloc::Global;
 use std::marker::Model;
@@ -58,9 +57,27 @@ impl<S: FarTickets> Model for Rows<S> {
 
     ghost Value = { Rows S.Ticket };
 
-    ghost view = { λ r. record { column_indexes = r.column_indexes.items; size = r.size; numbers = r.numbers.items; texts = r.texts.items; number_objects = r.number_objects; text_objects = r.text_objects; alive = r.alive } };
+    ghost view = { λ r.
+        record {
+          column_indexes = r.column_indexes.items;
+          size = r.size;
+          numbers = r.numbers.items;
+          texts = r.texts.items;
+          number_objects = r.number_objects;
+          text_objects = r.text_objects;
+          alive = r.alive;
+        } };
 
-    ghost invariant = { λ r. AreRows S.content record { column_indexes = r.column_indexes.items; size = r.size; numbers = r.numbers.items; texts = r.texts.items; number_objects = r.number_objects; text_objects = r.text_objects; alive = r.alive } };
+    ghost invariant = { λ r. AreRows S.content
+        record {
+          column_indexes = r.column_indexes.items;
+          size = r.size;
+          numbers = r.numbers.items;
+          texts = r.texts.items;
+          number_objects = r.number_objects;
+          text_objects = r.text_objects;
+          alive = r.alive;
+        } };
 }
 
 impl<S: FarTickets> Rows<S> {
@@ -106,8 +123,10 @@ impl<S: FarTickets> Rows<S> {
     /// For the proof: shows that each object has a word and a record. It does nothing.
     #[inline(always)]
     pub fn each_object_has_a_word(&self)
-        ensures numbers { length self.now.number_objects.records ≡ length self.now.number_objects.memory.words }
-        ensures texts { length self.now.text_objects.records ≡ length self.now.text_objects.memory.words }
+        ensures numbers { length self.now.number_objects.records
+            ≡ length self.now.number_objects.memory.words }
+        ensures texts { length self.now.text_objects.records
+            ≡ length self.now.text_objects.memory.words }
     {
         let _numbers = self.number_objects.number();
         let _texts = self.text_objects.number();
@@ -123,8 +142,10 @@ impl<S: FarTickets> Rows<S> {
     /// Clears the alive flag of a place; its cells stay. Allocates nothing.
     pub fn clear(&mut self, place: usize)
         requires { place < length self.old.alive }
-        ensures cleared { self.new ≡ record self.old { alive = slice_set self.old.alive place false } }
-        ensures places { places_in S.content self.new ≡ change_at after_remove place (places_in S.content self.old) }
+        ensures cleared { self.new
+            ≡ record self.old { alive = slice_set self.old.alive place false } }
+        ensures places { places_in S.content self.new
+            ≡ change_at after_remove place (places_in S.content self.old) }
     {
         self.alive.clear(place);
     }

@@ -1,5 +1,5 @@
 #![tactic(auto)]
-//! Tests of objects (far_scopes), of lists over them (far_vector), of jobs that move them (far_evacuator), of columns
+//! Tests of objects (far_scopes), of vectors over them (far_columns), of jobs that move them (far_evacuator), of columns
 //! (far_columns, far_texts) and of rows (far_rows): that calls succeed, which no clause says, and worked examples.
 
 #[cfg(test)]

@@ -1,4 +1,4 @@
-// Tests of far_vector: that calls succeed, which no clause says, and a worked example.
+// Tests of vectors over far objects: that calls succeed, which no clause says, and a worked example.
 mod calls;
 mod play;
 mod script;

@@ -6,7 +6,7 @@ use Rattle.std.proofs.lemmas.List.{length_push, get_or_push, get_or_append_left}
 use Rattle.std.proofs.lemmas.List.Elements.{All-push}
 use Rattle.std.proofs.lemmas.List.Quantifiers.{all_pairs_push}
 use Rattle.std.proofs.lemmas.Option.{slice_get-get_or, slice_get_within, get_or_from_slice_get}
-use Rattle.far_laws.proofs.Several.{each-after, disjoint-after, other, was-all_disjoint}
+use Rattle.far_scopes.proofs.Several.{each-after, disjoint-after, other, was-all_disjoint}
 use Rattle.far_texts.specs.Texts.{Texts, Lists, IsTextColumn, IsGroupForm, AreDisjoint, texts_in}
 use Rattle.far_texts.specs.Effects.{begins_group, after_push}
 use Rattle.far_texts.specs.Columns.{AreTextColumns, ChangesColumn}

@@ -1,5 +1,5 @@
 -- A column of texts after the text at a place is set.
-use Rattle.std.proofs.Common.{◌≡◌, ℕ, zero, suc, ◌/◌, ◌%◌, ◌<◌, ◌≤◌, Bool, true, false, not, ltb, List, [], ◌∷◌, length, Option, None, Some, refl, sym, ap, ◌∙◌}
+use Rattle.std.proofs.Common.{◌≡◌, ℕ, zero, suc, ◌/◌, ◌%◌, ◌<◌, ◌≤◌, Bool, true, false, not, ltb, List, [], ◌∷◌, length, Option, None, Some, refl, sym, ap, subst, ◌∙◌}
 use Rattle.std.specs.Prelude.{slice_get, slice_set}
 use Rattle.std.proofs.lemmas.List.{length-set}
 use Rattle.std.proofs.lemmas.Bool.{ltb-true, ltb-false}
@@ -9,16 +9,18 @@ use Rattle.far_types.specs.declared.refusal.Refusal.{Refusal}
 use Rattle.far_types.specs.declared.refusal.Refusal.TheVariants.{OutOfRange}
 use Rattle.far_types.specs.FirstOf.{first_of}
 use Rattle.far_types.specs.FormLengths.{texts_length}
-use Rattle.far_codec.specs.TextForm.{texts_meaning, IsTextsForm}
+use Rattle.far_codec.specs.TextForm.{texts_form, texts_meaning, IsTextsForm}
 use Rattle.far_scopes.specs.Memory.{ChangesList}
 use Rattle.far_scopes.specs.Movement.{Movement}
+use Rattle.far_scopes.specs.Effects.{after_replace}
 use Rattle.far_texts.specs.Texts.{Texts, Lists, HasGroups, IsTextColumn, KeepsOthers, lists_of, texts_at, texts_in, object_at}
-use Rattle.far_texts.specs.Effects.{group_with}
+use Rattle.far_texts.specs.Columns.{ChangesColumn}
+use Rattle.far_texts.specs.Effects.{group_with, TextSet}
 use Rattle.far_scopes.specs.Refusing.{absent, no_space, written_out}
 use Rattle.far_texts.specs.Refusing.{text_too_long, past_end, chunk_full, set_refusal}
 use Rattle.far_texts.proofs.Joined.{joined-set}
 use Rattle.far_texts.proofs.TextsGroups.{group-form, place-begun, place-inside, before-full}
-use Rattle.far_texts.proofs.TextsChanges.{column-changed, group-texts, group-others, keeps-others}
+use Rattle.far_texts.proofs.TextsChanges.{column-changed, group-texts, group-others, keeps-others, keeps-same}
 
 -- no refusal applies if none of the tests is true
 pub none-due : (cases : List (Bool × Refusal)) (k : ℕ) (test : Bool × Refusal) → None ≡ first_of cases → slice_get cases k ≡ Some test → test.0 ≡ false
@@ -66,3 +68,22 @@ module _ {K : Type 0} (content : K → List ℕ) (m : Movement ℕ K) (c : Texts
 
   pub set-short : texts_length texts ≤ c.limit
   set-short = ltb-false c.limit (texts_length texts) (none-due cases 3 (chunk_full c texts) free refl)
+
+  -- the form was stored in the place's object
+  module _ (is : IsTextColumn (lists_of content m) c) (has : HasGroups c) (bytes : List ℕ) (form : IsTextsForm bytes) (means : texts_meaning bytes ≡ texts) (short : length bytes ≤ c.limit) where
+    pub set-done : (now : Movement ℕ K) → now ≡ after_replace m (object_at c place) bytes → ChangesList (lists_of content m) (lists_of content now) (object_at c place) (Some bytes) → TextSet content m c place text now
+    set-done now moved list = record {
+      moved = moved ∙ ap (after_replace m (object_at c place)) (form.is ∙ ap texts_form means);
+      list = subst (λ b. ChangesList (lists_of content m) (lists_of content now) (object_at c place) (Some b)) (form.is ∙ ap texts_form means) list;
+      texts = set-texts (lists_of content m) (lists_of content now) c is has place text set-below bytes list means;
+    }
+
+    pub set-changed : (now : Movement ℕ K) → ChangesList (lists_of content m) (lists_of content now) (object_at c place) (Some bytes) → ChangesColumn (lists_of content m) (lists_of content now) c c
+    set-changed now list = record {
+      is = set-is (lists_of content m) (lists_of content now) c is has place text set-below bytes list means form short;
+      others = set-others (lists_of content m) (lists_of content now) c is has place text set-below bytes list means;
+      disjoint = λ d _ disjoint. disjoint;
+    }
+
+    pub set-same : (now : Movement ℕ K) → now ≡ m → ChangesColumn (lists_of content m) (lists_of content now) c c
+    set-same now err = subst (λ w. ChangesColumn (lists_of content m) (lists_of content w) c c) (sym err) record { is = is; others = keeps-same (lists_of content m) c; disjoint = λ d _ disjoint. disjoint }

@@ -21,3 +21,5 @@ pub mod RefusingTogetherForms
 pub mod TogetherColumns
 pub mod RefusingTogetherAcceptance
 pub mod RefusingTogetherOneColumn
+pub mod TogetherStored
+pub mod EffectsPush

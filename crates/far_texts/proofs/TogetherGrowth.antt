@@ -1,10 +1,11 @@
 -- Several columns, each of which gets a new object in turn.
-use Rattle.std.proofs.Common.{◌≡◌, ◌≢◌, ℕ, suc, ◌+◌, ◌<◌, true, List, [], ◌∷◌, ◌++◌, length, Some, refl, sym, ap, subst, ◌∙◌, arith}
+use Rattle.std.proofs.Common.{◌≡◌, ◌≢◌, ℕ, suc, ◌+◌, ◌<◌, true, List, [], ◌∷◌, ◌++◌, length, map, Some, refl, sym, ap, subst, ◌∙◌, arith}
 use Rattle.std.specs.Prelude.{All}
 use Rattle.std.specs.List.{slice_index_or}
 use Rattle.std.proofs.lemmas.List.{length_push}
 use Rattle.std.proofs.lemmas.List.Elements.{All-cons, All-head, All-tail, All-map}
 use Rattle.far_types.specs.declared.name.Name.{Name}
+use Rattle.far_log.specs.RegionState.{spaces_of, fit_in_order}
 use Rattle.far_scopes.specs.declared.replacement.Replacement.{Replacement}
 use Rattle.far_scopes.specs.Memory.{ChangesList}
 use Rattle.far_scopes.specs.Movement.{Movement}
@@ -14,7 +15,8 @@ use Rattle.far_scopes.proofs.EnteringPins.{length-with}
 use Rattle.far_scopes.proofs.ReplacingRecords.{length-lens}
 use Rattle.far_texts.specs.Texts.{Texts, Lists}
 use Rattle.far_texts.specs.Effects.{begins_group, after_push}
-use Rattle.far_texts.specs.Together.{ChangesTo, forms_of, after_push_all}
+use Rattle.far_texts.specs.Together.{ChangesTo, forms_of, after_push_all, after_create_all}
+use Rattle.far_texts.specs.Storing.{all_fit}
 use Rattle.far_texts.proofs.EffectsAppend.{pushed-begun}
 
 -- replacements whose objects are numbered from n on
@@ -62,3 +64,21 @@ changes-more old mid new n bytes o list forms same is disjoint first rest = reco
   here = All-cons (λ (form : ℕ × List ℕ). new form.0 ≡ Some form.1) (o, list) forms (ap new same ∙ rest.others n disjoint ∙ first.here ∙ ap Some is) rest.here;
   others = λ p un. rest.others p (All-tail (λ (form : ℕ × List ℕ). p ≢ form.0) (o, list) forms un) ∙ first.others p (λ e. All-head (λ (form : ℕ × List ℕ). p ≢ form.0) (o, list) forms un (e ∙ sym same));
 }
+
+-- one object is made, and then others are
+pub created-more : {K : Type 0} (m mid now : Movement ℕ K) (c : Texts) (rest columns : List Texts) (bytes : List ℕ) (o : ℕ) (list : List ℕ) (forms : List (ℕ × List ℕ)) → columns ≡ c ∷ rest → bytes ≡ list → mid ≡ after_create m record { column = c.column; group = length c.objects } bytes
+    → now ≡ after_create_all mid rest forms → now ≡ after_create_all m columns ((o, list) ∷ forms)
+created-more m mid now c rest columns bytes o list forms is same first later =
+    later
+    ∙ ap (λ w. after_create_all w rest forms) (first ∙ ap (after_create m record { column = c.column; group = length c.objects }) same)
+    ∙ ap (λ cs. after_create_all m cs ((o, list) ∷ forms)) (sym is)
+
+-- one form is placed, and then others are
+pub fit-more : {K : Type 0} (m mid : Movement ℕ K) (r : Replacement ℕ) (rest forms : List (Replacement ℕ)) (bytes : List ℕ) → forms ≡ r ∷ rest → bytes ≡ r.list.items
+    → ((lens : List ℕ) → fit_in_order (spaces_of m.memory.state) (length bytes ∷ lens) ≡ fit_in_order (spaces_of mid.memory.state) lens) → all_fit mid rest ≡ true → all_fit m forms ≡ true
+fit-more m mid r rest forms bytes is same next fits =
+    let lens = map (λ (s : Replacement ℕ). length s.list.items) rest in
+    ap (all_fit m) is
+    ∙ ap (λ (b : List ℕ). fit_in_order (spaces_of m.memory.state) (length b ∷ lens)) (sym same)
+    ∙ next lens
+    ∙ fits

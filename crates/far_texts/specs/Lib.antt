@@ -5,3 +5,5 @@ pub mod Refusing
 pub mod Lending
 pub mod Together
 pub mod RefusingTogether
+pub mod Appending
+pub mod Storing

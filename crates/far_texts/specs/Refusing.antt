@@ -29,7 +29,8 @@ module _ {K : Type 0} (content : K → List ℕ) (m : Movement ℕ K) (c : Texts
 
   -- why computing the length of a form with another text is refused (`form_length_with`)
   abbrev pub length_refusal : ℕ → Option Refusal
-  length_refusal place = first_of (past_end c place refusal.OutOfRange ∷ absent m (object_at c place) ∷ [])
+  length_refusal place =
+      first_of (past_end c place refusal.OutOfRange ∷ absent m (object_at c place) ∷ [])
 
   -- why computing the length of a form with the next text is refused (`form_length_with_next`)
   abbrev pub next_length_refusal : Option Refusal
@@ -40,7 +41,13 @@ module _ {K : Type 0} (content : K → List ℕ) (m : Movement ℕ K) (c : Texts
   set_refusal place text =
       let o : ℕ = object_at c place in
       let texts : List (Option (List ℕ)) = group_with (lists_of content m) c place text
-      in first_of (text_too_long text ∷ past_end c place refusal.OutOfRange ∷ absent m o ∷ chunk_full c texts ∷ no_space m o (texts_length texts) ∷ written_out m o ∷ [])
+      in first_of (text_too_long text
+      ∷ past_end c place refusal.OutOfRange
+      ∷ absent m o
+      ∷ chunk_full c texts
+      ∷ no_space m o (texts_length texts)
+      ∷ written_out m o
+      ∷ [])
 
   -- why appending a text is refused (`push`)
   abbrev pub push_refusal : Option (List ℕ) → Option Refusal
@@ -49,4 +56,6 @@ module _ {K : Type 0} (content : K → List ℕ) (m : Movement ℕ K) (c : Texts
       let texts : List (Option (List ℕ)) = group_with_next (lists_of content m) c text in
       let full : Bool × Refusal = chunk_full c texts in
       let space : Bool × Refusal = no_space m o (texts_length texts)
-      in first_of (if begins_group c then text_too_long text ∷ full ∷ space ∷ [] else text_too_long text ∷ absent m o ∷ full ∷ space ∷ written_out m o ∷ [])
+      in first_of (if begins_group c
+      then text_too_long text ∷ full ∷ space ∷ []
+      else text_too_long text ∷ absent m o ∷ full ∷ space ∷ written_out m o ∷ [])

@@ -55,11 +55,13 @@ pub record IsGroupForm (c : Texts) (group : ℕ) (bytes : List ℕ) : Type 0 whe
 -- the column's texts are in these lists: each row group has an object of its own, whose list is the form of its texts
 pub record IsTextColumn (lists : Lists) (c : Texts) : Type 0 where
   pub once : AllPairs (λ o p. o ≢ p) c.objects
-  pub each : (group o : ℕ) → slice_get c.objects group ≡ Some o → IsSomeAnd (lists o) (IsGroupForm c group)
+  pub each : (group o : ℕ) → slice_get c.objects group ≡ Some o
+      → IsSomeAnd (lists o) (IsGroupForm c group)
 
 -- two columns have no object in common
 abbrev pub AreDisjoint : Texts → Texts → Type 0
-AreDisjoint c d = (group other o : ℕ) → slice_get c.objects group ≡ Some o → slice_get d.objects other ≢ Some o
+AreDisjoint c d = (group other o : ℕ)
+    → slice_get c.objects group ≡ Some o → slice_get d.objects other ≢ Some o
 
 -- every column that has no object in common with c remains a column and keeps its texts
 pub record KeepsOthers (old new : Lists) (c : Texts) : Type 0 where

@@ -26,18 +26,23 @@ object_for c o = if begins_group c then o else last_object c
 abbrev pub next_forms : Lists → ℕ → List Texts → List (Option (List ℕ)) → List (ℕ × List ℕ)
 next_forms lists n [] texts = []
 next_forms lists n (c ∷ columns) [] = []
-next_forms lists n (c ∷ columns) (text ∷ texts) = (object_for c n, texts_form (group_with_next lists c text)) ∷ next_forms lists (n + 1) columns texts
+next_forms lists n (c ∷ columns) (text ∷ texts) =
+    (object_for c n, texts_form (group_with_next lists c text))
+    ∷ next_forms lists (n + 1) columns texts
 
 -- the bytes are a form of the column's last row group with the next text, within the limit
 pub record IsNextForm (lists : Lists) (c : Texts) (text : Option (List ℕ)) : Type 0 where
   pub form : IsTextsForm (texts_form (group_with_next lists c text))
-  pub means : texts_meaning (texts_form (group_with_next lists c text)) ≡ group_with_next lists c text
+  pub means : texts_meaning (texts_form (group_with_next lists c text))
+      ≡ group_with_next lists c text
   pub short : length (texts_form (group_with_next lists c text)) ≤ c.limit
   pub some : 0 < length (texts_form (group_with_next lists c text))
 
 -- each column has such a next form
 abbrev pub AreNextForms : Lists → List Texts → List (Option (List ℕ)) → Type 0
-AreNextForms lists columns texts = (k : ℕ) (c : Texts) (text : Option (List ℕ)) → slice_get columns k ≡ Some c → slice_get texts k ≡ Some text → IsNextForm lists c text
+AreNextForms lists columns texts = (k : ℕ) (c : Texts) (text : Option (List ℕ))
+    → slice_get columns k ≡ Some c → slice_get texts k ≡ Some text
+    → IsNextForm lists c text
 
 -- each column with one more text
 abbrev pub after_push_all : ℕ → List Texts → List Texts
@@ -45,10 +50,12 @@ after_push_all n [] = []
 after_push_all n (c ∷ columns) = after_push c n ∷ after_push_all (n + 1) columns
 
 -- each column's texts, followed by its new one
-abbrev pub all_texts_with : Lists → List Texts → List (Option (List ℕ)) → List (List (Option (List ℕ)))
+abbrev pub all_texts_with : Lists → List Texts → List (Option (List ℕ))
+    → List (List (Option (List ℕ)))
 all_texts_with lists [] texts = []
 all_texts_with lists (c ∷ columns) [] = []
-all_texts_with lists (c ∷ columns) (text ∷ texts) = (texts_in lists c ++ text ∷ []) ∷ all_texts_with lists columns texts
+all_texts_with lists (c ∷ columns) (text ∷ texts) =
+    (texts_in lists c ++ text ∷ []) ∷ all_texts_with lists columns texts
 
 -- each of these objects gets the list paired with it, and no other list changes
 pub record ChangesTo (old new : Lists) (forms : List (ℕ × List ℕ)) : Type 0 where
@@ -57,8 +64,10 @@ pub record ChangesTo (old new : Lists) (forms : List (ℕ × List ℕ)) : Type 0
 
 -- every column that has no object in common with these remains a column and keeps its texts
 pub record KeepsColumns (old new : Lists) (columns : List Texts) : Type 0 where
-  pub stay : (d : Texts) → IsTextColumn old d → All (λ c. AreDisjoint c d) columns → IsTextColumn new d
-  pub texts : (d : Texts) → IsTextColumn old d → All (λ c. AreDisjoint c d) columns → texts_in new d ≡ texts_in old d
+  pub stay : (d : Texts) → IsTextColumn old d
+      → All (λ c. AreDisjoint c d) columns → IsTextColumn new d
+  pub texts : (d : Texts) → IsTextColumn old d
+      → All (λ c. AreDisjoint c d) columns → texts_in new d ≡ texts_in old d
 
 -- replacements as pairs: the object, and its new list
 abbrev pub forms_of : List (Replacement ℕ) → List (ℕ × List ℕ)
@@ -69,8 +78,12 @@ module _ {K : Type 0} where
   abbrev pub after_create_all : Movement ℕ K → List Texts → List (ℕ × List ℕ) → Movement ℕ K
   after_create_all m [] forms = m
   after_create_all m (c ∷ columns) [] = m
-  after_create_all m (c ∷ columns) (form ∷ forms) = after_create_all (after_create m record { column = c.column; group = length c.objects } form.1) columns forms
+  after_create_all m (c ∷ columns) (form ∷ forms) =
+      after_create_all
+      (after_create m record { column = c.column; group = length c.objects } form.1)
+      columns forms
 
   -- the objects after these got their new forms, all of which were placed before an old one was dropped
   abbrev pub AreReplaced : Movement ℕ K → List (ℕ × List ℕ) → Movement ℕ K → Type 0
-  AreReplaced old forms new = (lists : List (Replacement ℕ)) × (forms_of lists ≡ forms) × (new ≡ after_replace_all old lists)
+  AreReplaced old forms new = (lists : List (Replacement ℕ))
+      × (forms_of lists ≡ forms) × (new ≡ after_replace_all old lists)

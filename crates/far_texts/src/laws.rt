@@ -9,18 +9,32 @@ ghost use Rattle.far_texts.specs.Columns.{AreTextColumns, ChangesColumn};
 /// true:
 ///
 /// - `none`, `more`: the columns are added one after another, each without an object.
-/// - `after`, `others`: a call changes one of them, as its clauses `is`, `others` and `disjoint` say. The others keep their
-///   texts.
+/// - `after`, `others`: a call changes one of them, as its clause `changes` says. The others keep their texts.
 /// - `moved`, `kept`: every object keeps its list, wherever it is. All keep their texts.
 ///
-/// `far_vector::laws::vectors_stay_together` says the same of columns of numbers.
+/// `far_columns::laws::vectors_stay_together` says the same of columns of numbers.
 pub fn columns_stay_together()
     ensures none { (lists : Lists) → AreTextColumns lists [] }
-    ensures more { (lists : Lists) → (columns : List Texts) → (c : Texts) → AreTextColumns lists columns → IsTextColumn lists c → c.objects ≡ [] → AreTextColumns lists (columns ++ c ∷ []) }
-    ensures after { (old : Lists) → (new : Lists) → (columns : List Texts) → (k : ℕ) → (c : Texts) → (changed : Texts) → AreTextColumns old columns → slice_get columns k ≡ Some c → ChangesColumn old new c changed → AreTextColumns new (slice_set columns k changed) }
-    ensures others { (old : Lists) → (new : Lists) → (columns : List Texts) → (k : ℕ) → (c : Texts) → (changed : Texts) → AreTextColumns old columns → slice_get columns k ≡ Some c → ChangesColumn old new c changed → (j : ℕ) → (d : Texts) → j ≢ k → j < length columns → texts_in new (slice_index_or (slice_set columns k changed) j d) ≡ texts_in old (slice_index_or columns j d) }
-    ensures moved { (old : Lists) → (new : Lists) → (columns : List Texts) → AreTextColumns old columns → ((o : ℕ) → new o ≡ old o) → AreTextColumns new columns }
-    ensures kept { (old : Lists) → (new : Lists) → (c : Texts) → ((o : ℕ) → new o ≡ old o) → texts_in new c ≡ texts_in old c }
+    ensures more { (lists : Lists) → (columns : List Texts) → (c : Texts)
+        → AreTextColumns lists columns → IsTextColumn lists c → c.objects ≡ []
+        → AreTextColumns lists (columns ++ c ∷ []) }
+    ensures after { (old : Lists) → (new : Lists)
+        → (columns : List Texts) → (k : ℕ) → (c : Texts) → (changed : Texts)
+        → AreTextColumns old columns → slice_get columns k ≡ Some c
+        → ChangesColumn old new c changed
+        → AreTextColumns new (slice_set columns k changed) }
+    ensures others { (old : Lists) → (new : Lists)
+        → (columns : List Texts) → (k : ℕ) → (c : Texts) → (changed : Texts)
+        → AreTextColumns old columns → slice_get columns k ≡ Some c
+        → ChangesColumn old new c changed
+        → (j : ℕ) → (d : Texts) → j ≢ k → j < length columns
+        → texts_in new (slice_index_or (slice_set columns k changed) j d)
+        ≡ texts_in old (slice_index_or columns j d) }
+    ensures moved { (old : Lists) → (new : Lists) → (columns : List Texts)
+        → AreTextColumns old columns → ((o : ℕ) → new o ≡ old o)
+        → AreTextColumns new columns }
+    ensures kept { (old : Lists) → (new : Lists) → (c : Texts)
+        → ((o : ℕ) → new o ≡ old o) → texts_in new c ≡ texts_in old c }
 {}
 
 /// A law: the form of a row group's object means the texts of the row group's places, in order (`group`).
@@ -28,7 +42,15 @@ pub fn columns_stay_together()
 /// The form that a set or a push makes means the texts of the row group as it is afterwards (`with_text`, `next`). So whether
 /// a call is refused with `ChunkFull` depends only on the texts of the row group's places, all of them.
 pub fn forms_hold_row_groups()
-    ensures group { (lists : Lists) → (c : Texts) → (g : ℕ) → (o : ℕ) → HasGroups c → IsTextColumn lists c → slice_get c.objects g ≡ Some o → texts_at lists o ≡ in_group c.size g (texts_in lists c) }
-    ensures with_text { (lists : Lists) → (c : Texts) → (place : ℕ) → (text : Option (List ℕ)) → HasGroups c → IsTextColumn lists c → place < c.len → group_with lists c place text ≡ in_group c.size (place / c.size) (slice_set (texts_in lists c) place text) }
-    ensures next { (lists : Lists) → (c : Texts) → (text : Option (List ℕ)) → HasGroups c → IsTextColumn lists c → group_with_next lists c text ≡ in_group c.size (c.len / c.size) (texts_in lists c ++ text ∷ []) }
+    ensures group { (lists : Lists) → (c : Texts) → (g : ℕ) → (o : ℕ)
+        → HasGroups c → IsTextColumn lists c → slice_get c.objects g ≡ Some o
+        → texts_at lists o ≡ in_group c.size g (texts_in lists c) }
+    ensures with_text { (lists : Lists) → (c : Texts) → (place : ℕ) → (text : Option (List ℕ))
+        → HasGroups c → IsTextColumn lists c → place < c.len
+        → group_with lists c place text
+        ≡ in_group c.size (place / c.size) (slice_set (texts_in lists c) place text) }
+    ensures next { (lists : Lists) → (c : Texts) → (text : Option (List ℕ))
+        → HasGroups c → IsTextColumn lists c
+        → group_with_next lists c text
+        ≡ in_group c.size (c.len / c.size) (texts_in lists c ++ text ∷ []) }
 {}

@@ -11,7 +11,7 @@ mod setting;
 mod together;
 
 pub use cells::{TextCell, TextCells};
-use far_reciprocal::Reciprocal;
+use far_types::Reciprocal;
 use std::alloc::Global;
 use std::marker::Model;
 pub use together::{fill_texts, may_push_texts, push_texts};
@@ -41,9 +41,21 @@ impl Model for TextColumn {
 
     ghost Value = { Texts };
 
-    ghost view = { λ c. record { column = c.column; size = c.size; limit = c.limit; objects = c.objects.items; len = c.len } };
+    ghost view = { λ c. record {
+      column = c.column;
+      size = c.size;
+      limit = c.limit;
+      objects = c.objects.items;
+      len = c.len;
+    } };
 
-    ghost invariant = { λ c. HasGroups record { column = c.column; size = c.size; limit = c.limit; objects = c.objects.items; len = c.len } };
+    ghost invariant = { λ c. HasGroups record {
+      column = c.column;
+      size = c.size;
+      limit = c.limit;
+      objects = c.objects.items;
+      len = c.len;
+    } };
 }
 
 impl TextColumn {
@@ -54,7 +66,8 @@ impl TextColumn {
         requires some { 0 < size }
         requires small { size ≤ 2 ^ 16 }
         requires short { limit ≤ 2 ^ 24 }
-        ensures empty { result ≡ record { column = column; size = size; limit = limit; objects = []; len = 0 } }
+        ensures empty { result
+            ≡ record { column = column; size = size; limit = limit; objects = []; len = 0 } }
         ensures is { (lists : Lists) → IsTextColumn lists result }
     {
         let reciprocal = Reciprocal::new(size);

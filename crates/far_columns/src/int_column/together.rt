@@ -1,12 +1,11 @@
 // Appends a number to each of several columns, all or none.
-ghost use Rattle.std.specs.Prelude.{◌≡◌, ◌⊎◌, ◌≤◌, ◌+◌, ◌-◌, ◌^◌, if◌then◌else◌, ℕ, List, length, map, take, true, false, None, Some, OnOk, IfErr, OnErr};
-ghost use Rattle.far_codec.specs.Reading.{ints_meaning};
-ghost use Rattle.far_scopes.specs.Movement.{AreClean, AreHere};
+ghost use Rattle.std.specs.Prelude.{◌≡◌, ◌⊎◌, ◌≤◌, ◌+◌, ◌-◌, ◌^◌, length, map, take, true, false, None, Some, OnOk, IfErr, OnErr};
 ghost use Rattle.far_scopes.specs.Refusing.{refusal_in};
-ghost use Rattle.far_vector.specs.Effects.{after_unpush};
+ghost use Rattle.far_columns.specs.Effects.{after_unpush};
 ghost use Rattle.far_columns.specs.Numbers.{number_lists, numbers_in};
-ghost use Rattle.far_columns.specs.NumbersTogether.{AreNumberColumns, all_begin, after_push_all, all_numbers_with, KeepsNumbers, objects_after_push_all, push_numbers_refusal};
+ghost use Rattle.far_columns.specs.NumbersTogether.{AreNumberColumns, all_begin, push_numbers_refusal};
 ghost use Rattle.far_columns.specs.NumbersUndo.{AreBegunLast, after_uncreate_all};
+ghost use Rattle.far_columns.specs.NumbersChanges.{NumbersPushed, ChangesNumbers};
 
 mod checking;
 mod filling;
@@ -63,7 +62,7 @@ pub fn may_push_numbers<S: FarTickets>(
 /// A refused call changes nothing.
 ///
 /// `may_push_numbers` returns the same refusals beforehand, except `NoMemory`. `unpush_numbers` undoes a call that began row
-/// groups (`last`, `undone`).
+/// groups (`BeginGroups`).
 pub fn push_numbers<S: FarTickets>(
     objects: &mut Objects<Option<i64>, S>,
     columns: &mut [IntColumn],
@@ -71,19 +70,16 @@ pub fn push_numbers<S: FarTickets>(
 ) -> Result<(), Refusal>
     requires are { AreNumberColumns (number_lists S.content objects.old) columns.old }
     requires same_length { length numbers.now ≡ length columns.old }
-    requires few { all_begin columns.old ≡ true → length objects.old.records + length columns.old ≤ 2 ^ 28 }
-    ensures pushed { OnOk result (columns.new ≡ after_push_all (length objects.old.records) columns.old) }
-    ensures moved { OnOk result (objects.new ≡ objects_after_push_all objects.old columns.old numbers.now) }
-    ensures numbers { OnOk result (map (numbers_in S.content objects.new) columns.new ≡ all_numbers_with (number_lists S.content objects.old) columns.old numbers.now) }
+    requires few { all_begin columns.old ≡ true
+        → length objects.old.records + length columns.old ≤ 2 ^ 28 }
+    ensures pushed { OnOk result
+        (NumbersPushed S.content objects.old objects.new columns.old columns.new numbers.now) }
     ensures are { AreNumberColumns (number_lists S.content objects.new) columns.new }
-    ensures last { OnOk result (all_begin columns.old ≡ true → AreBegunLast objects.new columns.new) }
-    ensures undone { OnOk result (all_begin columns.old ≡ true → (map after_unpush columns.new ≡ columns.old) × (after_uncreate_all (length columns.old) objects.new ≡ objects.old)) }
-    ensures count { OnOk result (length objects.new.records ≡ length objects.old.records + (if all_begin columns.old then length columns.old else 0)) }
-    ensures others { KeepsNumbers (number_lists S.content objects.old) (number_lists S.content objects.new) columns.old columns.new }
-    ensures clean { AreClean ints_meaning S.content objects.old → AreClean ints_meaning S.content objects.new }
-    ensures store { (id : List ℕ) → AreHere S.is_of id objects.old → AreHere S.is_of id objects.new }
-    ensures free { OnOk result (push_numbers_refusal objects.old columns.old ≡ None) }
-    ensures refused { IfErr result (λ e. (push_numbers_refusal objects.old columns.old ≡ Some e) ⊎ ((all_begin columns.old ≡ true) × (e ≡ Refusal.NoMemory))) }
+    ensures keeps { ChangesNumbers S.content objects.old objects.new columns.old columns.new
+        S.is_of }
+    ensures refused { IfErr result
+        (λ e. (push_numbers_refusal objects.old columns.old ≡ Some e)
+        ⊎ ((all_begin columns.old ≡ true) × (e ≡ Refusal.NoMemory))) }
     ensures err { OnErr result ((columns.new ≡ columns.old) × (objects.new ≡ objects.old)) }
 {
     all_are_shaped(columns);
@@ -107,14 +103,11 @@ pub fn fill_numbers<S: FarTickets>(
     requires same_length { length numbers.now ≡ length columns.old }
     requires begun { all_begin columns.old ≡ false }
     requires free { push_numbers_refusal objects.old columns.old ≡ None }
-    ensures pushed { columns.new ≡ after_push_all (length objects.old.records) columns.old }
-    ensures moved { objects.new ≡ objects_after_push_all objects.old columns.old numbers.now }
-    ensures numbers { map (numbers_in S.content objects.new) columns.new ≡ all_numbers_with (number_lists S.content objects.old) columns.old numbers.now }
+    ensures pushed { NumbersPushed S.content objects.old objects.new columns.old columns.new
+        numbers.now }
     ensures are { AreNumberColumns (number_lists S.content objects.new) columns.new }
-    ensures count { length objects.new.records ≡ length objects.old.records }
-    ensures others { KeepsNumbers (number_lists S.content objects.old) (number_lists S.content objects.new) columns.old columns.new }
-    ensures clean { AreClean ints_meaning S.content objects.old → AreClean ints_meaning S.content objects.new }
-    ensures store { (id : List ℕ) → AreHere S.is_of id objects.old → AreHere S.is_of id objects.new }
+    ensures keeps { ChangesNumbers S.content objects.old objects.new columns.old columns.new
+        S.is_of }
 {
     all_are_shaped(columns);
     fill_places(objects, columns, numbers);
@@ -130,11 +123,11 @@ pub fn unpush_numbers<S: FarTickets>(
     requires begun { AreBegunLast objects.old columns.old }
     ensures unpushed { columns.new ≡ map after_unpush columns.old }
     ensures uncreated { objects.new ≡ after_uncreate_all (length columns.old) objects.old }
-    ensures numbers { map (numbers_in S.content objects.new) columns.new ≡ map (λ c. take (c.len - 1) (numbers_in S.content objects.old c)) columns.old }
+    ensures numbers { map (numbers_in S.content objects.new) columns.new
+        ≡ map (λ c. take (c.len - 1) (numbers_in S.content objects.old c)) columns.old }
     ensures are { AreNumberColumns (number_lists S.content objects.new) columns.new }
-    ensures others { KeepsNumbers (number_lists S.content objects.old) (number_lists S.content objects.new) columns.old columns.new }
-    ensures clean { AreClean ints_meaning S.content objects.old → AreClean ints_meaning S.content objects.new }
-    ensures store { (id : List ℕ) → AreHere S.is_of id objects.old → AreHere S.is_of id objects.new }
+    ensures keeps { ChangesNumbers S.content objects.old objects.new columns.old columns.new
+        S.is_of }
 {
     unbegin_groups(objects, columns);
 }

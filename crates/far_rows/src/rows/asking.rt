@@ -51,7 +51,8 @@ impl<S: FarTickets> Rows<S> {
         requires numbers { length row.now.numbers ≡ length self.now.numbers }
         requires texts { length row.now.texts ≡ length self.now.texts }
         ensures refused { refusal_in result ≡ push_refusal S.content self.now row.now }
-        ensures plain { (limits : Limits) → AreOf limits self.now → refusal_in result ≡ insert_refusal S.content limits self.now row.now }
+        ensures plain { (limits : Limits) → AreOf limits self.now
+            → refusal_in result ≡ insert_refusal S.content limits self.now row.now }
     {
         // For the proof: shows `AreRows`, and that no text is too long.
         let _len = self.len();

@@ -35,7 +35,8 @@ impl<S: FarTickets> Rows<S> {
     ) -> Result<RowsEvac<S>, Refusal>
         requires here { AreAt S.is_of (S.store_id store.now) self.now }
         ensures begun { IfOk result (IsEvacBegun self.now column group) }
-        ensures here { IfOk result (λ job. IsFormOf S.is_of (S.store_id store.now) (of_either job).form) }
+        ensures here { IfOk result
+            (λ job. IsFormOf S.is_of (S.store_id store.now) (of_either job).form) }
         ensures free { OnOk result (evac_refusal self.now column group ≡ None) }
         ensures refused { IfErr result (MayRefuse (evac_refusal self.now column group) true) }
     {

@@ -20,9 +20,14 @@ impl<S: FarTickets> Rows<S> {
     /// The object is local and has no pin.
     pub fn coldest(&self) -> Option<Name>
         ensures coldest { result ≡ coldest self.now }
-        ensures local { IfSome result (λ name. evac_refusal self.now name.column name.group ≡ None) }
-        ensures unpinned { IfSome result (λ name. option_map (pins_at self.now) (object_at self.now name.column name.group) ≡ Some 0) }
-        ensures none { (result ≡ None) ↔ ((coldest_in self.now.number_objects ≡ None) × (coldest_in self.now.text_objects ≡ None)) }
+        ensures local { IfSome result
+            (λ name. evac_refusal self.now name.column name.group ≡ None) }
+        ensures unpinned { IfSome result
+            (λ name. option_map (pins_at self.now) (object_at self.now name.column name.group)
+            ≡ Some 0) }
+        ensures none { (result ≡ None)
+            ↔ ((coldest_in self.now.number_objects ≡ None)
+            × (coldest_in self.now.text_objects ≡ None)) }
     {
         // For the proof: shows `AreRows`, and that the objects in the orders of use are the local ones.
         let _len = self.len();
@@ -34,7 +39,9 @@ impl<S: FarTickets> Rows<S> {
     // Returns the name of the eviction victim.
     fn coldest_of_both(&self) -> Option<Name>
         ensures coldest { result ≡ coldest self.now }
-        ensures none { (result ≡ None) ↔ ((coldest_in self.now.number_objects ≡ None) × (coldest_in self.now.text_objects ≡ None)) }
+        ensures none { (result ≡ None)
+            ↔ ((coldest_in self.now.number_objects ≡ None)
+            × (coldest_in self.now.text_objects ≡ None)) }
     {
         if self.numbers_go_first() {
             first_coldest(&self.number_objects, &self.text_objects)
@@ -59,7 +66,8 @@ fn first_coldest<T: Elem, U: Elem, S: FarTickets>(
     second: &Objects<U, S>,
 ) -> Option<Name>
     ensures name { result ≡ option_or (coldest_name first.now) (coldest_name second.now) }
-    ensures none { (result ≡ None) ↔ ((coldest_in first.now ≡ None) × (coldest_in second.now ≡ None)) }
+    ensures none { (result ≡ None)
+        ↔ ((coldest_in first.now ≡ None) × (coldest_in second.now ≡ None)) }
 {
     match coldest_name(first) {
         Some(name) => Some(name),

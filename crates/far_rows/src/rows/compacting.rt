@@ -21,12 +21,20 @@ impl<S: FarTickets> Rows<S> {
     ///
     /// A refused call changes nothing.
     pub fn compact_numbers(&mut self, alloc: Global, segment: u32) -> Result<(), Refusal>
-        ensures compacted { OnOk result (IsCompacted self.old.number_objects.memory self.new.number_objects.memory segment) }
-        ensures stays { self.new ≡ record self.old { number_objects = record self.old.number_objects { memory = self.new.number_objects.memory } } }
+        ensures compacted { OnOk result
+            (IsCompacted self.old.number_objects.memory self.new.number_objects.memory segment) }
+        ensures stays { self.new
+            ≡ record self.old {
+              number_objects = record self.old.number_objects { memory = self.new.number_objects.memory };
+            } }
         ensures kept { KeepsCells S.content S.is_of self.old self.new }
-        ensures missing { IsErrOf result Refusal.OutOfRange ↔ (length self.old.number_objects.memory.state ≤ segment) }
-        ensures full { IsErrOf result Refusal.RegionFull ↔ ((segment < length self.old.number_objects.memory.state) × HasNoEmptyOther self.old.number_objects.memory.state segment) }
-        ensures refused { IfErr result (λ e. (e ≡ Refusal.OutOfRange) ⊎ ((e ≡ Refusal.RegionFull) ⊎ (e ≡ Refusal.NoMemory))) }
+        ensures missing { IsErrOf result Refusal.OutOfRange
+            ↔ (length self.old.number_objects.memory.state ≤ segment) }
+        ensures full { IsErrOf result Refusal.RegionFull
+            ↔ ((segment < length self.old.number_objects.memory.state)
+            × HasNoEmptyOther self.old.number_objects.memory.state segment) }
+        ensures refused { IfErr result
+            (λ e. (e ≡ Refusal.OutOfRange) ⊎ ((e ≡ Refusal.RegionFull) ⊎ (e ≡ Refusal.NoMemory))) }
         ensures err { OnErr result (self.new ≡ self.old) }
     {
         self.number_objects.compact(alloc, segment)
@@ -35,12 +43,20 @@ impl<S: FarTickets> Rows<S> {
     /// Compacts a segment of the objects of texts, as `compact_numbers` does for numbers. Refused as that is, with
     /// `OutOfRange` (14), `RegionFull` (17) and `NoMemory` (1).
     pub fn compact_texts(&mut self, alloc: Global, segment: u32) -> Result<(), Refusal>
-        ensures compacted { OnOk result (IsCompacted self.old.text_objects.memory self.new.text_objects.memory segment) }
-        ensures stays { self.new ≡ record self.old { text_objects = record self.old.text_objects { memory = self.new.text_objects.memory } } }
+        ensures compacted { OnOk result
+            (IsCompacted self.old.text_objects.memory self.new.text_objects.memory segment) }
+        ensures stays { self.new
+            ≡ record self.old {
+              text_objects = record self.old.text_objects { memory = self.new.text_objects.memory };
+            } }
         ensures kept { KeepsCells S.content S.is_of self.old self.new }
-        ensures missing { IsErrOf result Refusal.OutOfRange ↔ (length self.old.text_objects.memory.state ≤ segment) }
-        ensures full { IsErrOf result Refusal.RegionFull ↔ ((segment < length self.old.text_objects.memory.state) × HasNoEmptyOther self.old.text_objects.memory.state segment) }
-        ensures refused { IfErr result (λ e. (e ≡ Refusal.OutOfRange) ⊎ ((e ≡ Refusal.RegionFull) ⊎ (e ≡ Refusal.NoMemory))) }
+        ensures missing { IsErrOf result Refusal.OutOfRange
+            ↔ (length self.old.text_objects.memory.state ≤ segment) }
+        ensures full { IsErrOf result Refusal.RegionFull
+            ↔ ((segment < length self.old.text_objects.memory.state)
+            × HasNoEmptyOther self.old.text_objects.memory.state segment) }
+        ensures refused { IfErr result
+            (λ e. (e ≡ Refusal.OutOfRange) ⊎ ((e ≡ Refusal.RegionFull) ⊎ (e ≡ Refusal.NoMemory))) }
         ensures err { OnErr result (self.new ≡ self.old) }
     {
         self.text_objects.compact(alloc, segment)

@@ -29,8 +29,10 @@ impl<S: FarTickets> Rows<S> {
     /// Its content is the far form of the row group as it is now, whether it is local or away.
     pub fn copy(&self, column: usize, group: u32) -> Option<&S::Ticket>
         ensures ticket { option_map (λ ticket. ticket.now) result ≡ copy_of self.now column group }
-        ensures form { IfSome result (λ ticket. IsCopyOf S.content self.now ticket.now column group) }
-        ensures here { (id : List ℕ) → AreAt S.is_of id self.now → IfSome result (λ ticket. S.is_of ticket.now id) }
+        ensures form { IfSome result
+            (λ ticket. IsCopyOf S.content self.now ticket.now column group) }
+        ensures here { (id : List ℕ) → AreAt S.is_of id self.now
+            → IfSome result (λ ticket. S.is_of ticket.now id) }
         ensures away { (absent_in self.now column group).0 ≡ true → IsSome result }
     {
         // For the proof: shows `AreRows`.
@@ -51,7 +53,8 @@ impl<S: FarTickets> Rows<S> {
     /// - `StaleJob` (20): the object is local.
     pub fn away_copy(&self, column: usize, group: u32) -> Result<&S::Ticket, Refusal>
         ensures ticket { IfOk result (λ ticket. copy_of self.now column group ≡ Some ticket.now) }
-        ensures here { (id : List ℕ) → AreAt S.is_of id self.now → IfOk result (λ ticket. S.is_of ticket.now id) }
+        ensures here { (id : List ℕ) → AreAt S.is_of id self.now
+            → IfOk result (λ ticket. S.is_of ticket.now id) }
         ensures refused { refusal_in result ≡ fetch_refusal self.now column group }
     {
         match self.object(column, group)? {
@@ -65,7 +68,9 @@ impl<S: FarTickets> Rows<S> {
 fn clean_ticket<T: Elem, S: FarTickets>(objects: &Objects<T, S>, o: u32) -> Option<&S::Ticket>
     requires { o < length objects.now.records }
     ensures ticket { option_map (λ ticket. ticket.now) result ≡ clean_ticket objects.now o }
-    ensures form { IfSome result (λ ticket. IsSpelled T.in_range T.has_spelling T.spelling (T.meaning (S.content ticket.now)) (S.content ticket.now)) }
+    ensures form { IfSome result
+        (λ ticket. IsSpelled T.in_range T.has_spelling T.spelling (T.meaning (S.content ticket.now))
+        (S.content ticket.now)) }
     ensures away { is_local objects.now o ≡ false → IsSome result }
 {
     // For the proof: shows that a clean object has a far copy.

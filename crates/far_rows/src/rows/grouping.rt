@@ -37,7 +37,9 @@ impl<S: FarTickets> Rows<S> {
     /// - `OutOfRange` (14): no place of the row group is used.
     /// - `Absent` (16): its object is away.
     pub fn group_column(&self, column: usize, group: u32) -> Result<LentColumn<'_>, Refusal>
-        ensures cells { IfOk result (λ lent. option_map (in_group self.now.size group) (slice_get (all_cells S.content self.now) column) ≡ Some (cells_lent lent)) }
+        ensures cells { IfOk result
+            (λ lent. option_map (in_group self.now.size group)
+            (slice_get (all_cells S.content self.now) column) ≡ Some (cells_lent lent)) }
         ensures form { IfOk result IsLent }
         ensures refused { refusal_in result ≡ evac_refusal self.now column group }
     {

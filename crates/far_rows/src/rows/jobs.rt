@@ -35,8 +35,11 @@ impl<S: FarTickets> Rows<S> {
         ensures accepted { OnOk result (IsEvacAccepted S.number_of self.old carried.now) }
         ensures cells { all_cells S.content self.new ≡ all_cells S.content self.old }
         ensures here { AreAt S.is_of (S.store_id store.now) self.new }
-        ensures stale { IsErrOf result Refusal.StaleJob ↔ (¬ IsEvacAccepted S.number_of self.old carried.now) }
-        ensures pinned { IsErrOf result Refusal.Pinned ↔ (IsEvacAccepted S.number_of self.old carried.now × (pins_by self.old carried.now ≢ 0)) }
+        ensures stale { IsErrOf result Refusal.StaleJob
+            ↔ (¬ IsEvacAccepted S.number_of self.old carried.now) }
+        ensures pinned { IsErrOf result Refusal.Pinned
+            ↔ (IsEvacAccepted S.number_of self.old carried.now
+            × (pins_by self.old carried.now ≢ 0)) }
         ensures refused { IfErr result (λ e. (e ≡ Refusal.StaleJob) ⊎ (e ≡ Refusal.Pinned)) }
         ensures err { OnErr result (self.new ≡ self.old) }
     {
@@ -54,13 +57,22 @@ impl<S: FarTickets> Rows<S> {
     ) -> Result<(), Refusal>
         requires here { AreHere S.is_of (S.store_id store.now) self.old.number_objects }
         requires carried_here { S.is_of carried.now.ticket (S.store_id store.now) }
-        ensures committed { OnOk result (self.new ≡ record self.old { number_objects = after_leave self.old.number_objects carried.now.job.object carried.now.ticket }) }
-        ensures accepted { OnOk result (IsCommittable S.number_of ints_form self.old.number_objects carried.now) }
+        ensures committed { OnOk result
+            (self.new
+            ≡ record self.old {
+              number_objects = after_leave self.old.number_objects
+                  carried.now.job.object carried.now.ticket;
+            }) }
+        ensures accepted { OnOk result
+            (IsCommittable S.number_of ints_form self.old.number_objects carried.now) }
         ensures kept { self.new ≡ record self.old { number_objects = self.new.number_objects } }
         ensures cells { all_cells S.content self.new ≡ all_cells S.content self.old }
         ensures here { AreHere S.is_of (S.store_id store.now) self.new.number_objects }
-        ensures stale { IsErrOf result Refusal.StaleJob ↔ (¬ IsCommittable S.number_of ints_form self.old.number_objects carried.now) }
-        ensures pinned { IsErrOf result Refusal.Pinned ↔ (IsCommittable S.number_of ints_form self.old.number_objects carried.now × (pins_of self.old.number_objects carried.now.job.object ≢ 0)) }
+        ensures stale { IsErrOf result Refusal.StaleJob
+            ↔ (¬ IsCommittable S.number_of ints_form self.old.number_objects carried.now) }
+        ensures pinned { IsErrOf result Refusal.Pinned
+            ↔ (IsCommittable S.number_of ints_form self.old.number_objects carried.now
+            × (pins_of self.old.number_objects carried.now.job.object ≢ 0)) }
         ensures refused { IfErr result (λ e. (e ≡ Refusal.StaleJob) ⊎ (e ≡ Refusal.Pinned)) }
         ensures err { OnErr result (self.new ≡ self.old) }
     {
@@ -71,13 +83,22 @@ impl<S: FarTickets> Rows<S> {
     fn commit_texts(&mut self, store: &S, carried: &Carried<u8, S>) -> Result<(), Refusal>
         requires here { AreHere S.is_of (S.store_id store.now) self.old.text_objects }
         requires carried_here { S.is_of carried.now.ticket (S.store_id store.now) }
-        ensures committed { OnOk result (self.new ≡ record self.old { text_objects = after_leave self.old.text_objects carried.now.job.object carried.now.ticket }) }
-        ensures accepted { OnOk result (IsCommittable S.number_of (λ bytes. bytes) self.old.text_objects carried.now) }
+        ensures committed { OnOk result
+            (self.new
+            ≡ record self.old {
+              text_objects = after_leave self.old.text_objects
+                  carried.now.job.object carried.now.ticket;
+            }) }
+        ensures accepted { OnOk result
+            (IsCommittable S.number_of (λ bytes. bytes) self.old.text_objects carried.now) }
         ensures kept { self.new ≡ record self.old { text_objects = self.new.text_objects } }
         ensures cells { all_cells S.content self.new ≡ all_cells S.content self.old }
         ensures here { AreHere S.is_of (S.store_id store.now) self.new.text_objects }
-        ensures stale { IsErrOf result Refusal.StaleJob ↔ (¬ IsCommittable S.number_of (λ bytes. bytes) self.old.text_objects carried.now) }
-        ensures pinned { IsErrOf result Refusal.Pinned ↔ (IsCommittable S.number_of (λ bytes. bytes) self.old.text_objects carried.now × (pins_of self.old.text_objects carried.now.job.object ≢ 0)) }
+        ensures stale { IsErrOf result Refusal.StaleJob
+            ↔ (¬ IsCommittable S.number_of (λ bytes. bytes) self.old.text_objects carried.now) }
+        ensures pinned { IsErrOf result Refusal.Pinned
+            ↔ (IsCommittable S.number_of (λ bytes. bytes) self.old.text_objects carried.now
+            × (pins_of self.old.text_objects carried.now.job.object ≢ 0)) }
         ensures refused { IfErr result (λ e. (e ≡ Refusal.StaleJob) ⊎ (e ≡ Refusal.Pinned)) }
         ensures err { OnErr result (self.new ≡ self.old) }
     {
@@ -107,9 +128,13 @@ impl<S: FarTickets> Rows<S> {
         ensures accepted { OnOk result (IsFetchAccepted S.number_of self.old fetched.now) }
         ensures cells { all_cells S.content self.new ≡ all_cells S.content self.old }
         ensures here { AreAt S.is_of (S.store_id store.now) self.new }
-        ensures stale { IsErrOf result Refusal.StaleJob ↔ (¬ IsFetchAccepted S.number_of self.old fetched.now) }
-        ensures full { IsErrOf result Refusal.RegionFull ↔ (IsFetchAccepted S.number_of self.old fetched.now × HasNoSpace S.content self.old fetched.now) }
-        ensures refused { IfErr result (λ e. (e ≡ Refusal.StaleJob) ⊎ ((e ≡ Refusal.RegionFull) ⊎ (e ≡ Refusal.NoMemory))) }
+        ensures stale { IsErrOf result Refusal.StaleJob
+            ↔ (¬ IsFetchAccepted S.number_of self.old fetched.now) }
+        ensures full { IsErrOf result Refusal.RegionFull
+            ↔ (IsFetchAccepted S.number_of self.old fetched.now
+            × HasNoSpace S.content self.old fetched.now) }
+        ensures refused { IfErr result
+            (λ e. (e ≡ Refusal.StaleJob) ⊎ ((e ≡ Refusal.RegionFull) ⊎ (e ≡ Refusal.NoMemory))) }
         ensures err { OnErr result (self.new ≡ self.old) }
     {
         match &fetched.fetched {
@@ -127,14 +152,26 @@ impl<S: FarTickets> Rows<S> {
     ) -> Result<(), Refusal>
         requires here { AreHere S.is_of (S.store_id store.now) self.old.number_objects }
         requires fetched_here { S.is_of fetched.now.job.ticket (S.store_id store.now) }
-        ensures installed { OnOk result (IsSomeAnd (number_lists S.content self.old.number_objects fetched.now.job.object) (λ list. self.new ≡ record self.old { number_objects = after_arrive self.old.number_objects fetched.now.job.object list })) }
-        ensures accepted { OnOk result (IsInstallable S.number_of SpellsNumbers self.old.number_objects fetched.now) }
+        ensures installed { OnOk result
+            (IsSomeAnd (number_lists S.content self.old.number_objects fetched.now.job.object)
+            (λ list. self.new
+            ≡ record self.old {
+              number_objects = after_arrive self.old.number_objects
+                  fetched.now.job.object list;
+            })) }
+        ensures accepted { OnOk result
+            (IsInstallable S.number_of SpellsNumbers self.old.number_objects fetched.now) }
         ensures kept { self.new ≡ record self.old { number_objects = self.new.number_objects } }
         ensures cells { all_cells S.content self.new ≡ all_cells S.content self.old }
         ensures here { AreHere S.is_of (S.store_id store.now) self.new.number_objects }
-        ensures stale { IsErrOf result Refusal.StaleJob ↔ (¬ IsInstallable S.number_of SpellsNumbers self.old.number_objects fetched.now) }
-        ensures full { IsErrOf result Refusal.RegionFull ↔ (IsInstallable S.number_of SpellsNumbers self.old.number_objects fetched.now × IsSomeAnd (number_lists S.content self.old.number_objects fetched.now.job.object) (λ list. fits_in self.old.number_objects.memory.state (length list) ≡ false)) }
-        ensures refused { IfErr result (λ e. (e ≡ Refusal.StaleJob) ⊎ ((e ≡ Refusal.RegionFull) ⊎ (e ≡ Refusal.NoMemory))) }
+        ensures stale { IsErrOf result Refusal.StaleJob
+            ↔ (¬ IsInstallable S.number_of SpellsNumbers self.old.number_objects fetched.now) }
+        ensures full { IsErrOf result Refusal.RegionFull
+            ↔ (IsInstallable S.number_of SpellsNumbers self.old.number_objects fetched.now
+            × IsSomeAnd (number_lists S.content self.old.number_objects fetched.now.job.object)
+            (λ list. fits_in self.old.number_objects.memory.state (length list) ≡ false)) }
+        ensures refused { IfErr result
+            (λ e. (e ≡ Refusal.StaleJob) ⊎ ((e ≡ Refusal.RegionFull) ⊎ (e ≡ Refusal.NoMemory))) }
         ensures err { OnErr result (self.new ≡ self.old) }
     {
         install(alloc, &mut self.number_objects, store, fetched)
@@ -149,14 +186,26 @@ impl<S: FarTickets> Rows<S> {
     ) -> Result<(), Refusal>
         requires here { AreHere S.is_of (S.store_id store.now) self.old.text_objects }
         requires fetched_here { S.is_of fetched.now.job.ticket (S.store_id store.now) }
-        ensures installed { OnOk result (IsSomeAnd (lists_of S.content self.old.text_objects fetched.now.job.object) (λ list. self.new ≡ record self.old { text_objects = after_arrive self.old.text_objects fetched.now.job.object list })) }
-        ensures accepted { OnOk result (IsInstallable S.number_of SpellsTexts self.old.text_objects fetched.now) }
+        ensures installed { OnOk result
+            (IsSomeAnd (lists_of S.content self.old.text_objects fetched.now.job.object)
+            (λ list. self.new
+            ≡ record self.old {
+              text_objects = after_arrive self.old.text_objects
+                  fetched.now.job.object list;
+            })) }
+        ensures accepted { OnOk result
+            (IsInstallable S.number_of SpellsTexts self.old.text_objects fetched.now) }
         ensures kept { self.new ≡ record self.old { text_objects = self.new.text_objects } }
         ensures cells { all_cells S.content self.new ≡ all_cells S.content self.old }
         ensures here { AreHere S.is_of (S.store_id store.now) self.new.text_objects }
-        ensures stale { IsErrOf result Refusal.StaleJob ↔ (¬ IsInstallable S.number_of SpellsTexts self.old.text_objects fetched.now) }
-        ensures full { IsErrOf result Refusal.RegionFull ↔ (IsInstallable S.number_of SpellsTexts self.old.text_objects fetched.now × IsSomeAnd (lists_of S.content self.old.text_objects fetched.now.job.object) (λ list. fits_in self.old.text_objects.memory.state (length list) ≡ false)) }
-        ensures refused { IfErr result (λ e. (e ≡ Refusal.StaleJob) ⊎ ((e ≡ Refusal.RegionFull) ⊎ (e ≡ Refusal.NoMemory))) }
+        ensures stale { IsErrOf result Refusal.StaleJob
+            ↔ (¬ IsInstallable S.number_of SpellsTexts self.old.text_objects fetched.now) }
+        ensures full { IsErrOf result Refusal.RegionFull
+            ↔ (IsInstallable S.number_of SpellsTexts self.old.text_objects fetched.now
+            × IsSomeAnd (lists_of S.content self.old.text_objects fetched.now.job.object)
+            (λ list. fits_in self.old.text_objects.memory.state (length list) ≡ false)) }
+        ensures refused { IfErr result
+            (λ e. (e ≡ Refusal.StaleJob) ⊎ ((e ≡ Refusal.RegionFull) ⊎ (e ≡ Refusal.NoMemory))) }
         ensures err { OnErr result (self.new ≡ self.old) }
     {
         install(alloc, &mut self.text_objects, store, fetched)

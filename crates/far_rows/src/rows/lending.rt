@@ -3,7 +3,7 @@ ghost use Rattle.std.specs.Prelude.{◌≡◌, ◌∷◌, ◌<◌, length, slice
 ghost use Rattle.std.specs.List.{flat_map, zip};
 ghost use Rattle.far_types.specs.FirstOf.{first_of};
 ghost use Rattle.far_scopes.specs.Refusing.{refusal_in};
-ghost use Rattle.far_vector.specs.Pieces.{pieces_of, overlapped_groups};
+ghost use Rattle.far_columns.specs.Pieces.{pieces_of, overlapped_groups};
 ghost use Rattle.far_columns.specs.Numbers.{with_flags};
 ghost use Rattle.far_types.specs.Lent.{int_cell, text_cell};
 ghost use Rattle.far_rows.specs.Rows.{all_cells};
@@ -12,7 +12,7 @@ ghost use Rattle.far_rows.specs.Lending.{lent_ints, lent_texts, numbers_of, text
 
 use super::Rows;
 use crate::column_index::ColumnIndex;
-use far_columns::Lents;
+use far_columns::{Lents, lend_numbers};
 use far_store::FarTickets;
 use far_texts::TextCells;
 use far_types::Refusal;
@@ -29,9 +29,14 @@ impl<S: FarTickets> Rows<S> {
     /// - `Absent` (16): the object of a row group with some of them is away. The refusal names the first such object.
     pub fn ints(&self, column: usize, from: usize, to: usize) -> Result<Lents<'_, S>, Refusal>
         ensures lent { IfOk result (λ lents. lents ≡ lent_ints S.content self.now column from to) }
-        ensures cells { IfOk result (λ lents. option_map (λ cells. slice_range cells from to) (slice_get (all_cells S.content self.now) column) ≡ Some (map int_cell (flat_map (λ lent. lent.0) lents))) }
-        ensures alive { IfOk result (λ lents. flat_map (λ lent. lent.1) lents ≡ slice_range self.now.alive from to) }
-        ensures same_length { IfOk result (λ lents. All (λ lent. length lent.1 ≡ length lent.0) lents) }
+        ensures cells { IfOk result
+            (λ lents. option_map (λ cells. slice_range cells from to)
+            (slice_get (all_cells S.content self.now) column)
+            ≡ Some (map int_cell (flat_map (λ lent. lent.0) lents))) }
+        ensures alive { IfOk result
+            (λ lents. flat_map (λ lent. lent.1) lents ≡ slice_range self.now.alive from to) }
+        ensures same_length { IfOk result
+            (λ lents. All (λ lent. length lent.1 ≡ length lent.0) lents) }
         ensures refused { refusal_in result ≡ ints_refusal self.now column from to }
     {
         let Some(column_index) = self.column_indexes.get(column) else {
@@ -46,16 +51,26 @@ impl<S: FarTickets> Rows<S> {
     // Borrows a part of a column of numbers.
     fn ints_at(&self, number: usize, from: usize, to: usize) -> Result<Lents<'_, S>, Refusal>
         requires { number < length self.now.numbers }
-        ensures lent { IfOk result (λ lents. lents ≡ with_flags (pieces_of (numbers_of S.content self.now (ColumnIndex.Number number)) self.now.size from to) (slice_range self.now.alive from to)) }
-        ensures joined { IfOk result (λ lents. flat_map (λ lent. lent.0) lents ≡ slice_range (numbers_of S.content self.now (ColumnIndex.Number number)) from to) }
-        ensures alive { IfOk result (λ lents. flat_map (λ lent. lent.1) lents ≡ slice_range self.now.alive from to) }
-        ensures same_length { IfOk result (λ lents. All (λ lent. length lent.1 ≡ length lent.0) lents) }
-        ensures refused { refusal_in result ≡ first_of (no_range self.now from to ∷ map (λ g. away_at self.now g (ColumnIndex.Number number)) (overlapped_groups self.now.size from to)) }
+        ensures lent { IfOk result
+            (λ lents. lents
+            ≡ with_flags (pieces_of (numbers_of S.content self.now (ColumnIndex.Number number))
+            self.now.size from to) (slice_range self.now.alive from to)) }
+        ensures joined { IfOk result
+            (λ lents. flat_map (λ lent. lent.0) lents
+            ≡ slice_range (numbers_of S.content self.now (ColumnIndex.Number number)) from to) }
+        ensures alive { IfOk result
+            (λ lents. flat_map (λ lent. lent.1) lents ≡ slice_range self.now.alive from to) }
+        ensures same_length { IfOk result
+            (λ lents. All (λ lent. length lent.1 ≡ length lent.0) lents) }
+        ensures refused { refusal_in result
+            ≡ first_of (no_range self.now from to
+            ∷ map (λ g. away_at self.now g (ColumnIndex.Number number))
+            (overlapped_groups self.now.size from to)) }
     {
         let column = &self.numbers[number];
         // For the proof: shows how many numbers there are.
         let _len = column.len();
-        column.lent(&self.number_objects, &self.alive, from, to)
+        lend_numbers(column, &self.number_objects, &self.alive, from, to)
     }
 
     /// Returns an iterator over the texts of the places `from` up to `to`, each borrowed, with the flag of its place.
@@ -69,8 +84,12 @@ impl<S: FarTickets> Rows<S> {
     /// - `Absent` (16): the object of a row group with some of them is away. The refusal names the first such object.
     pub fn texts(&self, column: usize, from: usize, to: usize) -> Result<TextCells<'_, S>, Refusal>
         ensures lent { IfOk result (λ lent. lent ≡ lent_texts S.content self.now column from to) }
-        ensures cells { IfOk result (λ lent. option_map (λ cells. slice_range cells from to) (slice_get (all_cells S.content self.now) column) ≡ Some (map (λ t. text_cell t.0) lent)) }
-        ensures alive { IfOk result (λ lent. map (λ t. t.1) lent ≡ slice_range self.now.alive from to) }
+        ensures cells { IfOk result
+            (λ lent. option_map (λ cells. slice_range cells from to)
+            (slice_get (all_cells S.content self.now) column)
+            ≡ Some (map (λ t. text_cell t.0) lent)) }
+        ensures alive { IfOk result
+            (λ lent. map (λ t. t.1) lent ≡ slice_range self.now.alive from to) }
         ensures refused { refusal_in result ≡ texts_refusal self.now column from to }
     {
         let Some(column_index) = self.column_indexes.get(column) else {
@@ -85,10 +104,19 @@ impl<S: FarTickets> Rows<S> {
     // Borrows a part of a column of texts.
     fn texts_at(&self, text: usize, from: usize, to: usize) -> Result<TextCells<'_, S>, Refusal>
         requires { text < length self.now.texts }
-        ensures lent { IfOk result (λ lent. lent ≡ zip (slice_range (texts_of S.content self.now (ColumnIndex.Text text)) from to) (slice_range self.now.alive from to)) }
-        ensures texts { IfOk result (λ lent. map (λ t. t.0) lent ≡ slice_range (texts_of S.content self.now (ColumnIndex.Text text)) from to) }
-        ensures alive { IfOk result (λ lent. map (λ t. t.1) lent ≡ slice_range self.now.alive from to) }
-        ensures refused { refusal_in result ≡ first_of (no_range self.now from to ∷ map (λ g. away_at self.now g (ColumnIndex.Text text)) (overlapped_groups self.now.size from to)) }
+        ensures lent { IfOk result
+            (λ lent. lent
+            ≡ zip (slice_range (texts_of S.content self.now (ColumnIndex.Text text)) from to)
+            (slice_range self.now.alive from to)) }
+        ensures texts { IfOk result
+            (λ lent. map (λ t. t.0) lent
+            ≡ slice_range (texts_of S.content self.now (ColumnIndex.Text text)) from to) }
+        ensures alive { IfOk result
+            (λ lent. map (λ t. t.1) lent ≡ slice_range self.now.alive from to) }
+        ensures refused { refusal_in result
+            ≡ first_of (no_range self.now from to
+            ∷ map (λ g. away_at self.now g (ColumnIndex.Text text))
+            (overlapped_groups self.now.size from to)) }
     {
         let column = &self.texts[text];
         // For the proof: shows that the row group of each place has been begun.

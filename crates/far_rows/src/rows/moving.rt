@@ -24,7 +24,8 @@ impl<S: FarTickets> Rows<S> {
     pub fn number_objects(&self) -> &Objects<Option<i64>, S>
         ensures objects { result.now ≡ self.now.number_objects }
         ensures spelled { (o : ℕ) → IfSome (list_in result.now.memory o) FitsCount }
-        ensures owned { (o : ℕ) (name : Name) → slice_get (names_of result.now) o ≡ Some name → object_at self.now name.column name.group ≡ Some (object.Number o) }
+        ensures owned { (o : ℕ) (name : Name) → slice_get (names_of result.now) o ≡ Some name
+            → object_at self.now name.column name.group ≡ Some (object.Number o) }
     {
         // For the proof: shows that an object with a list is in use.
         let _number = self.number_objects.number();
@@ -35,7 +36,8 @@ impl<S: FarTickets> Rows<S> {
     pub fn text_objects(&self) -> &Objects<u8, S>
         ensures objects { result.now ≡ self.now.text_objects }
         ensures spelled { (o : ℕ) → IfSome (list_in result.now.memory o) IsTextsForm }
-        ensures owned { (o : ℕ) (name : Name) → slice_get (names_of result.now) o ≡ Some name → object_at self.now name.column name.group ≡ Some (object.Text o) }
+        ensures owned { (o : ℕ) (name : Name) → slice_get (names_of result.now) o ≡ Some name
+            → object_at self.now name.column name.group ≡ Some (object.Text o) }
     {
         let _number = self.text_objects.number();
         &self.text_objects
@@ -65,7 +67,9 @@ impl<S: FarTickets> Rows<S> {
     // Returns the object of a row group of a number column. For the proof: it is one of the objects.
     fn number_object(&self, number: usize, group: u32) -> Option<Object>
         requires { number < length self.now.numbers }
-        ensures object { result ≡ option_map (object_in (column_index.Number number)) (object_of self.now (column_index.Number number) group) }
+        ensures object { result
+            ≡ option_map (object_in (column_index.Number number))
+            (object_of self.now (column_index.Number number) group) }
         ensures in_use { IfSome result (IsInUse self.now) }
     {
         let _number = self.number_objects.number();
@@ -75,7 +79,9 @@ impl<S: FarTickets> Rows<S> {
     // Returns the object of a row group of a text column. For the proof: it is one of the objects.
     fn text_object(&self, text: usize, group: u32) -> Option<Object>
         requires { text < length self.now.texts }
-        ensures object { result ≡ option_map (object_in (column_index.Text text)) (object_of self.now (column_index.Text text) group) }
+        ensures object { result
+            ≡ option_map (object_in (column_index.Text text))
+            (object_of self.now (column_index.Text text) group) }
         ensures in_use { IfSome result (IsInUse self.now) }
     {
         let _number = self.text_objects.number();
@@ -93,7 +99,9 @@ impl<S: FarTickets> Rows<S> {
     ///
     /// A refused call changes nothing.
     pub fn pin(&mut self, column: usize, group: u32) -> Result<(), Refusal>
-        ensures pinned { OnOk result (IsSomeAnd (object_at self.old column group) (λ object. self.new ≡ after_pin self.old object)) }
+        ensures pinned { OnOk result
+            (IsSomeAnd (object_at self.old column group)
+            (λ object. self.new ≡ after_pin self.old object)) }
         ensures kept { KeepsCells S.content S.is_of self.old self.new }
         ensures refused { refusal_in result ≡ pin_refusal self.old column group }
         ensures err { OnErr result (self.new ≡ self.old) }
@@ -114,7 +122,9 @@ impl<S: FarTickets> Rows<S> {
     ///
     /// A refused call changes nothing.
     pub fn unpin(&mut self, column: usize, group: u32) -> Result<(), Refusal>
-        ensures unpinned { OnOk result (IsSomeAnd (object_at self.old column group) (λ object. self.new ≡ after_unpin self.old object)) }
+        ensures unpinned { OnOk result
+            (IsSomeAnd (object_at self.old column group)
+            (λ object. self.new ≡ after_unpin self.old object)) }
         ensures kept { KeepsCells S.content S.is_of self.old self.new }
         ensures refused { refusal_in result ≡ unpin_refusal self.old column group }
         ensures err { OnErr result (self.new ≡ self.old) }
@@ -135,7 +145,9 @@ impl<S: FarTickets> Rows<S> {
     ///
     /// A refused call changes nothing.
     pub fn touch(&mut self, column: usize, group: u32) -> Result<(), Refusal>
-        ensures touched { OnOk result (IsSomeAnd (object_at self.old column group) (λ object. self.new ≡ after_touch self.old object)) }
+        ensures touched { OnOk result
+            (IsSomeAnd (object_at self.old column group)
+            (λ object. self.new ≡ after_touch self.old object)) }
         ensures kept { KeepsCells S.content S.is_of self.old self.new }
         ensures refused { refusal_in result ≡ object_refusal self.old column group }
         ensures err { OnErr result (self.new ≡ self.old) }

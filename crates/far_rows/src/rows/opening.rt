@@ -50,9 +50,13 @@ pub(super) fn columns_of(
     limits: &Limits,
 ) -> Result<Columns, Refusal>
     requires { AreLimits limits.now }
-    ensures column_indexes { IfOk result (λ columns. columns.column_indexes.items ≡ column_indexes_from 0 0 schema.now) }
-    ensures numbers { IfOk result (λ columns. columns.numbers.items ≡ numbers_from limits.now.group 0 schema.now) }
-    ensures texts { IfOk result (λ columns. columns.texts.items ≡ texts_from limits.now.group limits.now.text_size 0 schema.now) }
+    ensures column_indexes { IfOk result
+        (λ columns. columns.column_indexes.items ≡ column_indexes_from 0 0 schema.now) }
+    ensures numbers { IfOk result
+        (λ columns. columns.numbers.items ≡ numbers_from limits.now.group 0 schema.now) }
+    ensures texts { IfOk result
+        (λ columns. columns.texts.items
+        ≡ texts_from limits.now.group limits.now.text_size 0 schema.now) }
     ensures schema { IsSchema schema.now }
     ensures memory { IfErr result (λ e. e ≡ Refusal.NoMemory) }
 {
@@ -79,16 +83,25 @@ impl Columns {
         limits: &Limits,
     ) -> Result<(), Refusal>
         requires { AreLimits limits.now }
-        ensures column_indexes { OnOk result (self.new.column_indexes.items ≡ self.old.column_indexes.items ++ column_indexes_from (length self.old.numbers.items) (length self.old.texts.items) (kind ∷ [])) }
-        ensures numbers { OnOk result (self.new.numbers.items ≡ self.old.numbers.items ++ numbers_from limits.now.group column (kind ∷ [])) }
-        ensures texts { OnOk result (self.new.texts.items ≡ self.old.texts.items ++ texts_from limits.now.group limits.now.text_size column (kind ∷ [])) }
+        ensures column_indexes { OnOk result
+            (self.new.column_indexes.items
+            ≡ self.old.column_indexes.items
+            ++ column_indexes_from (length self.old.numbers.items) (length self.old.texts.items)
+            (kind ∷ [])) }
+        ensures numbers { OnOk result
+            (self.new.numbers.items
+            ≡ self.old.numbers.items ++ numbers_from limits.now.group column (kind ∷ [])) }
+        ensures texts { OnOk result
+            (self.new.texts.items
+            ≡ self.old.texts.items
+            ++ texts_from limits.now.group limits.now.text_size column (kind ∷ [])) }
         ensures memory { IfErr result (λ e. e ≡ Refusal.NoMemory) }
     {
         match kind {
             Kind::Int => {
                 self.column_indexes
                     .push(ColumnIndex::Number(self.numbers.len()))?;
-                let numbers = IntColumn::new(alloc, column, limits.group)?;
+                let numbers = IntColumn::new(alloc, column, limits.group, Some(0))?;
                 self.numbers.push(numbers)?;
             }
             Kind::Text => {

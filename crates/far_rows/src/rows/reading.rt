@@ -4,7 +4,7 @@ ghost use Rattle.std.specs.Option.{option_copied, option_map_or};
 ghost use Rattle.far_types.specs.declared.cell.Cell.TheVariants.{Missing};
 ghost use Rattle.far_types.specs.FirstOf.{first_of};
 ghost use Rattle.far_scopes.specs.Refusing.{refusal_in, absent};
-ghost use Rattle.far_vector.specs.Vector.{IsVector};
+ghost use Rattle.far_columns.specs.Vector.{IsVector};
 ghost use Rattle.far_columns.specs.Numbers.{number_lists};
 ghost use Rattle.far_texts.specs.Texts.{lists_of, IsTextColumn};
 ghost use Rattle.far_rows.specs.declared.column_index.ColumnIndex.TheVariants as column_index;
@@ -79,7 +79,9 @@ impl<S: FarTickets> Rows<S> {
     /// - `NoRow` (8): the place is past the end.
     /// - `Absent` (16): the object of the cell is away.
     pub fn cell(&self, column: usize, place: usize) -> Result<CellRef<'_>, Refusal>
-        ensures cell { IfOk result (λ cell. option_map (λ cells. slice_index_or cells place Missing) (slice_get (all_cells S.content self.now) column) ≡ Some (lent_cell cell)) }
+        ensures cell { IfOk result
+            (λ cell. option_map (λ cells. slice_index_or cells place Missing)
+            (slice_get (all_cells S.content self.now) column) ≡ Some (lent_cell cell)) }
         ensures refused { refusal_in result ≡ cell_refusal self.now column place }
     {
         let Some(column_index) = self.column_indexes.get(column) else {
@@ -101,8 +103,12 @@ impl<S: FarTickets> Rows<S> {
     ) -> Result<CellRef<'_>, Refusal>
         requires lies { slice_get self.now.column_indexes column ≡ Some column_index }
         requires place { place < length self.now.alive }
-        ensures cell { IfOk result (λ cell. slice_index_or (column_in (all_numbers S.content self.now) (all_texts S.content self.now) column_index) place Missing ≡ lent_cell cell) }
-        ensures refused { refusal_in result ≡ first_of (absent_at self.now column (place / self.now.size) column_index ∷ []) }
+        ensures cell { IfOk result
+            (λ cell. slice_index_or
+            (column_in (all_numbers S.content self.now) (all_texts S.content self.now) column_index)
+            place Missing ≡ lent_cell cell) }
+        ensures refused { refusal_in result
+            ≡ first_of (absent_at self.now column (place / self.now.size) column_index ∷ []) }
     {
         // For the proof: shows that each index is a column's.
         let _len = self.len();
@@ -160,8 +166,12 @@ impl<S: FarTickets> Rows<S> {
     ) -> Result<PlaceCell<'_>, Refusal>
         requires lies { slice_get self.now.column_indexes column ≡ Some column_index }
         requires place { place < length self.now.alive }
-        ensures cell { IfOk result (λ cell. slice_index_or (column_in (all_numbers S.content self.now) (all_texts S.content self.now) column_index) place Missing ≡ place_cell cell) }
-        ensures refused { refusal_in result ≡ first_of (absent_at self.now column (place / self.now.size) column_index ∷ []) }
+        ensures cell { IfOk result
+            (λ cell. slice_index_or
+            (column_in (all_numbers S.content self.now) (all_texts S.content self.now) column_index)
+            place Missing ≡ place_cell cell) }
+        ensures refused { refusal_in result
+            ≡ first_of (absent_at self.now column (place / self.now.size) column_index ∷ []) }
     {
         // For the proof: shows that each index is a column's.
         let _len = self.len();
@@ -180,8 +190,13 @@ impl<S: FarTickets> Rows<S> {
         requires lies { slice_get self.now.column_indexes at ≡ Some (column_index.Number number) }
         requires column { number < length self.now.numbers }
         requires place { place < length self.now.alive }
-        ensures number { IfOk result (λ value. slice_index_or (column_in (all_numbers S.content self.now) (all_texts S.content self.now) (column_index.Number number)) place Missing ≡ int_cell value.now) }
-        ensures refused { refusal_in result ≡ first_of (absent_at self.now at (place / self.now.size) (column_index.Number number) ∷ []) }
+        ensures number { IfOk result
+            (λ value. slice_index_or
+            (column_in (all_numbers S.content self.now) (all_texts S.content self.now)
+            (column_index.Number number)) place Missing ≡ int_cell value.now) }
+        ensures refused { refusal_in result
+            ≡ first_of (absent_at self.now at (place / self.now.size) (column_index.Number number)
+            ∷ []) }
     {
         let column = &self.numbers[number];
         // For the proof: shows that the row group of each place has been begun.
@@ -212,7 +227,10 @@ impl<S: FarTickets> Rows<S> {
     /// - `NoRow` (8): the place is past the end.
     /// - `Absent` (16): the object of the text is away.
     pub fn text(&self, column: usize, place: usize) -> Result<Option<&str>, Refusal>
-        ensures text { IfOk result (λ text. option_map (λ cells. slice_index_or cells place Missing) (slice_get (all_cells S.content self.now) column) ≡ Some (text_cell (option_copied text))) }
+        ensures text { IfOk result
+            (λ text. option_map (λ cells. slice_index_or cells place Missing)
+            (slice_get (all_cells S.content self.now) column)
+            ≡ Some (text_cell (option_copied text))) }
         ensures refused { refusal_in result ≡ text_refusal self.now column place }
     {
         let Some(column_index) = self.column_indexes.get(column) else {
@@ -232,8 +250,13 @@ impl<S: FarTickets> Rows<S> {
         requires lies { slice_get self.now.column_indexes at ≡ Some (column_index.Number number) }
         requires column { number < length self.now.numbers }
         requires place { place < length self.now.alive }
-        ensures number { IfOk result (λ value. slice_index_or (column_in (all_numbers S.content self.now) (all_texts S.content self.now) (column_index.Number number)) place Missing ≡ int_cell value) }
-        ensures refused { refusal_in result ≡ first_of (absent_at self.now at (place / self.now.size) (column_index.Number number) ∷ []) }
+        ensures number { IfOk result
+            (λ value. slice_index_or
+            (column_in (all_numbers S.content self.now) (all_texts S.content self.now)
+            (column_index.Number number)) place Missing ≡ int_cell value) }
+        ensures refused { refusal_in result
+            ≡ first_of (absent_at self.now at (place / self.now.size) (column_index.Number number)
+            ∷ []) }
     {
         let column = &self.numbers[number];
         // For the proof: shows that the row group of each place has been begun.
@@ -246,8 +269,13 @@ impl<S: FarTickets> Rows<S> {
         requires lies { slice_get self.now.column_indexes at ≡ Some (column_index.Text text) }
         requires column { text < length self.now.texts }
         requires place { place < length self.now.alive }
-        ensures text { IfOk result (λ value. slice_index_or (column_in (all_numbers S.content self.now) (all_texts S.content self.now) (column_index.Text text)) place Missing ≡ text_cell (option_copied value)) }
-        ensures refused { refusal_in result ≡ first_of (absent_at self.now at (place / self.now.size) (column_index.Text text) ∷ []) }
+        ensures text { IfOk result
+            (λ value. slice_index_or
+            (column_in (all_numbers S.content self.now) (all_texts S.content self.now)
+            (column_index.Text text)) place Missing ≡ text_cell (option_copied value)) }
+        ensures refused { refusal_in result
+            ≡ first_of (absent_at self.now at (place / self.now.size) (column_index.Text text)
+            ∷ []) }
     {
         let column = &self.texts[text];
         // For the proof: shows `HasGroups` of the column.
@@ -263,7 +291,9 @@ fn numbers_are_here<S: FarTickets>(
     group: u32,
 ) -> Result<(), Refusal>
     requires { IsVector (number_lists S.content objects.now) column.now }
-    ensures { refusal_in result ≡ first_of (option_map_or (absent objects.now) (slice_get column.now.objects group) (false, Refusal.StaleJob) ∷ []) }
+    ensures { refusal_in result
+        ≡ first_of (option_map_or (absent objects.now) (slice_get column.now.objects group)
+        (false, Refusal.StaleJob) ∷ []) }
 {
     // For the proof: shows that an object with a list is in use.
     let _number = objects.number();
@@ -280,7 +310,9 @@ fn texts_are_here<S: FarTickets>(
     group: u32,
 ) -> Result<(), Refusal>
     requires { IsTextColumn (lists_of S.content objects.now) column.now }
-    ensures { refusal_in result ≡ first_of (option_map_or (absent objects.now) (slice_get column.now.objects group) (false, Refusal.StaleJob) ∷ []) }
+    ensures { refusal_in result
+        ≡ first_of (option_map_or (absent objects.now) (slice_get column.now.objects group)
+        (false, Refusal.StaleJob) ∷ []) }
 {
     // For the proof: shows that an object with a list is in use.
     let _number = objects.number();

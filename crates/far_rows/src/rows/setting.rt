@@ -1,10 +1,10 @@
 // Setting a cell.
-ghost use Rattle.std.specs.Prelude.{◌≡◌, [], ◌/◌, ◌<◌, ◌≤◌, ◌+◌, ℕ, ℤ, Option, List, length, map, false, None, Some, OnOk, OnErr, IfErr, IsOk, IfSome, option_map, slice_get, slice_set, slice_index_or};
+ghost use Rattle.std.specs.Prelude.{◌≡◌, ◌≢◌, [], ◌/◌, ◌<◌, ◌≤◌, ◌+◌, ℕ, ℤ, Option, List, length, map, false, None, Some, OnOk, OnErr, IfErr, IsOk, IfSome, option_map, slice_get, slice_set, slice_index_or};
 ghost use Rattle.std.specs.Option.{option_and_then};
 ghost use Rattle.far_types.specs.Cells.{is_too_long};
 ghost use Rattle.far_scopes.specs.Movement.{AreHere, version_of};
 ghost use Rattle.far_scopes.specs.Refusing.{refusal_in};
-ghost use Rattle.far_vector.specs.Refusing.{set_refusal as number_set_refusal};
+ghost use Rattle.far_columns.specs.Refusing.{set_refusal as number_set_refusal};
 ghost use Rattle.far_rows.specs.declared.column_index.ColumnIndex.TheVariants as column_index;
 ghost use Rattle.far_rows.specs.declared.new_cell.NewCell.TheVariants as new;
 ghost use Rattle.far_types.specs.declared.limits.Limits.{Limits};
@@ -36,10 +36,14 @@ impl<S: FarTickets> Rows<S> {
     /// - `EditsUsedUp` (24): the object was written as often as the limits allow.
     pub fn may_set(&self, column: usize, place: usize, value: &NewCell) -> Result<(), Refusal>
         requires place { place < length self.now.alive }
-        requires of_kind { option_map kind_of (slice_get self.now.column_indexes column) ≡ Some (kind_in value.now) }
+        requires of_kind { option_map kind_of (slice_get self.now.column_indexes column)
+            ≡ Some (kind_in value.now) }
         requires short { is_too_long (cell_of value.now) ≡ false }
-        ensures refused { refusal_in result ≡ set_refusal S.content self.now column place value.now }
-        ensures plain { (limits : Limits) → AreOf limits self.now → refusal_in result ≡ cell_set_refusal S.content limits self.now column place value.now }
+        ensures refused { refusal_in result
+            ≡ set_refusal S.content self.now column place value.now }
+        ensures plain { (limits : Limits) → AreOf limits self.now
+            → refusal_in result
+            ≡ cell_set_refusal S.content limits self.now column place value.now }
     {
         // For the proof: shows `AreRows`.
         let _len = self.len();
@@ -49,7 +53,8 @@ impl<S: FarTickets> Rows<S> {
     // Checks that a cell may be set to a value: all objects of its row group are local, and then the column accepts the value.
     fn may_set_value(&self, column: usize, place: usize, value: &NewCell) -> Result<(), Refusal>
         requires place { place < length self.now.alive }
-        requires of_kind { option_map kind_of (slice_get self.now.column_indexes column) ≡ Some (kind_in value.now) }
+        requires of_kind { option_map kind_of (slice_get self.now.column_indexes column)
+            ≡ Some (kind_in value.now) }
         ensures { refusal_in result ≡ set_refusal S.content self.now column place value.now }
     {
         // For the proof: shows that each index is a column's.
@@ -83,7 +88,9 @@ impl<S: FarTickets> Rows<S> {
         requires within { i < length self.now.numbers }
         requires place { place < length self.now.alive }
         requires group { group ≡ place / self.now.size }
-        ensures { refusal_in result ≡ option_and_then (λ v. number_set_refusal self.now.number_objects v place) (slice_get self.now.numbers i) }
+        ensures { refusal_in result
+            ≡ option_and_then (λ v. number_set_refusal self.now.number_objects v place)
+            (slice_get self.now.numbers i) }
     {
         // For the proof: shows `AreRows`, and that an object with a list is in use.
         let _len = self.len();
@@ -97,11 +104,17 @@ impl<S: FarTickets> Rows<S> {
     // Writes a number at a place of a number column. It must be one that may be written.
     fn set_number(&mut self, i: usize, place: usize, number: Option<i64>)
         requires within { i < length self.old.numbers }
-        requires free { value_refusal S.content self.old (column_index.Number i) place (new.Number number) ≡ None }
-        ensures moved { self.new ≡ set_in S.content self.old (column_index.Number i) place (new.Number number) }
-        ensures numbers { all_numbers S.content self.new ≡ slice_set (all_numbers S.content self.old) i (slice_set (slice_index_or (all_numbers S.content self.old) i []) place number) }
-        ensures store { (id : List ℕ) → AreHere S.is_of id self.old.number_objects → AreHere S.is_of id self.new.number_objects }
-        ensures versions { (o : ℕ) → version_of self.new.number_objects o ≤ version_of self.old.number_objects o + 1 }
+        requires free { value_refusal S.content self.old (column_index.Number i) place
+            (new.Number number) ≡ None }
+        ensures moved { self.new
+            ≡ set_in S.content self.old (column_index.Number i) place (new.Number number) }
+        ensures numbers { all_numbers S.content self.new
+            ≡ slice_set (all_numbers S.content self.old) i
+            (slice_set (slice_index_or (all_numbers S.content self.old) i []) place number) }
+        ensures store { (id : List ℕ) → AreHere S.is_of id self.old.number_objects
+            → AreHere S.is_of id self.new.number_objects }
+        ensures versions { (o : ℕ)
+            → version_of self.new.number_objects o ≤ version_of self.old.number_objects o + 1 }
     {
         // For the proof: shows `AreRows`.
         let _len = self.len();
@@ -118,11 +131,18 @@ impl<S: FarTickets> Rows<S> {
         text: &Option<Text>,
     ) -> Result<(), Refusal>
         requires within { i < length self.old.texts }
-        requires free { value_refusal S.content self.old (column_index.Text i) place (new.Text text.now) ≡ None }
-        ensures moved { OnOk result (self.new ≡ set_in S.content self.old (column_index.Text i) place (new.Text text.now)) }
-        ensures texts { OnOk result (all_texts S.content self.new ≡ slice_set (all_texts S.content self.old) i (slice_set (slice_index_or (all_texts S.content self.old) i []) place text.now)) }
-        ensures store { (id : List ℕ) → AreHere S.is_of id self.old.text_objects → AreHere S.is_of id self.new.text_objects }
-        ensures versions { (o : ℕ) → version_of self.new.text_objects o ≤ version_of self.old.text_objects o + 1 }
+        requires free { value_refusal S.content self.old (column_index.Text i) place
+            (new.Text text.now) ≡ None }
+        ensures moved { OnOk result
+            (self.new ≡ set_in S.content self.old (column_index.Text i) place (new.Text text.now)) }
+        ensures texts { OnOk result
+            (all_texts S.content self.new
+            ≡ slice_set (all_texts S.content self.old) i
+            (slice_set (slice_index_or (all_texts S.content self.old) i []) place text.now)) }
+        ensures store { (id : List ℕ) → AreHere S.is_of id self.old.text_objects
+            → AreHere S.is_of id self.new.text_objects }
+        ensures versions { (o : ℕ)
+            → version_of self.new.text_objects o ≤ version_of self.old.text_objects o + 1 }
         ensures memory { IfErr result (λ e. e ≡ Refusal.NoMemory) }
         ensures err { OnErr result (self.new ≡ self.old) }
     {
@@ -141,14 +161,18 @@ impl<S: FarTickets> Rows<S> {
         place: usize,
         value: &NewCell,
     ) -> Result<(), Refusal>
-        requires of_kind { option_map kind_of (slice_get self.old.column_indexes column) ≡ Some (kind_in value.now) }
+        requires of_kind { option_map kind_of (slice_get self.old.column_indexes column)
+            ≡ Some (kind_in value.now) }
         requires free { set_refusal S.content self.old column place value.now ≡ None }
         ensures set { OnOk result (IsSet S.content self.old column place value.now self.new) }
-        ensures places { OnOk result (places_in S.content self.new ≡ change_at (with_cell column (cell_of value.now)) place (places_in S.content self.old)) }
+        ensures places { OnOk result
+            (places_in S.content self.new
+            ≡ change_at (with_cell column (cell_of value.now)) place
+            (places_in S.content self.old)) }
         ensures here { (g : ℕ) → absents self.new g ≡ absents self.old g }
         ensures kept { KeepsObjects S.is_of self.old self.new }
-        ensures number { kind_in value.now ≡ Kind.Int → IsOk result }
-        ensures memory { IfErr result (λ e. e ≡ Refusal.NoMemory) }
+        ensures memory { IfErr result
+            (λ e. (e ≡ Refusal.NoMemory) × (kind_in value.now ≢ Kind.Int)) }
         ensures err { OnErr result (self.new ≡ self.old) }
     {
         // For the proof: shows `AreRows`.
@@ -165,14 +189,23 @@ impl<S: FarTickets> Rows<S> {
         place: usize,
         value: &NewCell,
     ) -> Result<(), Refusal>
-        requires of_kind { option_map kind_of (slice_get self.old.column_indexes column) ≡ Some (kind_in value.now) }
+        requires of_kind { option_map kind_of (slice_get self.old.column_indexes column)
+            ≡ Some (kind_in value.now) }
         requires free { set_refusal S.content self.old column place value.now ≡ None }
-        ensures cells { OnOk result (all_cells S.content self.new ≡ with_cell_at (all_cells S.content self.old) column place (cell_of value.now)) }
-        ensures moved { OnOk result (IfSome (slice_get self.old.column_indexes column) (λ s. self.new ≡ set_in S.content self.old s place value.now)) }
-        ensures number_store { (id : List ℕ) → AreHere S.is_of id self.old.number_objects → AreHere S.is_of id self.new.number_objects }
-        ensures text_store { (id : List ℕ) → AreHere S.is_of id self.old.text_objects → AreHere S.is_of id self.new.text_objects }
-        ensures number_versions { (o : ℕ) → version_of self.new.number_objects o ≤ version_of self.old.number_objects o + 1 }
-        ensures text_versions { (o : ℕ) → version_of self.new.text_objects o ≤ version_of self.old.text_objects o + 1 }
+        ensures cells { OnOk result
+            (all_cells S.content self.new
+            ≡ with_cell_at (all_cells S.content self.old) column place (cell_of value.now)) }
+        ensures moved { OnOk result
+            (IfSome (slice_get self.old.column_indexes column)
+            (λ s. self.new ≡ set_in S.content self.old s place value.now)) }
+        ensures number_store { (id : List ℕ) → AreHere S.is_of id self.old.number_objects
+            → AreHere S.is_of id self.new.number_objects }
+        ensures text_store { (id : List ℕ) → AreHere S.is_of id self.old.text_objects
+            → AreHere S.is_of id self.new.text_objects }
+        ensures number_versions { (o : ℕ)
+            → version_of self.new.number_objects o ≤ version_of self.old.number_objects o + 1 }
+        ensures text_versions { (o : ℕ)
+            → version_of self.new.text_objects o ≤ version_of self.old.text_objects o + 1 }
         ensures number { kind_in value.now ≡ Kind.Int → IsOk result }
         ensures memory { IfErr result (λ e. e ≡ Refusal.NoMemory) }
         ensures err { OnErr result (self.new ≡ self.old) }

@@ -1,10 +1,10 @@
 // A column of numbers with its objects.
-ghost use Rattle.far_vector.specs.Vector.{IsVector};
+ghost use Rattle.far_columns.specs.Vector.{IsVector};
 ghost use Rattle.far_columns.specs.Numbers.{number_lists};
 
 use crate::columns::LIMITS;
 use crate::columns::flags::flags;
-use far_columns::{Alive, IntColumn, Lent};
+use far_columns::{Alive, IntColumn, Lent, lend_numbers};
 use far_scopes::Objects;
 use far_store::{AgentStore, FarTickets};
 use far_types::Refusal;
@@ -70,7 +70,7 @@ fn is_lent<S: FarTickets>(
     if alive.len() != column.len() {
         return Ok(false);
     }
-    let mut pieces = column.lent(objects, alive, 0, column.len())?;
+    let mut pieces = lend_numbers(column, objects, alive, 0, column.len())?;
     match pieces.next() {
         Some(piece) => Ok(is_piece(objects, column, alive, &piece, (0, 2))),
         None => Ok(false),
@@ -93,7 +93,7 @@ fn reads_back_in<S: FarTickets>(
     alloc: Global,
     objects: &mut Objects<Option<i64>, S>,
 ) -> Result<bool, Refusal> {
-    let mut column = IntColumn::new(alloc, 0, 2)?;
+    let mut column = IntColumn::new(alloc, 0, 2, Some(0))?;
     let alive = flags(alloc, 3)?;
     is_lent_as_filled(objects, &mut column, &alive)
 }

@@ -1,6 +1,5 @@
 // The stores for cases.
-use far_byte_log::ByteLog;
-use far_store::EngineStore;
+use far_store::{ByteLog, EngineStore};
 use far_types::Refusal;
 use std::alloc::Global;
 

@@ -2,15 +2,15 @@
 ghost use Rattle.std.specs.Prelude.{◌≡◌, ◌<◌, None};
 ghost use Rattle.far_codec.specs.PlainNumbers.{plain_meaning};
 ghost use Rattle.far_scopes.specs.Movement.{list_of};
-ghost use Rattle.far_vector.specs.Vector.{IsVector};
-ghost use Rattle.far_vector.specs.Refusing.{write_part_refusal};
+ghost use Rattle.far_columns.specs.Vector.{IsVector};
+ghost use Rattle.far_columns.specs.Refusing.{write_part_refusal};
 
 use crate::vector::script::{Call, WRONG, finds, found};
 use far_codec::Elem;
+use far_columns::FarVector;
 use far_scopes::Objects;
 use far_store::{FarStore, FarTickets};
 use far_types::Refusal;
-use far_vector::FarVector;
 
 /// Makes a call and returns its reply.
 pub fn reply<S: FarStore>(

@@ -3,15 +3,15 @@ ghost use Rattle.std.specs.Prelude.{◌<◌, ℕ, List, Option, IfOk};
 ghost use lib.IntN.{ℤ};
 ghost use Rattle.far_codec.specs.PlainNumbers.{plain_meaning};
 ghost use Rattle.far_scopes.specs.Movement.{list_of};
-ghost use Rattle.far_vector.specs.Vector.{IsVector};
+ghost use Rattle.far_columns.specs.Vector.{IsVector};
 
 use crate::fixtures::{agent, no_objects};
 use crate::vector::calls::reply;
 use crate::vector::script::Line;
+use far_columns::FarVector;
 use far_scopes::{ObjectLimits, Objects};
 use far_store::FarStore;
 use far_types::Refusal;
-use far_vector::FarVector;
 use std::alloc::Global;
 use std::sync::Wait;
 

@@ -44,9 +44,13 @@ impl<'a, S: FarTickets> Model for TextCells<'a, S> {
 
     ghost Value = { List (Option (List ℕ) × Bool) };
 
-    ghost view = { λ t. zip (drop t.cursor.place (texts_in (lists_of S.content t.objects.now) t.column.now)) t.flags.now };
+    ghost view = { λ t.
+        zip (drop t.cursor.place (texts_in (lists_of S.content t.objects.now) t.column.now))
+        t.flags.now };
 
-    ghost invariant = { λ t. AreRead S.content t.objects.now t.column.now t.cursor.place (length t.flags.now) t.cursor.group t.cursor.index t.cursor.form.now };
+    ghost invariant = { λ t.
+        AreRead S.content t.objects.now t.column.now t.cursor.place (length t.flags.now)
+        t.cursor.group t.cursor.index t.cursor.form.now };
 }
 
 impl<'a, S: FarTickets> TextCells<'a, S> {
@@ -58,7 +62,8 @@ impl<'a, S: FarTickets> TextCells<'a, S> {
         place: usize,
     ) -> TextCells<'a, S>
         requires { AreLent S.content objects.now column.now place (length flags.now) }
-        ensures { result ≡ zip (drop place (texts_in (lists_of S.content objects.now) column.now)) flags.now }
+        ensures { result
+            ≡ zip (drop place (texts_in (lists_of S.content objects.now) column.now)) flags.now }
     {
         let cursor = if flags.is_empty() {
             Cursor::none(place)
@@ -78,7 +83,8 @@ impl<'a, S: FarTickets> TextCells<'a, S> {
     /// This is no `Iterator`: the prover cannot prove a method of that trait if it calls something that requires objects that
     /// threads may share.
     pub fn next(&mut self) -> Option<TextCell<'a>>
-        ensures first { IfSome result (λ cell. self.old ≡ (option_copied cell.text, cell.alive) ∷ self.new) }
+        ensures first { IfSome result (λ cell.
+            self.old ≡ (option_copied cell.text, cell.alive) ∷ self.new) }
         ensures none { IfNone result ((self.old ≡ []) × (self.new ≡ [])) }
     {
         let (alive, flags) = self.flags.split_first()?;
@@ -108,7 +114,8 @@ impl TextColumn {
         requires is { IsTextColumn (lists_of S.content objects.now) self.now }
         requires ordered { first ≤ end }
         requires begun { end ≤ length self.now.objects }
-        ensures { refusal_in result ≡ first_absent objects.now (slice_range self.now.objects first end) }
+        ensures { refusal_in result
+            ≡ first_absent objects.now (slice_range self.now.objects first end) }
     {
         for group in first..end {
             let _form = self.form(objects, group)?;
@@ -132,7 +139,9 @@ impl TextColumn {
     ) -> Result<TextCells<'a, S>, Refusal>
         requires is { IsTextColumn (lists_of S.content objects.now) self.now }
         requires same_length { length alive.now ≡ self.now.len }
-        ensures lent { IfOk result (λ lent. lent ≡ zip (slice_range (texts_in (lists_of S.content objects.now) self.now) from to) (slice_range alive.now from to)) }
+        ensures lent { IfOk result (λ lent. lent
+            ≡ zip (slice_range (texts_in (lists_of S.content objects.now) self.now) from to)
+            (slice_range alive.now from to)) }
         ensures refused { refusal_in result ≡ texts_refusal objects.now self.now from to }
     {
         if to > self.len || from > to {

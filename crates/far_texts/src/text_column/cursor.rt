@@ -45,7 +45,8 @@ impl<'a> Cursor<'a> {
         requires is { IsTextColumn (lists_of S.content objects.now) column.now }
         requires here { text_refusal S.content objects.now column.now place ≡ None }
         ensures place { result.place ≡ place }
-        ensures cursor { IsCursor (lists_of S.content objects.now) column.now place result.group result.index result.form.now }
+        ensures cursor { IsCursor (lists_of S.content objects.now) column.now
+            place result.group result.index result.form.now }
     {
         // For the proof: shows `HasGroups`.
         let _size = column.size();
@@ -67,10 +68,12 @@ impl<'a> Cursor<'a> {
         objects: &'a Objects<u8, S>,
     ) -> Cursor<'a>
         requires is { IsTextColumn (lists_of S.content objects.now) column.now }
-        requires cursor { IsCursor (lists_of S.content objects.now) column.now self.place self.group self.index self.form.now }
+        requires cursor { IsCursor (lists_of S.content objects.now) column.now
+            self.place self.group self.index self.form.now }
         requires here { text_refusal S.content objects.now column.now self.place ≡ None }
         ensures place { result.place ≡ self.entry.place }
-        ensures cursor { IsCursor (lists_of S.content objects.now) column.now result.place result.group result.index result.form.now }
+        ensures cursor { IsCursor (lists_of S.content objects.now) column.now
+            result.place result.group result.index result.form.now }
         ensures inside { result.index < column.now.size }
     {
         if self.index < column.size() {
@@ -102,7 +105,8 @@ impl TextColumn {
         requires begun { group < length self.now.objects }
         requires is { IsTextColumn (lists_of S.content objects.now) self.now }
         requires here { lend_refusal objects.now (slice_index self.now.objects group) ≡ None }
-        ensures lent { lists_of S.content objects.now (slice_index self.now.objects group) ≡ Some result.now }
+        ensures lent { lists_of S.content objects.now (slice_index self.now.objects group)
+            ≡ Some result.now }
         ensures form { IsGroupForm self.now group result.now }
     {
         let Ok(form) = self.form(objects, group) else {

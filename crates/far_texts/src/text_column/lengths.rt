@@ -54,7 +54,8 @@ impl TextColumn {
         text: &Option<Text>,
     ) -> Result<usize, Refusal>
         requires { IsTextColumn (lists_of S.content objects.now) self.now }
-        ensures length { IfOk result (λ len. len ≡ texts_length (group_with (lists_of S.content objects.now) self.now place text.now)) }
+        ensures length { IfOk result (λ len. len
+            ≡ texts_length (group_with (lists_of S.content objects.now) self.now place text.now)) }
         ensures refused { refusal_in result ≡ length_refusal S.content objects.now self.now place }
     {
         if place >= self.len {
@@ -75,7 +76,8 @@ impl TextColumn {
         text: &Option<Text>,
     ) -> Result<usize, Refusal>
         requires { IsTextColumn (lists_of S.content objects.now) self.now }
-        ensures length { IfOk result (λ len. len ≡ texts_length (group_with_next (lists_of S.content objects.now) self.now text.now)) }
+        ensures length { IfOk result (λ len. len
+            ≡ texts_length (group_with_next (lists_of S.content objects.now) self.now text.now)) }
         ensures refused { refusal_in result ≡ next_length_refusal S.content objects.now self.now }
     {
         if self.begins_group() {

@@ -1,15 +1,14 @@
 // Appending a text to a column.
-ghost use Rattle.std.specs.Prelude.{◌≡◌, ◌⊎◌, ◌<◌, ◌≤◌, ◌^◌, ◌++◌, ◌∷◌, ℕ, List, [], length, true, false, None, Some, OnOk, OnErr, IfOk, IfErr};
+ghost use Rattle.std.specs.Prelude.{◌≡◌, ◌⊎◌, ◌<◌, ◌≤◌, ◌^◌, length, true, false, None, Some, OnOk, OnErr, IfOk, IfErr};
 ghost use Rattle.far_types.specs.FormLengths.{texts_length};
-ghost use Rattle.far_codec.specs.TextForm.{texts_form, texts_meaning, IsTextsForm};
+ghost use Rattle.far_codec.specs.TextForm.{texts_meaning, IsTextsForm};
 ghost use Rattle.far_log.specs.RegionState.{fits_in};
-ghost use Rattle.far_scopes.specs.Memory.{ChangesList};
-ghost use Rattle.far_scopes.specs.Movement.{AreClean, AreHere};
-ghost use Rattle.far_scopes.specs.Effects.{after_create, after_replace};
 ghost use Rattle.far_scopes.specs.Refusing.{refusal_in, replace_refusal};
-ghost use Rattle.far_texts.specs.Texts.{Texts, lists_of, texts_in, HasGroups, IsTextColumn, AreDisjoint, KeepsOthers};
-ghost use Rattle.far_texts.specs.Effects.{begins_group, last_object, next_object, group_with_next, after_push, objects_after_push};
+ghost use Rattle.far_texts.specs.Texts.{lists_of, HasGroups, IsTextColumn};
+ghost use Rattle.far_texts.specs.Columns.{ChangesColumn, KeepsCopies};
+ghost use Rattle.far_texts.specs.Effects.{begins_group, last_object, group_with_next, TextPushed};
 ghost use Rattle.far_texts.specs.Refusing.{next_length_refusal, push_refusal};
+ghost use Rattle.far_texts.specs.Storing.{GroupBegun, GroupExtended};
 
 use super::TextColumn;
 use super::lengths::text_length;
@@ -57,10 +56,14 @@ impl TextColumn {
     ) -> Result<Vec<u8>, Refusal>
         requires is { IsTextColumn (lists_of S.content objects.now) self.now }
         requires here { next_length_refusal S.content objects.now self.now ≡ None }
-        requires short { texts_length (group_with_next (lists_of S.content objects.now) self.now text.now) ≤ self.now.limit }
+        requires short { texts_length
+            (group_with_next (lists_of S.content objects.now) self.now text.now)
+            ≤ self.now.limit }
         ensures form { IfOk result (λ form. IsTextsForm form.items) }
-        ensures texts { IfOk result (λ form. texts_meaning form.items ≡ group_with_next (lists_of S.content objects.now) self.now text.now) }
-        ensures length { IfOk result (λ form. length form.items ≡ texts_length (group_with_next (lists_of S.content objects.now) self.now text.now)) }
+        ensures texts { IfOk result (λ form. texts_meaning form.items
+            ≡ group_with_next (lists_of S.content objects.now) self.now text.now) }
+        ensures length { IfOk result (λ form. length form.items
+            ≡ texts_length (group_with_next (lists_of S.content objects.now) self.now text.now)) }
         ensures memory { IfErr result (λ e. e ≡ Refusal.NoMemory) }
     {
         let groups = self.objects.len();
@@ -92,15 +95,15 @@ impl TextColumn {
         requires few { length objects.old.records < 2 ^ 28 }
         requires groups { length self.old.objects ≤ length objects.old.records }
         requires some { 0 < length form.now }
-        ensures pushed { OnOk result (self.new ≡ after_push self.old (length objects.old.records)) }
-        ensures created { OnOk result (objects.new ≡ after_create objects.old record { column = self.old.column; group = length self.old.objects } form.now) }
-        ensures list { OnOk result (ChangesList (lists_of S.content objects.old) (lists_of S.content objects.new) (length objects.old.records) (Some form.now)) }
-        ensures clean { AreClean (λ bytes. bytes) S.content objects.old → AreClean (λ bytes. bytes) S.content objects.new }
-        ensures store { (id : List ℕ) → AreHere S.is_of id objects.old → AreHere S.is_of id objects.new }
+        ensures begun { OnOk result
+            (GroupBegun S.content objects.old self.old form.now objects.new self.new) }
         ensures space { OnOk result (fits_in objects.old.memory.state (length form.now) ≡ true) }
-        ensures refused { IfErr result (λ e. ((e ≡ Refusal.RegionFull) × (fits_in objects.old.memory.state (length form.now) ≡ false)) ⊎ (e ≡ Refusal.NoMemory)) }
-        ensures err { OnErr result (objects.new ≡ objects.old) }
-        ensures kept { OnErr result (self.new ≡ self.old) }
+        ensures copies { KeepsCopies S.content S.is_of objects.old objects.new }
+        ensures refused { IfErr result (λ e.
+            ((e ≡ Refusal.RegionFull)
+            × (fits_in objects.old.memory.state (length form.now) ≡ false))
+            ⊎ (e ≡ Refusal.NoMemory)) }
+        ensures err { OnErr result ((self.new ≡ self.old) × (objects.new ≡ objects.old)) }
     {
         let name = Name {
             column: self.column,
@@ -122,14 +125,14 @@ impl TextColumn {
         requires begun { begins_group self.old ≡ false }
         requires is { IsTextColumn (lists_of S.content objects.old) self.old }
         requires some { 0 < length form.now }
-        ensures pushed { OnOk result (self.new ≡ after_push self.old (length objects.old.records)) }
-        ensures replaced { OnOk result (objects.new ≡ after_replace objects.old (last_object self.old) form.now) }
-        ensures list { OnOk result (ChangesList (lists_of S.content objects.old) (lists_of S.content objects.new) (last_object self.old) (Some form.now)) }
-        ensures clean { AreClean (λ bytes. bytes) S.content objects.old → AreClean (λ bytes. bytes) S.content objects.new }
-        ensures store { (id : List ℕ) → AreHere S.is_of id objects.old → AreHere S.is_of id objects.new }
-        ensures refused { IfErr result (λ e. (replace_refusal objects.old (last_object self.old) (length form.now) ≡ Some e) ⊎ ((replace_refusal objects.old (last_object self.old) (length form.now) ≡ None) × (e ≡ Refusal.NoMemory))) }
-        ensures err { OnErr result (objects.new ≡ objects.old) }
-        ensures kept { OnErr result (self.new ≡ self.old) }
+        ensures extended { OnOk result
+            (GroupExtended S.content objects.old self.old form.now objects.new self.new) }
+        ensures copies { KeepsCopies S.content S.is_of objects.old objects.new }
+        ensures refused { IfErr result (λ e.
+            (replace_refusal objects.old (last_object self.old) (length form.now) ≡ Some e)
+            ⊎ ((replace_refusal objects.old (last_object self.old) (length form.now) ≡ None)
+            × (e ≡ Refusal.NoMemory))) }
+        ensures err { OnErr result ((self.new ≡ self.old) × (objects.new ≡ objects.old)) }
     {
         let o = self.object_in_use(objects, self.objects.len() - 1);
         objects.replace(o, form)?;
@@ -158,17 +161,17 @@ impl TextColumn {
     ) -> Result<(), Refusal>
         requires is { IsTextColumn (lists_of S.content objects.old) self.old }
         requires few { begins_group self.old ≡ true → length objects.old.records < 2 ^ 28 }
-        ensures pushed { OnOk result (self.new ≡ after_push self.old (length objects.old.records)) }
-        ensures moved { OnOk result (objects.new ≡ objects_after_push S.content objects.old self.old text.now) }
-        ensures list { OnOk result (ChangesList (lists_of S.content objects.old) (lists_of S.content objects.new) (next_object S.content objects.old self.old) (Some (texts_form (group_with_next (lists_of S.content objects.old) self.old text.now)))) }
-        ensures is { IsTextColumn (lists_of S.content objects.new) self.new }
-        ensures texts { OnOk result (texts_in (lists_of S.content objects.new) self.new ≡ texts_in (lists_of S.content objects.old) self.old ++ text.now ∷ []) }
-        ensures others { KeepsOthers (lists_of S.content objects.old) (lists_of S.content objects.new) self.old }
-        ensures disjoint { (d : Texts) → IsTextColumn (lists_of S.content objects.old) d → AreDisjoint self.old d → AreDisjoint self.new d }
-        ensures clean { AreClean (λ bytes. bytes) S.content objects.old → AreClean (λ bytes. bytes) S.content objects.new }
-        ensures store { (id : List ℕ) → AreHere S.is_of id objects.old → AreHere S.is_of id objects.new }
-        ensures free { OnOk result (push_refusal S.content objects.old self.old text.now ≡ None) }
-        ensures refused { IfErr result (λ e. (push_refusal S.content objects.old self.old text.now ≡ Some e) ⊎ ((push_refusal S.content objects.old self.old text.now ≡ None) × (e ≡ Refusal.NoMemory))) }
+        ensures pushed { OnOk result
+            (TextPushed S.content objects.old self.old text.now objects.new self.new) }
+        ensures changes { ChangesColumn
+            (lists_of S.content objects.old) (lists_of S.content objects.new) self.old self.new }
+        ensures copies { KeepsCopies S.content S.is_of objects.old objects.new }
+        ensures free { OnOk result
+            (push_refusal S.content objects.old self.old text.now ≡ None) }
+        ensures refused { IfErr result (λ e.
+            (push_refusal S.content objects.old self.old text.now ≡ Some e)
+            ⊎ ((push_refusal S.content objects.old self.old text.now ≡ None)
+            × (e ≡ Refusal.NoMemory))) }
         ensures err { OnErr result ((self.new ≡ self.old) × (objects.new ≡ objects.old)) }
     {
         self.may_push(objects, text)?;

@@ -33,9 +33,11 @@ impl TextColumn {
     ) -> Result<&'a [u8], Refusal>
         requires begun { group < length self.now.objects }
         requires is { IsTextColumn (lists_of S.content objects.now) self.now }
-        ensures lent { IfOk result (λ form. lists_of S.content objects.now (slice_index self.now.objects group) ≡ Some form.now) }
+        ensures lent { IfOk result (λ form. lists_of S.content objects.now
+            (slice_index self.now.objects group) ≡ Some form.now) }
         ensures form { IfOk result (λ form. IsGroupForm self.now group form.now) }
-        ensures refused { refusal_in result ≡ lend_refusal objects.now (slice_index self.now.objects group) }
+        ensures refused { refusal_in result
+            ≡ lend_refusal objects.now (slice_index self.now.objects group) }
     {
         let o = self.object_in_use(objects, group);
         objects.lend(o)
@@ -66,7 +68,9 @@ impl TextColumn {
         place: usize,
     ) -> Result<Option<&'a str>, Refusal>
         requires { IsTextColumn (lists_of S.content objects.now) self.now }
-        ensures text { IfOk result (λ text. slice_get (texts_in (lists_of S.content objects.now) self.now) place ≡ Some (option_copied text)) }
+        ensures text { IfOk result (λ text.
+            slice_get (texts_in (lists_of S.content objects.now) self.now) place
+            ≡ Some (option_copied text)) }
         ensures refused { refusal_in result ≡ text_refusal S.content objects.now self.now place }
     {
         if place >= self.len {

@@ -1,12 +1,11 @@
 // Setting a text of a column.
-ghost use Rattle.std.specs.Prelude.{◌≡◌, ◌⊎◌, ◌<◌, ℕ, List, length, None, Some, OnOk, OnErr, IfOk, IfErr, slice_set};
+ghost use Rattle.std.specs.Prelude.{◌≡◌, ◌⊎◌, length, None, Some, OnOk, OnErr, IfOk, IfErr};
 ghost use Rattle.far_types.specs.FormLengths.{texts_length};
-ghost use Rattle.far_codec.specs.TextForm.{texts_form, texts_meaning, IsTextsForm};
-ghost use Rattle.far_scopes.specs.Memory.{ChangesList};
-ghost use Rattle.far_scopes.specs.Movement.{AreClean, AreHere};
+ghost use Rattle.far_codec.specs.TextForm.{texts_meaning, IsTextsForm};
 ghost use Rattle.far_scopes.specs.Refusing.{refusal_in};
-ghost use Rattle.far_texts.specs.Texts.{lists_of, texts_in, object_at, IsTextColumn, KeepsOthers};
-ghost use Rattle.far_texts.specs.Effects.{group_with, set_in};
+ghost use Rattle.far_texts.specs.Texts.{lists_of, IsTextColumn};
+ghost use Rattle.far_texts.specs.Columns.{ChangesColumn, KeepsCopies};
+ghost use Rattle.far_texts.specs.Effects.{group_with, TextSet};
 ghost use Rattle.far_texts.specs.Refusing.{set_refusal};
 
 use super::TextColumn;
@@ -60,8 +59,10 @@ impl TextColumn {
         requires is { IsTextColumn (lists_of S.content objects.now) self.now }
         requires free { set_refusal S.content objects.now self.now place text.now ≡ None }
         ensures form { IfOk result (λ form. IsTextsForm form.items) }
-        ensures texts { IfOk result (λ form. texts_meaning form.items ≡ group_with (lists_of S.content objects.now) self.now place text.now) }
-        ensures length { IfOk result (λ form. length form.items ≡ texts_length (group_with (lists_of S.content objects.now) self.now place text.now)) }
+        ensures texts { IfOk result (λ form. texts_meaning form.items
+            ≡ group_with (lists_of S.content objects.now) self.now place text.now) }
+        ensures length { IfOk result (λ form. length form.items
+            ≡ texts_length (group_with (lists_of S.content objects.now) self.now place text.now)) }
         ensures memory { IfErr result (λ e. e ≡ Refusal.NoMemory) }
     {
         let form = self.form(objects, place / self.size)?;
@@ -90,15 +91,17 @@ impl TextColumn {
         text: &Option<Text>,
     ) -> Result<(), Refusal>
         requires { IsTextColumn (lists_of S.content objects.old) self.now }
-        ensures set { OnOk result (objects.new ≡ set_in S.content objects.old self.now place text.now) }
-        ensures list { OnOk result (ChangesList (lists_of S.content objects.old) (lists_of S.content objects.new) (object_at self.now place) (Some (texts_form (group_with (lists_of S.content objects.old) self.now place text.now)))) }
-        ensures is { IsTextColumn (lists_of S.content objects.new) self.now }
-        ensures texts { OnOk result (texts_in (lists_of S.content objects.new) self.now ≡ slice_set (texts_in (lists_of S.content objects.old) self.now) place text.now) }
-        ensures others { KeepsOthers (lists_of S.content objects.old) (lists_of S.content objects.new) self.now }
-        ensures clean { AreClean (λ bytes. bytes) S.content objects.old → AreClean (λ bytes. bytes) S.content objects.new }
-        ensures store { (id : List ℕ) → AreHere S.is_of id objects.old → AreHere S.is_of id objects.new }
-        ensures free { OnOk result (set_refusal S.content objects.old self.now place text.now ≡ None) }
-        ensures refused { IfErr result (λ e. (set_refusal S.content objects.old self.now place text.now ≡ Some e) ⊎ ((set_refusal S.content objects.old self.now place text.now ≡ None) × (e ≡ Refusal.NoMemory))) }
+        ensures set { OnOk result
+            (TextSet S.content objects.old self.now place text.now objects.new) }
+        ensures changes { ChangesColumn
+            (lists_of S.content objects.old) (lists_of S.content objects.new) self.now self.now }
+        ensures copies { KeepsCopies S.content S.is_of objects.old objects.new }
+        ensures free { OnOk result
+            (set_refusal S.content objects.old self.now place text.now ≡ None) }
+        ensures refused { IfErr result (λ e.
+            (set_refusal S.content objects.old self.now place text.now ≡ Some e)
+            ⊎ ((set_refusal S.content objects.old self.now place text.now ≡ None)
+            × (e ≡ Refusal.NoMemory))) }
         ensures err { OnErr result (objects.new ≡ objects.old) }
     {
         self.may_set(objects, place, text)?;
@@ -118,13 +121,11 @@ impl TextColumn {
     ) -> Result<(), Refusal>
         requires is { IsTextColumn (lists_of S.content objects.old) self.now }
         requires free { set_refusal S.content objects.old self.now place text.now ≡ None }
-        ensures set { OnOk result (objects.new ≡ set_in S.content objects.old self.now place text.now) }
-        ensures list { OnOk result (ChangesList (lists_of S.content objects.old) (lists_of S.content objects.new) (object_at self.now place) (Some (texts_form (group_with (lists_of S.content objects.old) self.now place text.now)))) }
-        ensures is { IsTextColumn (lists_of S.content objects.new) self.now }
-        ensures texts { OnOk result (texts_in (lists_of S.content objects.new) self.now ≡ slice_set (texts_in (lists_of S.content objects.old) self.now) place text.now) }
-        ensures others { KeepsOthers (lists_of S.content objects.old) (lists_of S.content objects.new) self.now }
-        ensures clean { AreClean (λ bytes. bytes) S.content objects.old → AreClean (λ bytes. bytes) S.content objects.new }
-        ensures store { (id : List ℕ) → AreHere S.is_of id objects.old → AreHere S.is_of id objects.new }
+        ensures set { OnOk result
+            (TextSet S.content objects.old self.now place text.now objects.new) }
+        ensures changes { ChangesColumn
+            (lists_of S.content objects.old) (lists_of S.content objects.new) self.now self.now }
+        ensures copies { KeepsCopies S.content S.is_of objects.old objects.new }
         ensures memory { IfErr result (λ e. e ≡ Refusal.NoMemory) }
         ensures err { OnErr result (objects.new ≡ objects.old) }
     {

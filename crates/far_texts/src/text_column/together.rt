@@ -1,10 +1,9 @@
 // Appends a text to each of several columns, all or none.
-ghost use Rattle.std.specs.Prelude.{◌≡◌, if◌then◌else◌, ◌⊎◌, ◌<◌, ◌≤◌, ◌+◌, ◌^◌, ◌∷◌, ℕ, List, [], length, map, true, false, None, Some, All, OnOk, IfErr, OnErr};
-ghost use Rattle.far_types.specs.FirstOf.{first_of};
-ghost use Rattle.far_scopes.specs.Movement.{AreClean, AreHere};
-ghost use Rattle.far_texts.specs.Texts.{Texts, IsTextColumn, AreDisjoint, lists_of, texts_in};
-ghost use Rattle.far_texts.specs.Together.{AreColumns, all_begin, next_forms, after_push_all, all_texts_with, ChangesTo, KeepsColumns, after_create_all, AreReplaced};
-ghost use Rattle.far_texts.specs.RefusingTogether.{first_tests, push_texts_refusal};
+ghost use Rattle.std.specs.Prelude.{◌≡◌, ◌≤◌, ◌+◌, ◌^◌, length, true, None, OnOk, IfErr, OnErr};
+ghost use Rattle.far_texts.specs.Texts.{lists_of};
+ghost use Rattle.far_texts.specs.Together.{AreColumns, all_begin};
+ghost use Rattle.far_texts.specs.RefusingTogether.{push_texts_refusal, MayReturn};
+ghost use Rattle.far_texts.specs.Appending.{TextsPushed, ChangesColumns};
 
 mod asking;
 mod checking;
@@ -49,20 +48,15 @@ pub fn push_texts<S: FarTickets>(
 ) -> Result<(), Refusal>
     requires are { AreColumns (lists_of S.content objects.old) columns.old }
     requires same_length { length texts.now ≡ length columns.old }
-    requires few { all_begin columns.old ≡ true → length objects.old.records + length columns.old ≤ 2 ^ 28 }
-    ensures pushed { OnOk result (columns.new ≡ after_push_all (length objects.old.records) columns.old) }
-    ensures begun { OnOk result (all_begin columns.old ≡ true → objects.new ≡ after_create_all objects.old columns.old (next_forms (lists_of S.content objects.old) (length objects.old.records) columns.old texts.now)) }
-    ensures replaced { OnOk result (all_begin columns.old ≡ false → AreReplaced objects.old (next_forms (lists_of S.content objects.old) (length objects.old.records) columns.old texts.now) objects.new) }
-    ensures count { OnOk result (length objects.new.records ≡ length objects.old.records + (if all_begin columns.old then length columns.old else 0)) }
-    ensures lists { OnOk result (ChangesTo (lists_of S.content objects.old) (lists_of S.content objects.new) (next_forms (lists_of S.content objects.old) (length objects.old.records) columns.old texts.now)) }
-    ensures are { AreColumns (lists_of S.content objects.new) columns.new }
-    ensures texts { OnOk result (map (texts_in (lists_of S.content objects.new)) columns.new ≡ all_texts_with (lists_of S.content objects.old) columns.old texts.now) }
-    ensures others { KeepsColumns (lists_of S.content objects.old) (lists_of S.content objects.new) columns.old }
-    ensures disjoint { (d : Texts) → IsTextColumn (lists_of S.content objects.old) d → All (λ c. AreDisjoint c d) columns.old → All (λ c. AreDisjoint c d) columns.new }
-    ensures clean { AreClean (λ bytes. bytes) S.content objects.old → AreClean (λ bytes. bytes) S.content objects.new }
-    ensures store { (id : List ℕ) → AreHere S.is_of id objects.old → AreHere S.is_of id objects.new }
-    ensures free { OnOk result (push_texts_refusal S.content objects.old columns.old texts.now ≡ None) }
-    ensures refused { IfErr result (λ e. (push_texts_refusal S.content objects.old columns.old texts.now ≡ Some e) ⊎ ((first_of (first_tests S.content objects.old columns.old texts.now) ≡ None) × (e ≡ Refusal.NoMemory))) }
+    requires few { all_begin columns.old ≡ true
+        → length objects.old.records + length columns.old ≤ 2 ^ 28 }
+    ensures pushed { OnOk result
+        (TextsPushed S.content objects.old columns.old texts.now objects.new columns.new) }
+    ensures changes { ChangesColumns S.content objects.old columns.old
+        S.is_of objects.new columns.new }
+    ensures free { OnOk result
+        (push_texts_refusal S.content objects.old columns.old texts.now ≡ None) }
+    ensures refused { IfErr result (MayReturn S.content objects.old columns.old texts.now) }
     ensures err { OnErr result ((columns.new ≡ columns.old) × (objects.new ≡ objects.old)) }
 {
     may_make_forms(objects, columns, texts)?;
@@ -82,19 +76,13 @@ pub fn fill_texts<S: FarTickets>(
 ) -> Result<(), Refusal>
     requires are { AreColumns (lists_of S.content objects.old) columns.old }
     requires same_length { length texts.now ≡ length columns.old }
-    requires few { all_begin columns.old ≡ true → length objects.old.records + length columns.old ≤ 2 ^ 28 }
+    requires few { all_begin columns.old ≡ true
+        → length objects.old.records + length columns.old ≤ 2 ^ 28 }
     requires free { push_texts_refusal S.content objects.old columns.old texts.now ≡ None }
-    ensures pushed { OnOk result (columns.new ≡ after_push_all (length objects.old.records) columns.old) }
-    ensures begun { OnOk result (all_begin columns.old ≡ true → objects.new ≡ after_create_all objects.old columns.old (next_forms (lists_of S.content objects.old) (length objects.old.records) columns.old texts.now)) }
-    ensures replaced { OnOk result (all_begin columns.old ≡ false → AreReplaced objects.old (next_forms (lists_of S.content objects.old) (length objects.old.records) columns.old texts.now) objects.new) }
-    ensures count { OnOk result (length objects.new.records ≡ length objects.old.records + (if all_begin columns.old then length columns.old else 0)) }
-    ensures lists { OnOk result (ChangesTo (lists_of S.content objects.old) (lists_of S.content objects.new) (next_forms (lists_of S.content objects.old) (length objects.old.records) columns.old texts.now)) }
-    ensures are { AreColumns (lists_of S.content objects.new) columns.new }
-    ensures texts { OnOk result (map (texts_in (lists_of S.content objects.new)) columns.new ≡ all_texts_with (lists_of S.content objects.old) columns.old texts.now) }
-    ensures others { KeepsColumns (lists_of S.content objects.old) (lists_of S.content objects.new) columns.old }
-    ensures disjoint { (d : Texts) → IsTextColumn (lists_of S.content objects.old) d → All (λ c. AreDisjoint c d) columns.old → All (λ c. AreDisjoint c d) columns.new }
-    ensures clean { AreClean (λ bytes. bytes) S.content objects.old → AreClean (λ bytes. bytes) S.content objects.new }
-    ensures store { (id : List ℕ) → AreHere S.is_of id objects.old → AreHere S.is_of id objects.new }
+    ensures pushed { OnOk result
+        (TextsPushed S.content objects.old columns.old texts.now objects.new columns.new) }
+    ensures changes { ChangesColumns S.content objects.old columns.old
+        S.is_of objects.new columns.new }
     ensures memory { IfErr result (λ e. e ≡ Refusal.NoMemory) }
     ensures err { OnErr result ((columns.new ≡ columns.old) × (objects.new ≡ objects.old)) }
 {

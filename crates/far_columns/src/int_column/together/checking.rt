@@ -2,9 +2,9 @@
 ghost use Rattle.std.specs.Prelude.{◌≡◌, ◌≤◌, ◌∷◌, [], length, false, None, All, OnOk};
 ghost use Rattle.far_types.specs.FirstOf.{first_of};
 ghost use Rattle.far_scopes.specs.Refusing.{refusal_in};
-ghost use Rattle.far_vector.specs.Vector.{IsShaped, IsVector};
-ghost use Rattle.far_vector.specs.Effects.{is_full};
-ghost use Rattle.far_vector.specs.Refusing.{push_refusal};
+ghost use Rattle.far_columns.specs.Vector.{IsShaped, IsVector};
+ghost use Rattle.far_columns.specs.Effects.{is_full};
+ghost use Rattle.far_columns.specs.Refusing.{push_refusal};
 ghost use Rattle.far_columns.specs.Numbers.{number_lists};
 ghost use Rattle.far_columns.specs.NumbersTogether.{all_begin, absents, some_written_out, no_space_for_groups};
 

@@ -1,13 +1,12 @@
 // Appends numbers to several columns within row groups that have been begun.
-ghost use Rattle.std.specs.Prelude.{◌≡◌, ℕ, List, length, map, false, None, All};
-ghost use Rattle.far_codec.specs.Reading.{ints_meaning};
-ghost use Rattle.far_scopes.specs.Movement.{AreClean, AreHere};
-ghost use Rattle.far_vector.specs.Vector.{IsShaped};
-ghost use Rattle.far_vector.specs.Vectors.{AreVectors};
-ghost use Rattle.far_vector.specs.Effects.{is_full};
-ghost use Rattle.far_vector.specs.Refusing.{push_refusal};
+ghost use Rattle.std.specs.Prelude.{◌≡◌, ℕ, length, map, false, None, All};
+ghost use Rattle.far_columns.specs.Vector.{IsShaped};
+ghost use Rattle.far_columns.specs.Vectors.{AreVectors};
+ghost use Rattle.far_columns.specs.Effects.{is_full};
+ghost use Rattle.far_columns.specs.Refusing.{push_refusal};
 ghost use Rattle.far_columns.specs.Numbers.{number_lists, numbers_in};
-ghost use Rattle.far_columns.specs.NumbersTogether.{after_push_all, all_numbers_with, KeepsNumbers, objects_after_push_all};
+ghost use Rattle.far_columns.specs.NumbersTogether.{after_push_all, all_numbers_with, objects_after_push_all};
+ghost use Rattle.far_columns.specs.NumbersChanges.{ChangesNumbers};
 
 use crate::int_column::IntColumn;
 use far_scopes::Objects;
@@ -26,12 +25,12 @@ pub(super) fn fill_places<S: FarTickets>(
     requires shaped { All IsShaped columns.old }
     ensures pushed { (n : ℕ) → columns.new ≡ after_push_all n columns.old }
     ensures moved { objects.new ≡ objects_after_push_all objects.old columns.old numbers.now }
-    ensures numbers { map (numbers_in S.content objects.new) columns.new ≡ all_numbers_with (number_lists S.content objects.old) columns.old numbers.now }
+    ensures numbers { map (numbers_in S.content objects.new) columns.new
+        ≡ all_numbers_with (number_lists S.content objects.old) columns.old numbers.now }
     ensures count { length objects.new.records ≡ length objects.old.records }
     ensures all_disjoint { AreVectors (number_lists S.content objects.new) columns.new }
-    ensures others { KeepsNumbers (number_lists S.content objects.old) (number_lists S.content objects.new) columns.old columns.new }
-    ensures clean { AreClean ints_meaning S.content objects.old → AreClean ints_meaning S.content objects.new }
-    ensures store { (id : List ℕ) → AreHere S.is_of id objects.old → AreHere S.is_of id objects.new }
+    ensures keeps { ChangesNumbers S.content objects.old objects.new columns.old columns.new
+        S.is_of }
 {
     let Some((column, columns)) = columns.split_first_mut() else {
         return;

@@ -1,13 +1,11 @@
 // Begins row groups of several columns of numbers at once, and undoes that.
-ghost use Rattle.std.specs.Prelude.{◌≡◌, ◌⊎◌, ◌≤◌, ◌+◌, ◌-◌, ◌^◌, ℕ, List, length, map, take, true, false, All, OnOk, IfErr, OnErr};
+ghost use Rattle.std.specs.Prelude.{◌≡◌, ◌⊎◌, ◌≤◌, ◌+◌, ◌-◌, ◌^◌, length, map, take, true, false, All, OnOk, IfErr, OnErr};
 ghost use Rattle.far_log.specs.RegionState.{spaces_of, fit_in_order};
-ghost use Rattle.far_codec.specs.Reading.{ints_meaning};
-ghost use Rattle.far_scopes.specs.Movement.{AreClean, AreHere};
-ghost use Rattle.far_vector.specs.Vectors.{AreVectors};
-ghost use Rattle.far_vector.specs.Effects.{is_full, after_unpush};
+ghost use Rattle.far_columns.specs.Vectors.{AreVectors};
+ghost use Rattle.far_columns.specs.Effects.{is_full, after_unpush};
 ghost use Rattle.far_columns.specs.Numbers.{number_lists, numbers_in};
-ghost use Rattle.far_columns.specs.NumbersTogether.{after_push_all, all_numbers_with, KeepsNumbers, objects_after_push_all};
 ghost use Rattle.far_columns.specs.NumbersUndo.{KeepsBelow, AreBegunFrom, AreBegunLast, after_uncreate_all};
+ghost use Rattle.far_columns.specs.NumbersChanges.{NumbersPushed, ChangesNumbers};
 
 use crate::int_column::IntColumn;
 use far_scopes::Objects;
@@ -24,19 +22,20 @@ pub(super) fn begin_groups<S: FarTickets>(
     requires all_disjoint { AreVectors (number_lists S.content objects.old) columns.old }
     requires same_length { length numbers.now ≡ length columns.old }
     requires few { length objects.old.records + length columns.old ≤ 2 ^ 28 }
-    ensures pushed { OnOk result (columns.new ≡ after_push_all (length objects.old.records) columns.old) }
-    ensures moved { OnOk result (objects.new ≡ objects_after_push_all objects.old columns.old numbers.now) }
-    ensures numbers { OnOk result (map (numbers_in S.content objects.new) columns.new ≡ all_numbers_with (number_lists S.content objects.old) columns.old numbers.now) }
-    ensures all_disjoint { OnOk result (AreVectors (number_lists S.content objects.new) columns.new) }
-    ensures begun { OnOk result (AreBegunFrom objects.new (length objects.old.records) columns.new) }
+    ensures pushed { OnOk result
+        (NumbersPushed S.content objects.old objects.new columns.old columns.new numbers.now) }
+    ensures all_disjoint { OnOk result
+        (AreVectors (number_lists S.content objects.new) columns.new) }
+    ensures begun { OnOk result
+        (AreBegunFrom objects.new (length objects.old.records) columns.new) }
     ensures below { OnOk result (KeepsBelow (length objects.old.records) objects.old objects.new) }
-    ensures undone { OnOk result ((map after_unpush columns.new ≡ columns.old) × (after_uncreate_all (length columns.old) objects.new ≡ objects.old)) }
-    ensures count { OnOk result (length objects.new.records ≡ length objects.old.records + length columns.old) }
-    ensures others { OnOk result (KeepsNumbers (number_lists S.content objects.old) (number_lists S.content objects.new) columns.old columns.new) }
-    ensures clean { OnOk result (AreClean ints_meaning S.content objects.old → AreClean ints_meaning S.content objects.new) }
-    ensures store { OnOk result ((id : List ℕ) → AreHere S.is_of id objects.old → AreHere S.is_of id objects.new) }
-    ensures space { OnOk result (fit_in_order (spaces_of objects.old.memory.state) (map (λ c. c.size) columns.old) ≡ true) }
-    ensures refused { IfErr result (λ e. ((e ≡ Refusal.RegionFull) × (fit_in_order (spaces_of objects.old.memory.state) (map (λ c. c.size) columns.old) ≡ false)) ⊎ (e ≡ Refusal.NoMemory)) }
+    ensures keeps { OnOk result
+        (ChangesNumbers S.content objects.old objects.new columns.old columns.new S.is_of) }
+    ensures refused { IfErr result
+        (λ e. ((e ≡ Refusal.RegionFull)
+        × (fit_in_order (spaces_of objects.old.memory.state) (map (λ c. c.size) columns.old)
+        ≡ false))
+        ⊎ (e ≡ Refusal.NoMemory)) }
     ensures err { OnErr result ((columns.new ≡ columns.old) × (objects.new ≡ objects.old)) }
 {
     let Some((column, columns)) = columns.split_first_mut() else {
@@ -65,12 +64,12 @@ pub(super) fn unbegin_groups<S: FarTickets>(
     requires begun { AreBegunLast objects.old columns.old }
     ensures unpushed { columns.new ≡ map after_unpush columns.old }
     ensures uncreated { objects.new ≡ after_uncreate_all (length columns.old) objects.old }
-    ensures numbers { map (numbers_in S.content objects.new) columns.new ≡ map (λ c. take (c.len - 1) (numbers_in S.content objects.old c)) columns.old }
+    ensures numbers { map (numbers_in S.content objects.new) columns.new
+        ≡ map (λ c. take (c.len - 1) (numbers_in S.content objects.old c)) columns.old }
     ensures below { KeepsBelow (length objects.new.records) objects.old objects.new }
     ensures all_disjoint { AreVectors (number_lists S.content objects.new) columns.new }
-    ensures others { KeepsNumbers (number_lists S.content objects.old) (number_lists S.content objects.new) columns.old columns.new }
-    ensures clean { AreClean ints_meaning S.content objects.old → AreClean ints_meaning S.content objects.new }
-    ensures store { (id : List ℕ) → AreHere S.is_of id objects.old → AreHere S.is_of id objects.new }
+    ensures keeps { ChangesNumbers S.content objects.old objects.new columns.old columns.new
+        S.is_of }
 {
     let Some((first, others)) = columns.split_first_mut() else {
         return;

@@ -26,8 +26,12 @@ fn next_lens<S: FarTickets>(
     requires same_length { length texts.now ≡ length columns.now }
     requires few { length columns.now ≤ 16 }
     requires here { All (λ c. next_length_refusal S.content objects.now c ≡ None) columns.now }
-    ensures lens { IfOk result (λ lens. (n : ℕ) → take (length columns.now) lens ≡ map (λ form. length form.1) (next_forms (lists_of S.content objects.now) n columns.now texts.now)) }
-    ensures refused { refusal_in result ≡ first_of (any_full (lists_of S.content objects.now) columns.now texts.now ∷ []) }
+    ensures lens { IfOk result (λ lens. (n : ℕ)
+        → take (length columns.now) lens
+        ≡ map (λ form. length form.1)
+        (next_forms (lists_of S.content objects.now) n columns.now texts.now)) }
+    ensures refused { refusal_in result
+        ≡ first_of (any_full (lists_of S.content objects.now) columns.now texts.now ∷ []) }
 {
     let mut lens = [0; 16];
     for k in 0..columns.len() {
@@ -61,7 +65,11 @@ fn all_writable<S: FarTickets>(
     requires each { All (IsTextColumn (lists_of S.content objects.now)) columns.now }
     requires begun { All (λ c. begins_group c ≡ false) columns.now }
     requires here { All (λ c. next_length_refusal S.content objects.now c ≡ None) columns.now }
-    ensures { refusal_in result ≡ first_of ((list_any (λ c. (written_out objects.now (last_object c)).0) columns.now, Refusal.EditsUsedUp) ∷ []) }
+    ensures { refusal_in result
+        ≡ first_of ((
+          list_any (λ c. (written_out objects.now (last_object c)).0) columns.now,
+          Refusal.EditsUsedUp,
+        ) ∷ []) }
 {
     for column in columns {
         column.last_is_writable(objects)?;
@@ -80,7 +88,9 @@ fn may_place_forms<S: FarTickets>(
     requires same_length { length texts.now ≡ length columns.now }
     requires few { length columns.now ≤ 16 }
     requires here { All (λ c. next_length_refusal S.content objects.now c ≡ None) columns.now }
-    ensures { refusal_in result ≡ first_of (any_full (lists_of S.content objects.now) columns.now texts.now ∷ last_tests S.content objects.now columns.now texts.now) }
+    ensures { refusal_in result
+        ≡ first_of (any_full (lists_of S.content objects.now) columns.now texts.now
+        ∷ last_tests S.content objects.now columns.now texts.now) }
 {
     all_have_groups(columns);
     let lens = next_lens(objects, columns, texts)?;

@@ -68,7 +68,8 @@ fn none_full<S: FarTickets>(
     requires each { All (IsTextColumn (lists_of S.content objects.now)) columns.now }
     requires same_length { length texts.now ≡ length columns.now }
     requires here { All (λ c. next_length_refusal S.content objects.now c ≡ None) columns.now }
-    ensures { refusal_in result ≡ first_of (any_full (lists_of S.content objects.now) columns.now texts.now ∷ []) }
+    ensures { refusal_in result
+        ≡ first_of (any_full (lists_of S.content objects.now) columns.now texts.now ∷ []) }
 {
     for k in 0..columns.len() {
         let column = &columns[k];
@@ -88,8 +89,11 @@ pub(super) fn may_measure_forms<S: FarTickets>(
     texts: &[Option<Text>],
 ) -> Result<(), Refusal>
     requires { AreColumns (lists_of S.content objects.now) columns.now }
-    ensures refused { refusal_in result ≡ first_of (any_too_long texts.now ∷ (if all_begin columns.now then [] else absents objects.now columns.now)) }
-    ensures here { OnOk result (All (λ c. next_length_refusal S.content objects.now c ≡ None) columns.now) }
+    ensures refused { refusal_in result
+        ≡ first_of (any_too_long texts.now
+        ∷ (if all_begin columns.now then [] else absents objects.now columns.now)) }
+    ensures here { OnOk result
+        (All (λ c. next_length_refusal S.content objects.now c ≡ None) columns.now) }
 {
     all_short(texts)?;
     all_have_groups(columns);
@@ -107,7 +111,8 @@ pub(super) fn may_make_forms<S: FarTickets>(
 ) -> Result<(), Refusal>
     requires are { AreColumns (lists_of S.content objects.now) columns.now }
     requires same_length { length texts.now ≡ length columns.now }
-    ensures { refusal_in result ≡ first_of (first_tests S.content objects.now columns.now texts.now) }
+    ensures { refusal_in result
+        ≡ first_of (first_tests S.content objects.now columns.now texts.now) }
 {
     may_measure_forms(objects, columns, texts)?;
     none_full(objects, columns, texts)

@@ -21,7 +21,8 @@ pub(super) fn next_objects_are_unused<S: FarTickets>(
     requires { All (IsTextColumn (lists_of S.content objects.now)) columns.now }
     ensures objects { All (λ c. length c.objects ≤ length objects.now.records) columns.now }
     ensures groups { All HasGroups columns.now }
-    ensures fresh { (p : ℕ) → length objects.now.records ≤ p → lists_of S.content objects.now p ≡ None }
+    ensures fresh { (p : ℕ) → length objects.now.records ≤ p
+        → lists_of S.content objects.now p ≡ None }
 {
     let _number = objects.number();
     for column in columns {
@@ -54,11 +55,16 @@ pub(super) fn next_form<S: FarTickets>(
     requires each { All (IsTextColumn (lists_of S.content objects.now)) columns.now }
     requires same_length { length texts.now ≡ length columns.now }
     requires one { length columns.now ≡ 1 }
-    requires few { All (λ c. begins_group c ≡ true → length objects.now.records + length columns.now ≤ 2 ^ 28) columns.now }
+    requires few { All (λ c. begins_group c ≡ true
+        → length objects.now.records + length columns.now ≤ 2 ^ 28) columns.now }
     requires here { All (λ c. next_length_refusal S.content objects.now c ≡ None) columns.now }
-    requires short { first_of (any_full (lists_of S.content objects.now) columns.now texts.now ∷ []) ≡ None }
-    ensures form { IfOk result (λ form. forms_of (form ∷ []) ≡ next_forms (lists_of S.content objects.now) (length objects.now.records) columns.now texts.now) }
-    ensures valid { IfOk result (λ form. AreNextForms (lists_of S.content objects.now) columns.now texts.now) }
+    requires short { first_of
+        (any_full (lists_of S.content objects.now) columns.now texts.now ∷ []) ≡ None }
+    ensures form { IfOk result (λ form. forms_of (form ∷ [])
+        ≡ next_forms (lists_of S.content objects.now) (length objects.now.records)
+        columns.now texts.now) }
+    ensures valid { IfOk result (λ form.
+        AreNextForms (lists_of S.content objects.now) columns.now texts.now) }
     ensures memory { IfErr result (λ e. e ≡ Refusal.NoMemory) }
 {
     let column = &columns[0];
@@ -76,11 +82,16 @@ pub(super) fn next_forms<S: FarTickets>(
 ) -> Result<Vec<Replacement<u8>>, Refusal>
     requires each { All (IsTextColumn (lists_of S.content objects.now)) columns.now }
     requires same_length { length texts.now ≡ length columns.now }
-    requires few { All (λ c. begins_group c ≡ true → length objects.now.records + length columns.now ≤ 2 ^ 28) columns.now }
+    requires few { All (λ c. begins_group c ≡ true
+        → length objects.now.records + length columns.now ≤ 2 ^ 28) columns.now }
     requires here { All (λ c. next_length_refusal S.content objects.now c ≡ None) columns.now }
-    requires short { first_of (any_full (lists_of S.content objects.now) columns.now texts.now ∷ []) ≡ None }
-    ensures forms { IfOk result (λ forms. forms_of forms.items ≡ next_forms (lists_of S.content objects.now) (length objects.now.records) columns.now texts.now) }
-    ensures valid { IfOk result (λ forms. AreNextForms (lists_of S.content objects.now) columns.now texts.now) }
+    requires short { first_of
+        (any_full (lists_of S.content objects.now) columns.now texts.now ∷ []) ≡ None }
+    ensures forms { IfOk result (λ forms. forms_of forms.items
+        ≡ next_forms (lists_of S.content objects.now) (length objects.now.records)
+        columns.now texts.now) }
+    ensures valid { IfOk result (λ forms.
+        AreNextForms (lists_of S.content objects.now) columns.now texts.now) }
     ensures memory { IfErr result (λ e. e ≡ Refusal.NoMemory) }
 {
     let count = objects.count();

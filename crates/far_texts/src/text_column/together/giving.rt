@@ -1,11 +1,11 @@
 // Stores the new forms of several columns, all or none.
-ghost use Rattle.std.specs.Prelude.{◌≡◌, if◌then◌else◌, ◌⊎◌, ◌<◌, ◌≤◌, ◌+◌, ◌^◌, ◌∷◌, ℕ, List, [], length, map, true, false, None, Some, All, OnOk, IfErr, OnErr};
+ghost use Rattle.std.specs.Prelude.{◌≡◌, ◌≤◌, ◌+◌, ◌^◌, length, true, None, OnOk, IfErr, OnErr};
 ghost use Rattle.far_types.specs.FirstOf.{first_of};
-ghost use Rattle.far_scopes.specs.Movement.{AreClean, AreHere};
-ghost use Rattle.far_texts.specs.Texts.{Texts, HasGroups, IsTextColumn, AreDisjoint, lists_of, texts_in};
-ghost use Rattle.far_texts.specs.Refusing.{next_length_refusal};
-ghost use Rattle.far_texts.specs.Together.{AreColumns, AreNextForms, all_begin, next_forms, forms_of, after_push_all, all_texts_with, ChangesTo, KeepsColumns, after_create_all, AreReplaced};
-ghost use Rattle.far_texts.specs.RefusingTogether.{first_tests, push_texts_refusal};
+ghost use Rattle.far_texts.specs.Texts.{lists_of};
+ghost use Rattle.far_texts.specs.Together.{AreColumns, all_begin};
+ghost use Rattle.far_texts.specs.RefusingTogether.{first_tests, push_texts_refusal, MayReturn};
+ghost use Rattle.far_texts.specs.Appending.{TextsPushed, ChangesColumns};
+ghost use Rattle.far_texts.specs.Storing.{AreMade};
 
 use super::checking::all_begin;
 use super::forms::{next_form, next_forms, next_objects_are_unused};
@@ -25,29 +25,14 @@ pub(super) fn give_forms<S: FarTickets>(
     texts: &[Option<Text>],
     forms: &[Replacement<u8>],
 ) -> Result<(), Refusal>
-    requires are { AreColumns (lists_of S.content objects.old) columns.old }
-    requires same_length { length texts.now ≡ length columns.old }
-    requires few { all_begin columns.old ≡ true → length objects.old.records + length columns.old ≤ 2 ^ 28 }
-    requires objects { All (λ c. length c.objects ≤ length objects.old.records) columns.old }
-    requires groups { All HasGroups columns.old }
-    requires fresh { (p : ℕ) → length objects.old.records ≤ p → lists_of S.content objects.old p ≡ None }
-    requires here { All (λ c. next_length_refusal S.content objects.old c ≡ None) columns.old }
-    requires first { first_of (first_tests S.content objects.old columns.old texts.now) ≡ None }
-    requires forms { forms_of forms.now ≡ next_forms (lists_of S.content objects.old) (length objects.old.records) columns.old texts.now }
-    requires valid { AreNextForms (lists_of S.content objects.old) columns.old texts.now }
-    ensures pushed { OnOk result (columns.new ≡ after_push_all (length objects.old.records) columns.old) }
-    ensures begun { OnOk result (all_begin columns.old ≡ true → objects.new ≡ after_create_all objects.old columns.old (next_forms (lists_of S.content objects.old) (length objects.old.records) columns.old texts.now)) }
-    ensures replaced { OnOk result (all_begin columns.old ≡ false → AreReplaced objects.old (next_forms (lists_of S.content objects.old) (length objects.old.records) columns.old texts.now) objects.new) }
-    ensures count { OnOk result (length objects.new.records ≡ length objects.old.records + (if all_begin columns.old then length columns.old else 0)) }
-    ensures lists { OnOk result (ChangesTo (lists_of S.content objects.old) (lists_of S.content objects.new) (next_forms (lists_of S.content objects.old) (length objects.old.records) columns.old texts.now)) }
-    ensures are { AreColumns (lists_of S.content objects.new) columns.new }
-    ensures texts { OnOk result (map (texts_in (lists_of S.content objects.new)) columns.new ≡ all_texts_with (lists_of S.content objects.old) columns.old texts.now) }
-    ensures others { KeepsColumns (lists_of S.content objects.old) (lists_of S.content objects.new) columns.old }
-    ensures disjoint { (d : Texts) → IsTextColumn (lists_of S.content objects.old) d → All (λ c. AreDisjoint c d) columns.old → All (λ c. AreDisjoint c d) columns.new }
-    ensures clean { AreClean (λ bytes. bytes) S.content objects.old → AreClean (λ bytes. bytes) S.content objects.new }
-    ensures store { (id : List ℕ) → AreHere S.is_of id objects.old → AreHere S.is_of id objects.new }
-    ensures free { OnOk result (push_texts_refusal S.content objects.old columns.old texts.now ≡ None) }
-    ensures refused { IfErr result (λ e. (push_texts_refusal S.content objects.old columns.old texts.now ≡ Some e) ⊎ ((first_of (first_tests S.content objects.old columns.old texts.now) ≡ None) × (e ≡ Refusal.NoMemory))) }
+    requires made { AreMade S.content objects.old columns.old forms.now texts.now }
+    ensures pushed { OnOk result
+        (TextsPushed S.content objects.old columns.old texts.now objects.new columns.new) }
+    ensures changes { ChangesColumns S.content objects.old columns.old
+        S.is_of objects.new columns.new }
+    ensures free { OnOk result
+        (push_texts_refusal S.content objects.old columns.old texts.now ≡ None) }
+    ensures refused { IfErr result (MayReturn S.content objects.old columns.old texts.now) }
     ensures err { OnErr result ((columns.new ≡ columns.old) × (objects.new ≡ objects.old)) }
 {
     if all_begin(columns) {
@@ -68,21 +53,16 @@ pub(super) fn make_forms<S: FarTickets>(
 ) -> Result<(), Refusal>
     requires are { AreColumns (lists_of S.content objects.old) columns.old }
     requires same_length { length texts.now ≡ length columns.old }
-    requires few { all_begin columns.old ≡ true → length objects.old.records + length columns.old ≤ 2 ^ 28 }
+    requires few { all_begin columns.old ≡ true
+        → length objects.old.records + length columns.old ≤ 2 ^ 28 }
     requires first { first_of (first_tests S.content objects.old columns.old texts.now) ≡ None }
-    ensures pushed { OnOk result (columns.new ≡ after_push_all (length objects.old.records) columns.old) }
-    ensures begun { OnOk result (all_begin columns.old ≡ true → objects.new ≡ after_create_all objects.old columns.old (next_forms (lists_of S.content objects.old) (length objects.old.records) columns.old texts.now)) }
-    ensures replaced { OnOk result (all_begin columns.old ≡ false → AreReplaced objects.old (next_forms (lists_of S.content objects.old) (length objects.old.records) columns.old texts.now) objects.new) }
-    ensures count { OnOk result (length objects.new.records ≡ length objects.old.records + (if all_begin columns.old then length columns.old else 0)) }
-    ensures lists { OnOk result (ChangesTo (lists_of S.content objects.old) (lists_of S.content objects.new) (next_forms (lists_of S.content objects.old) (length objects.old.records) columns.old texts.now)) }
-    ensures are { AreColumns (lists_of S.content objects.new) columns.new }
-    ensures texts { OnOk result (map (texts_in (lists_of S.content objects.new)) columns.new ≡ all_texts_with (lists_of S.content objects.old) columns.old texts.now) }
-    ensures others { KeepsColumns (lists_of S.content objects.old) (lists_of S.content objects.new) columns.old }
-    ensures disjoint { (d : Texts) → IsTextColumn (lists_of S.content objects.old) d → All (λ c. AreDisjoint c d) columns.old → All (λ c. AreDisjoint c d) columns.new }
-    ensures clean { AreClean (λ bytes. bytes) S.content objects.old → AreClean (λ bytes. bytes) S.content objects.new }
-    ensures store { (id : List ℕ) → AreHere S.is_of id objects.old → AreHere S.is_of id objects.new }
-    ensures free { OnOk result (push_texts_refusal S.content objects.old columns.old texts.now ≡ None) }
-    ensures refused { IfErr result (λ e. (push_texts_refusal S.content objects.old columns.old texts.now ≡ Some e) ⊎ ((first_of (first_tests S.content objects.old columns.old texts.now) ≡ None) × (e ≡ Refusal.NoMemory))) }
+    ensures pushed { OnOk result
+        (TextsPushed S.content objects.old columns.old texts.now objects.new columns.new) }
+    ensures changes { ChangesColumns S.content objects.old columns.old
+        S.is_of objects.new columns.new }
+    ensures free { OnOk result
+        (push_texts_refusal S.content objects.old columns.old texts.now ≡ None) }
+    ensures refused { IfErr result (MayReturn S.content objects.old columns.old texts.now) }
     ensures err { OnErr result ((columns.new ≡ columns.old) × (objects.new ≡ objects.old)) }
 {
     next_objects_are_unused(objects, columns);

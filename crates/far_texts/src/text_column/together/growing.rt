@@ -1,15 +1,15 @@
 // Stores new forms in the objects of several columns.
-ghost use Rattle.std.specs.Prelude.{◌≡◌, ◌⊎◌, ◌<◌, ◌≤◌, ◌+◌, ◌^◌, ℕ, List, length, map, true, false, None, Some, All, OnOk, OnErr, IfErr};
+ghost use Rattle.std.specs.Prelude.{◌≡◌, ◌⊎◌, ◌<◌, ◌≤◌, ◌+◌, ◌^◌, ℕ, length, map, true, false, None, Some, All, OnOk, OnErr, IfErr};
 ghost use Rattle.std.specs.List.{slice_index_or};
-ghost use Rattle.far_log.specs.RegionState.{spaces_of, fit_in_order};
 ghost use Rattle.far_scopes.specs.declared.replacement.Replacement.{Replacement as Given};
-ghost use Rattle.far_scopes.specs.Movement.{AreClean, AreHere};
 ghost use Rattle.far_scopes.specs.Refusing.{replace_all_refusal, first_absent};
 ghost use Rattle.far_scopes.specs.Replacing.{AreListedOnce, ChangesLists};
 ghost use Rattle.far_scopes.specs.Effects.{after_replace_all};
 ghost use Rattle.far_texts.specs.Texts.{lists_of};
 ghost use Rattle.far_texts.specs.Effects.{begins_group};
-ghost use Rattle.far_texts.specs.Together.{after_push_all, ChangesTo, forms_of, after_create_all};
+ghost use Rattle.far_texts.specs.Columns.{KeepsCopies};
+ghost use Rattle.far_texts.specs.Together.{after_push_all};
+ghost use Rattle.far_texts.specs.Storing.{all_fit, GroupsBegun, GroupsExtended};
 
 use crate::text_column::TextColumn;
 use far_scopes::{Objects, Replacement};
@@ -27,17 +27,15 @@ pub(super) fn begin_groups<S: FarTickets>(
     requires groups { All (λ c. length c.objects ≤ length objects.old.records) columns.old }
     requires same_length { length forms.now ≡ length columns.old }
     requires some { All (λ r. 0 < length r.list.items) forms.now }
-    requires numbered { (k : ℕ) (d : Given ℕ) → k < length forms.now → (slice_index_or forms.now k d).object ≡ length objects.old.records + k }
-    ensures pushed { OnOk result (columns.new ≡ after_push_all (length objects.old.records) columns.old) }
-    ensures created { OnOk result (objects.new ≡ after_create_all objects.old columns.old (forms_of forms.now)) }
-    ensures count { OnOk result (length objects.new.records ≡ length objects.old.records + length columns.old) }
-    ensures lists { OnOk result (ChangesTo (lists_of S.content objects.old) (lists_of S.content objects.new) (forms_of forms.now)) }
-    ensures clean { AreClean (λ bytes. bytes) S.content objects.old → AreClean (λ bytes. bytes) S.content objects.new }
-    ensures store { (id : List ℕ) → AreHere S.is_of id objects.old → AreHere S.is_of id objects.new }
-    ensures space { OnOk result (fit_in_order (spaces_of objects.old.memory.state) (map (λ r. length r.list.items) forms.now) ≡ true) }
-    ensures refused { IfErr result (λ e. ((e ≡ Refusal.RegionFull) × (fit_in_order (spaces_of objects.old.memory.state) (map (λ r. length r.list.items) forms.now) ≡ false)) ⊎ (e ≡ Refusal.NoMemory)) }
-    ensures err { OnErr result (objects.new ≡ objects.old) }
-    ensures kept { OnErr result (columns.new ≡ columns.old) }
+    requires numbered { (k : ℕ) (d : Given ℕ) → k < length forms.now
+        → (slice_index_or forms.now k d).object ≡ length objects.old.records + k }
+    ensures begun { OnOk result
+        (GroupsBegun S.content objects.old columns.old forms.now objects.new columns.new) }
+    ensures copies { KeepsCopies S.content S.is_of objects.old objects.new }
+    ensures refused { IfErr result (λ e.
+        ((e ≡ Refusal.RegionFull) × (all_fit objects.old forms.now ≡ false))
+        ⊎ (e ≡ Refusal.NoMemory)) }
+    ensures err { OnErr result ((columns.new ≡ columns.old) × (objects.new ≡ objects.old)) }
 {
     let Some((column, columns)) = columns.split_first_mut() else {
         return Ok(());
@@ -81,11 +79,13 @@ fn replace_forms<S: FarTickets>(
     requires within { All (λ r. r.object < length objects.old.records) forms.now }
     requires once { AreListedOnce forms.now }
     ensures replaced { OnOk result (objects.new ≡ after_replace_all objects.old forms.now) }
-    ensures lists { OnOk result (ChangesLists (lists_of S.content objects.old) (lists_of S.content objects.new) forms.now) }
-    ensures clean { AreClean (λ bytes. bytes) S.content objects.old → AreClean (λ bytes. bytes) S.content objects.new }
-    ensures store { (id : List ℕ) → AreHere S.is_of id objects.old → AreHere S.is_of id objects.new }
+    ensures lists { OnOk result (ChangesLists
+        (lists_of S.content objects.old) (lists_of S.content objects.new) forms.now) }
+    ensures copies { KeepsCopies S.content S.is_of objects.old objects.new }
     ensures free { OnOk result (replace_all_refusal objects.old forms.now ≡ None) }
-    ensures refused { IfErr result (λ e. (replace_all_refusal objects.old forms.now ≡ Some e) ⊎ ((first_absent objects.old (map (λ r. r.object) forms.now) ≡ None) × (e ≡ Refusal.NoMemory))) }
+    ensures refused { IfErr result (λ e. (replace_all_refusal objects.old forms.now ≡ Some e)
+        ⊎ ((first_absent objects.old (map (λ r. r.object) forms.now) ≡ None)
+        × (e ≡ Refusal.NoMemory))) }
     ensures err { OnErr result (objects.new ≡ objects.old) }
 {
     if forms.len() == 1 {
@@ -105,16 +105,13 @@ pub(super) fn extend_groups<S: FarTickets>(
     requires some { All (λ r. 0 < length r.list.items) forms.now }
     requires within { All (λ r. r.object < length objects.old.records) forms.now }
     requires once { AreListedOnce forms.now }
-    ensures pushed { OnOk result ((n : ℕ) → columns.new ≡ after_push_all n columns.old) }
-    ensures replaced { OnOk result (objects.new ≡ after_replace_all objects.old forms.now) }
-    ensures count { OnOk result (length objects.new.records ≡ length objects.old.records) }
-    ensures lists { OnOk result (ChangesLists (lists_of S.content objects.old) (lists_of S.content objects.new) forms.now) }
-    ensures clean { AreClean (λ bytes. bytes) S.content objects.old → AreClean (λ bytes. bytes) S.content objects.new }
-    ensures store { (id : List ℕ) → AreHere S.is_of id objects.old → AreHere S.is_of id objects.new }
-    ensures free { OnOk result (replace_all_refusal objects.old forms.now ≡ None) }
-    ensures refused { IfErr result (λ e. (replace_all_refusal objects.old forms.now ≡ Some e) ⊎ ((first_absent objects.old (map (λ r. r.object) forms.now) ≡ None) × (e ≡ Refusal.NoMemory))) }
-    ensures err { OnErr result (objects.new ≡ objects.old) }
-    ensures kept { OnErr result (columns.new ≡ columns.old) }
+    ensures extended { OnOk result
+        (GroupsExtended S.content objects.old columns.old forms.now objects.new columns.new) }
+    ensures copies { KeepsCopies S.content S.is_of objects.old objects.new }
+    ensures refused { IfErr result (λ e. (replace_all_refusal objects.old forms.now ≡ Some e)
+        ⊎ ((first_absent objects.old (map (λ r. r.object) forms.now) ≡ None)
+        × (e ≡ Refusal.NoMemory))) }
+    ensures err { OnErr result ((columns.new ≡ columns.old) × (objects.new ≡ objects.old)) }
 {
     replace_forms(objects, forms)?;
     lengthen(columns);

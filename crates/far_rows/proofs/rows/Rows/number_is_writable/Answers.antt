@@ -2,7 +2,7 @@ use Rattle.std.proofs.Common.{◌≡◌, ℤ, ◌<◌, length, get_or, Option, S
 use Rattle.std.specs.Prelude.{slice_get}
 use Rattle.std.proofs.lemmas.Option.{slice_get-get_or, slice_get_read}
 use Rattle.far_scopes.specs.Refusing.{write_refusal}
-use Rattle.far_vector.specs.Vector.{Vector, object_at}
+use Rattle.far_columns.specs.Vector.{Vector, object_at}
 use Rattle.far_rows.proofs.MovementInUse.{number-in-use}
 use Rattle.far_rows.proofs.RefusingNumbers.{group-there, group-writable}
 use Rattle.far_rows.proofs.rows.Rows.number_is_writable.Goals as goal

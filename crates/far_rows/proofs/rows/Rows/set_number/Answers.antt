@@ -3,9 +3,9 @@ use Rattle.std.specs.Prelude.{ℤ, All, option_map, slice_get, slice_set}
 use Rattle.std.specs.Option.{option_map_or}
 use Rattle.std.proofs.lemmas.Option.{slice_get-get_or, slice_get-map, get_or_from_slice_get}
 use Rattle.far_scopes.specs.Movement.{Movement, AreHere, version_of}
-use Rattle.far_vector.specs.Vector.{Vector, IsVector, object_at}
-use Rattle.far_vector.specs.Effects.{after_write_range}
-use Rattle.far_vector.specs.Refusing.{set_refusal}
+use Rattle.far_columns.specs.Vector.{Vector, IsVector, object_at}
+use Rattle.far_columns.specs.Effects.{after_write_range}
+use Rattle.far_columns.specs.Refusing.{set_refusal}
 use Rattle.far_columns.specs.Numbers.{number_lists, numbers_in}
 use Rattle.far_columns.specs.NumbersTogether.{NumberColumns}
 use Rattle.far_rows.specs.declared.column_index.ColumnIndex.TheVariants as column_index
@@ -60,7 +60,7 @@ invariant_of-self g c =
       some = inv.some;
       small = inv.small;
       places = inv.places;
-      numbers = numbers-still (number_lists content m) (number_lists content now) columns inv.numbers c.args.i v at done.is done.disjoint;
+      numbers = numbers-still (number_lists content m) (number_lists content now) columns inv.numbers c.args.i v at done.changes.is done.changes.others;
       texts = inv.texts;
       shaped = inv.shaped;
       grouped = inv.grouped;
@@ -75,7 +75,7 @@ invariant_of-self g c =
       text_names = inv.text_names;
       owned_numbers = subst (λ ns. AreOwned (λ (w : Vector (Option ℤ)). w.column) (λ w. w.objects) ns columns) (sym names) inv.owned_numbers;
       owned_texts = inv.owned_texts;
-      clean_numbers = done.clean inv.clean_numbers;
+      clean_numbers = done.keeps.copies.clean inv.clean_numbers;
       clean_texts = inv.clean_texts;
     }
 
@@ -117,13 +117,13 @@ returns-clause-numbers g c =
     let at : slice_get columns i ≡ Some v = slice_get-get_or columns i v within ∙ ap Some (sym c.index.ensures) in
     let was = map (numbers_in content m) columns in
     let here : numbers_in content m v ≡ get_or was i [] = sym (get_or_from_slice_get was i (numbers_in content m v) [] (slice_get-map (numbers_in content m) columns i ∙ ap (option_map (numbers_in content m)) at)) in
-    let own : numbers_in content now v ≡ slice_set (get_or was i []) place number = done.numbers ∙ ap (λ l. slice_set l place number) here in
-    numbers-set (number_lists content m) (number_lists content now) columns inv.numbers i v at done.is done.disjoint
+    let own : numbers_in content now v ≡ slice_set (get_or was i []) place number = done.elements ∙ ap (λ l. slice_set l place number) here in
+    numbers-set (number_lists content m) (number_lists content now) columns inv.numbers i v at done.changes.is done.changes.others
     ∙ ap (slice_set was i) own
     ∙ ap (λ r. slice_set (all_numbers content r) i (slice_set (get_or (all_numbers content r) i []) place number)) c.self.view_is
 
 pub returns-clause-store : goal.returns-clause-store
-returns-clause-store g c = λ id here. c.set_in_group.ensures.store id (subst (λ r. AreHere g.S.FarTickets.is_of id r.number_objects) (sym c.self.view_is) here)
+returns-clause-store g c = λ id here. c.set_in_group.ensures.keeps.copies.store id (subst (λ r. AreHere g.S.FarTickets.is_of id r.number_objects) (sym c.self.view_is) here)
 
 pub returns-clause-versions : goal.returns-clause-versions
 returns-clause-versions g c = λ o.

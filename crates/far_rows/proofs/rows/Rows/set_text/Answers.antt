@@ -50,7 +50,7 @@ invariant_of-self g c =
     let within = subst (λ r. c.args.i < length r.texts) (sym c.self.view_is) c.requires.within in
     let at : slice_get columns c.args.i ≡ Some v = slice_get-get_or columns c.args.i v within ∙ ap Some (sym c.index.ensures) in
     let form : List ℕ = texts_form (group_with (lists_of content m) v c.args.place c.args.text.now) in
-    let names : names_of now ≡ names_of m = still-named m now (text_set_in content m v c.args.place c.args.text.now) c.set_accepted.result c.set_accepted.ensures.set c.set_accepted.ensures.err (names-after_replace m (object_at v c.args.place) form) in
+    let names : names_of now ≡ names_of m = still-named m now (text_set_in content m v c.args.place c.args.text.now) c.set_accepted.result (on-ok c.set_accepted.result c.set_accepted.ensures.set (λ set. set.moved)) c.set_accepted.ensures.err (names-after_replace m (object_at v c.args.place) form) in
     record {
       column_indexes = inv.column_indexes;
       few = inv.few;
@@ -58,7 +58,7 @@ invariant_of-self g c =
       small = inv.small;
       places = inv.places;
       numbers = inv.numbers;
-      texts = texts-still (lists_of content m) (lists_of content now) columns inv.texts c.args.i v at c.set_accepted.ensures.is c.set_accepted.ensures.others;
+      texts = texts-still (lists_of content m) (lists_of content now) columns inv.texts c.args.i v at c.set_accepted.ensures.changes.is c.set_accepted.ensures.changes.others;
       shaped = inv.shaped;
       grouped = inv.grouped;
       same_length_numbers = inv.same_length_numbers;
@@ -73,7 +73,7 @@ invariant_of-self g c =
       owned_numbers = inv.owned_numbers;
       owned_texts = subst (λ ns. AreOwned (λ (w : Texts). w.column) (λ w. w.objects) ns columns) (sym names) inv.owned_texts;
       clean_numbers = inv.clean_numbers;
-      clean_texts = c.set_accepted.ensures.clean inv.clean_texts;
+      clean_texts = c.set_accepted.ensures.copies.clean inv.clean_texts;
     }
 
 pub returns-clause-moved : goal.returns-clause-moved
@@ -85,8 +85,8 @@ returns-clause-moved g c =
     let within = subst (λ r. c.args.i < length r.texts) (sym c.self.view_is) c.requires.within in
     let at : slice_get columns c.args.i ≡ Some v = slice_get-get_or columns c.args.i v within ∙ ap Some (sym c.index.ensures) in
     let put : Texts → Movement ℕ g.row.S-Ticket.Denot = λ w. text_set_in content m w c.args.place c.args.text.now in
-    on-ok c.set_accepted.result c.set_accepted.ensures.set (λ is.
-    let written : c.set_accepted.new.objects ≡ option_map_or put (slice_get columns c.args.i) m = is ∙ sym (ap (λ o. option_map_or put o m) at) in
+    on-ok c.set_accepted.result c.set_accepted.ensures.set (λ set.
+    let written : c.set_accepted.new.objects ≡ option_map_or put (slice_get columns c.args.i) m = set.moved ∙ sym (ap (λ o. option_map_or put o m) at) in
     (λ j. record {
       column_indexes = c.self.inside.column_indexes.items;
       size = c.self.inside.size;
@@ -113,13 +113,13 @@ returns-clause-texts g c =
     let at : slice_get columns i ≡ Some v = slice_get-get_or columns i v within ∙ ap Some (sym c.index.ensures) in
     let was = map (texts_in old_lists) columns in
     let here : texts_in old_lists v ≡ get_or was i [] = sym (get_or_from_slice_get was i (texts_in old_lists v) [] (slice_get-map (texts_in old_lists) columns i ∙ ap (option_map (texts_in old_lists)) at)) in
-    on-ok c.set_accepted.result c.set_accepted.ensures.texts (λ is.
-    texts-set old_lists new_lists columns c.self.invariant.texts i v at c.set_accepted.ensures.is c.set_accepted.ensures.others
-    ∙ ap (slice_set was i) (is ∙ ap (λ l. slice_set l c.args.place text) here)
+    on-ok c.set_accepted.result c.set_accepted.ensures.set (λ set.
+    texts-set old_lists new_lists columns c.self.invariant.texts i v at c.set_accepted.ensures.changes.is c.set_accepted.ensures.changes.others
+    ∙ ap (slice_set was i) (set.texts ∙ ap (λ l. slice_set l c.args.place text) here)
     ∙ ap (λ r. slice_set (all_texts content r) i (slice_set (get_or (all_texts content r) i []) c.args.place text)) c.self.view_is)
 
 pub returns-clause-store : goal.returns-clause-store
-returns-clause-store g c = λ id here. c.set_accepted.ensures.store id (subst (λ r. AreHere g.S.FarTickets.is_of id r.text_objects) (sym c.self.view_is) here)
+returns-clause-store g c = λ id here. c.set_accepted.ensures.copies.store id (subst (λ r. AreHere g.S.FarTickets.is_of id r.text_objects) (sym c.self.view_is) here)
 
 pub returns-clause-versions : goal.returns-clause-versions
 returns-clause-versions g c = λ o.
@@ -128,5 +128,5 @@ returns-clause-versions g c = λ o.
     let form : List ℕ = texts_form (group_with (lists_of g.S.FarTickets.content m) v c.args.place c.args.text.now) in
     subst (λ r. version_of c.set_accepted.new.objects o ≤ version_of r.text_objects o + 1) c.self.view_is
     (by-outcome c.set_accepted.result c.set_accepted.ensures.set c.set_accepted.ensures.err
-    (λ is. subst (λ (now : Movement ℕ g.row.S-Ticket.Denot). version_of now o ≤ version_of m o + 1) (sym is) (replaced-version m (object_at v c.args.place) (length form) o))
+    (λ set. subst (λ (now : Movement ℕ g.row.S-Ticket.Denot). version_of now o ≤ version_of m o + 1) (sym set.moved) (replaced-version m (object_at v c.args.place) (length form) o))
     (λ is. subst (λ (now : Movement ℕ g.row.S-Ticket.Denot). version_of now o ≤ version_of m o + 1) (sym is) (omega arith)))

@@ -1,9 +1,9 @@
-use Rattle.std.proofs.Common.{ap, ◌∙◌}
-use Rattle.far_texts.specs.RefusingTogether.{push_texts_refusal}
+use Rattle.std.proofs.Common.{sym, subst}
+use Rattle.far_rows.specs.Appending.{MayTakeTexts}
 use Rattle.far_rows.proofs.rows.pushing.push_values.Goals as goal
 
-pub push_all_texts-requires-clause-free : goal.push_all_texts-requires-clause-free
-push_all_texts-requires-clause-free g c κs within = ap (push_texts_refusal g.S.FarTickets.content c.args.text_objects.now c.args.texts.now) c.texts.ensures.texts ∙ c.requires.texts_free
+pub push_all_texts-requires-clause-may : goal.push_all_texts-requires-clause-may
+push_all_texts-requires-clause-may g c κs within = subst (MayTakeTexts g.S.FarTickets.content c.args.text_objects.now c.args.texts.now) (sym c.texts.ensures.texts) c.requires.texts
 
-pub push_all_texts-requires-2-clause-free : goal.push_all_texts-requires-2-clause-free
-push_all_texts-requires-2-clause-free g c κs within = ap (push_texts_refusal g.S.FarTickets.content c.args.text_objects.now c.args.texts.now) c.texts-2.ensures.texts ∙ c.requires.texts_free
+pub push_all_texts-requires-2-clause-may : goal.push_all_texts-requires-2-clause-may
+push_all_texts-requires-2-clause-may g c κs within = subst (MayTakeTexts g.S.FarTickets.content c.args.text_objects.now c.args.texts.now) (sym c.texts-2.ensures.texts) c.requires.texts

@@ -1,5 +1,5 @@
 use Rattle.std.proofs.Common.{sym, ◌∙◌}
-use Rattle.far_vector.proofs.MovementInUse.{in-use}
+use Rattle.far_columns.proofs.MovementInUse.{in-use}
 use Rattle.far_texts.specs.Texts.{IsGroupForm}
 use Rattle.far_rows.proofs.rows.reading.texts_are_here.Goals as goal
 

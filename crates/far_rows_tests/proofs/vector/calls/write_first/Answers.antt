@@ -3,10 +3,10 @@ use Rattle.std.specs.Prelude.{slice_range}
 use Rattle.std.proofs.lemmas.List.{length-set}
 use Rattle.std.proofs.lemmas.List.Edits.{length-between}
 use Rattle.far_scopes.specs.Movement.{Movement}
-use Rattle.far_vector.specs.Vector.{Vector, IsShaped, IsVector, elements}
-use Rattle.far_vector.specs.Refusing.{write_part_refusal}
-use Rattle.far_vector.proofs.RefusingLaws.{within-written}
-use Rattle.far_vector.proofs.VectorLaws.{length-elements}
+use Rattle.far_columns.specs.Vector.{Vector, IsShaped, IsVector, elements}
+use Rattle.far_columns.specs.Refusing.{write_part_refusal}
+use Rattle.far_columns.proofs.RefusingLaws.{within-written}
+use Rattle.far_columns.proofs.VectorLaws.{length-elements}
 use Rattle.far_rows_tests.proofs.vector.calls.write_first.Goals as goal
 
 -- a part that may be written is as long as it should be
@@ -24,4 +24,4 @@ bounds-part-0 g c =
 pub returns : goal.returns
 returns g c =
     let long = part-long _ c.args.vector.now c.args.from c.args.to c.args.objects.now c.requires.free c.requires.some c.len.ensures.shaped c.requires.is c.part_mut-part.result.now c.part_mut-part.ensures.lent in
-    c.part_mut-part.ensures.is _ (length-set c.part_mut-part.result.now 0 c.args.x ∙ long)
+    (c.part_mut-part.ensures.written _ (length-set c.part_mut-part.result.now 0 c.args.x ∙ long)).vector.is

@@ -2,7 +2,7 @@ use Rattle.std.proofs.Common.{subst}
 use Rattle.std.specs.Prelude.{All}
 use Rattle.std.proofs.lemmas.List.{take_all}
 use Rattle.std.proofs.lemmas.List.Elements.{All-more}
-use Rattle.far_vector.specs.Vector.{IsShaped}
+use Rattle.far_columns.specs.Vector.{IsShaped}
 use Rattle.far_columns.proofs.int_column.together.checking.all_are_shaped.Goals as goal
 
 pub loop-column-preserved : goal.loop-column-preserved

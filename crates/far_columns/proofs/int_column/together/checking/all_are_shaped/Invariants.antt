@@ -1,6 +1,6 @@
 use Rattle.std.proofs.Common.{take}
 use Rattle.std.specs.Prelude.{All}
-use Rattle.far_vector.specs.Vector.{IsShaped}
+use Rattle.far_columns.specs.Vector.{IsShaped}
 use Rattle.far_columns.proofs.int_column.together.checking.all_are_shaped.Given as goal
 
 abbrev pub invariant-loop-column : goal.invariant-loop-column

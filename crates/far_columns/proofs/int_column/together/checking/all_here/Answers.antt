@@ -1,7 +1,7 @@
 use Rattle.std.proofs.Common.{ℤ, Option, sym, ◌∙◌}
 use Rattle.std.proofs.lemmas.Result.{err_from_is_err_and}
 use Rattle.far_scopes.specs.Refusing.{absent}
-use Rattle.far_vector.specs.Vector.{Vector, object_at}
+use Rattle.far_columns.specs.Vector.{Vector, object_at}
 use Rattle.far_scopes.proofs.FirstOfCases.{next-free, next-due}
 use Rattle.far_columns.proofs.int_column.together.checking.all_here.Goals as goal
 

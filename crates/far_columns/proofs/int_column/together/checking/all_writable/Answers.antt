@@ -6,9 +6,9 @@ use Rattle.std.proofs.lemmas.List.{take_all, drop_all}
 use Rattle.std.proofs.lemmas.List.Elements.{All-more}
 use Rattle.far_types.specs.declared.refusal.Refusal.TheVariants as refusal
 use Rattle.far_scopes.specs.Refusing.{absent, written_out, lend_refusal}
-use Rattle.far_vector.specs.Vector.{Vector, object_at}
-use Rattle.far_vector.specs.Effects.{is_full}
-use Rattle.far_vector.specs.Refusing.{push_refusal}
+use Rattle.far_columns.specs.Vector.{Vector, object_at}
+use Rattle.far_columns.specs.Effects.{is_full}
+use Rattle.far_columns.specs.Refusing.{push_refusal}
 use Rattle.far_scopes.proofs.FirstOfCases.{none-due, any-later, any-here, written-free, written-due}
 use Rattle.far_columns.proofs.NumbersTogether.{push-free}
 use Rattle.far_columns.proofs.int_column.together.checking.all_writable.Goals as goal

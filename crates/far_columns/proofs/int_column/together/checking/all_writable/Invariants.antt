@@ -1,6 +1,6 @@
 use Rattle.std.proofs.Common.{◌≡◌, take}
 use Rattle.std.specs.Prelude.{drop, All, None}
-use Rattle.far_vector.specs.Refusing.{push_refusal}
+use Rattle.far_columns.specs.Refusing.{push_refusal}
 use Rattle.far_columns.specs.NumbersTogether.{some_written_out}
 use Rattle.far_columns.proofs.int_column.together.checking.all_writable.Given as goal
 

@@ -2,7 +2,7 @@ use Rattle.std.proofs.Common.{◌≡◌, ◌<◌, ◌∷◌, length, drop, sym, 
 use Rattle.std.specs.List.{zip}
 use Rattle.std.proofs.lemmas.List.{nil_from_length}
 use Rattle.far_texts.specs.Texts.{lists_of, texts_in}
-use Rattle.far_texts.proofs.LendingLaws.{zip-none, zip-next, few-texts, text-of-cursor}
+use Rattle.far_texts.proofs.LendingLaws.{zip-none, zip-next, text-of-cursor}
 use Rattle.far_texts.proofs.text_column.cells.TextCells.next.Goals as goal
 
 pub returns-in_err-alive-clause-none : goal.returns-in_err-alive-clause-none

@@ -19,11 +19,19 @@ next_form-requires-clause-here g c κs within = all-here g.S.FarTickets.content 
 pub next_form-requires-clause-short : goal.next_form-requires-clause-short
 next_form-requires-clause-short g c κs within = none-full g.S.FarTickets.content c.args.objects.now c.args.columns.now c.args.texts.now c.requires.first
 
-pub give_forms-given-requires-clause-here : goal.give_forms-given-requires-clause-here
-give_forms-given-requires-clause-here g c κs within = all-here g.S.FarTickets.content c.args.objects.now c.args.columns.now c.args.texts.now c.requires.first c.requires.are c.next_objects_are_unused.ensures.groups
-
-pub give_forms-given-requires-clause-forms : goal.give_forms-given-requires-clause-forms
-give_forms-given-requires-clause-forms g c κs within = ap forms_of c.from_ref.ensures.value ∙ c.in_ok-form.ensures.form
+pub give_forms-given-requires-clause-made : goal.give_forms-given-requires-clause-made
+give_forms-given-requires-clause-made g c κs _ = record {
+  are = c.requires.are;
+  same_length = c.requires.same_length;
+  few = c.requires.few;
+  objects = c.next_objects_are_unused.ensures.objects;
+  groups = c.next_objects_are_unused.ensures.groups;
+  fresh = c.next_objects_are_unused.ensures.fresh;
+  here = all-here g.S.FarTickets.content c.args.objects.now c.args.columns.now c.args.texts.now c.requires.first c.requires.are c.next_objects_are_unused.ensures.groups;
+  free = c.requires.first;
+  given = ap forms_of c.from_ref.ensures.value ∙ c.in_ok-form.ensures.form;
+  valid = c.in_ok-form.ensures.valid;
+}
 
 pub next_forms-requires-clause-few : goal.next_forms-requires-clause-few
 next_forms-requires-clause-few g c κs within =
@@ -37,8 +45,16 @@ next_forms-requires-clause-here g c κs within = all-here g.S.FarTickets.content
 pub next_forms-requires-clause-short : goal.next_forms-requires-clause-short
 next_forms-requires-clause-short g c κs within = none-full g.S.FarTickets.content c.args.objects.now c.args.columns.now c.args.texts.now c.requires.first
 
-pub give_forms-requires-clause-here : goal.give_forms-requires-clause-here
-give_forms-requires-clause-here g c κs within = all-here g.S.FarTickets.content c.args.objects.now c.args.columns.now c.args.texts.now c.requires.first c.requires.are c.next_objects_are_unused.ensures.groups
-
-pub give_forms-requires-clause-forms : goal.give_forms-requires-clause-forms
-give_forms-requires-clause-forms g c κs within = ap forms_of c.deref.ensures.value ∙ c.in_ok-forms.ensures.forms
+pub give_forms-requires-clause-made : goal.give_forms-requires-clause-made
+give_forms-requires-clause-made g c κs _ = record {
+  are = c.requires.are;
+  same_length = c.requires.same_length;
+  few = c.requires.few;
+  objects = c.next_objects_are_unused.ensures.objects;
+  groups = c.next_objects_are_unused.ensures.groups;
+  fresh = c.next_objects_are_unused.ensures.fresh;
+  here = all-here g.S.FarTickets.content c.args.objects.now c.args.columns.now c.args.texts.now c.requires.first c.requires.are c.next_objects_are_unused.ensures.groups;
+  free = c.requires.first;
+  given = ap forms_of c.deref.ensures.value ∙ c.in_ok-forms.ensures.forms;
+  valid = c.in_ok-forms.ensures.valid;
+}

@@ -2,11 +2,12 @@ use Rattle.std.proofs.Common.{◌≡◌, ℕ, ◌+◌, ◌<◌, ◌≤◌, ◌^�
 use Rattle.std.specs.Prelude.{All}
 use Rattle.std.proofs.lemmas.List.Elements.{All-head, All-rest, All-weaker}
 use Rattle.far_scopes.specs.declared.replacement.Replacement.{Replacement}
+use Rattle.far_scopes.specs.Effects.{after_create}
 use Rattle.far_texts.specs.Texts.{Texts, Lists, lists_of}
 use Rattle.far_texts.specs.Effects.{begins_group}
-use Rattle.far_texts.specs.Together.{ChangesTo, forms_of}
+use Rattle.far_texts.specs.Together.{ChangesTo, forms_of, after_create_all}
 use Rattle.far_texts.proofs.EffectsAppend.{has-more}
-use Rattle.far_texts.proofs.TogetherGrowth.{count-after_create, numbered-rest, numbered-first, numbered-disjoint, changes-more, pushed-more}
+use Rattle.far_texts.proofs.TogetherGrowth.{count-after_create, numbered-rest, numbered-first, numbered-disjoint, changes-more, pushed-more, created-more, fit-more}
 use Rattle.far_texts.proofs.text_column.together.growing.+begin_groups.Goals as goal
 
 pub begin_groups-requires-clause-groups : goal.begin_groups-requires-clause-groups
@@ -37,33 +38,36 @@ invariant_of-column-2 g t c =
     let space : length c.in-Some.column.now.objects < 2 ^ 28 = omega (arith, few, some, c.requires.few) in
     rw (c.push_reserved.ensures.items, c.in_ok-reserve.ensures.items) (has-more _ c.in_ok-o.o c.column.invariant begins (subst (λ t. length t.objects < 2 ^ 28) (sym c.column.view_is) space))
 
-pub returns-clause-pushed : goal.returns-clause-pushed
-returns-clause-pushed g t c =
-    let m = c.args.objects.now in
-    let first = All-head (λ (d : Texts). begins_group d ≡ true) c.in-Some.column.now c.in-Some.columns.now (subst (λ l. All (λ (d : Texts). begins_group d ≡ true) l) c.in-Some.ensures.cases.0 c.requires.begin) in
-    let items = c.column.inside.objects.items in
-    pushed-more (length m.records) (length c.create.new.self.records) _ _ c.in-Some.columns.now _ c.args.columns.now
-    (c.in-Some.ensures.cases.0 ∙ ap (λ (d : Texts). d ∷ c.in-Some.columns.now) (sym c.column.view_is)) (subst (λ t. begins_group t ≡ true) (sym c.column.view_is) first)
-    (c.push_reserved.ensures.items ∙ ap (λ l. l ++ c.in_ok-o.o ∷ []) c.in_ok-reserve.ensures.items ∙ ap (λ o. items ++ o ∷ []) c.in_ok-o.ensures.number)
-    (count-after_create m c.create.new.self _ _ c.in_ok-o.ensures.created) c.in_default-begin_groups.ensures.pushed
-
-pub returns-clause-lists : goal.returns-clause-lists
-returns-clause-lists g t c =
+pub returns-clause-begun : goal.returns-clause-begun
+returns-clause-begun g t c =
     let m = c.args.objects.now in
     let lists : Lists = lists_of g.S.FarTickets.content m in
-    let first = numbered-first (length m.records) c.in-Some-split_first.form.now c.in-Some-split_first.forms.now c.args.forms.now c.in-Some-split_first.ensures.cases.0 c.requires.numbered in
-    let rest = numbered-rest (length m.records) c.in-Some-split_first.form.now c.in-Some-split_first.forms.now c.args.forms.now c.in-Some-split_first.ensures.cases.0 c.requires.numbered in
-    subst (λ l. ChangesTo lists (lists_of g.S.FarTickets.content c.begin_groups.new.objects) (forms_of l)) (sym c.in-Some-split_first.ensures.cases.0)
-    (changes-more lists (lists_of g.S.FarTickets.content c.create.new.self) (lists_of g.S.FarTickets.content c.begin_groups.new.objects) (length m.records) _ _ _ _ first c.deref.ensures.value
-    (numbered-disjoint (length m.records) c.in-Some-split_first.forms.now rest) c.in_ok-o.ensures.list c.in_default-begin_groups.ensures.lists)
+    let made = c.in_default-begin_groups.ensures.begun in
+    let columns = c.in-Some.ensures.cases.0 in
+    let forms = c.in-Some-split_first.ensures.cases.0 in
+    let begins = All-head (λ (d : Texts). begins_group d ≡ true) c.in-Some.column.now c.in-Some.columns.now (subst (λ l. All (λ (d : Texts). begins_group d ≡ true) l) columns c.requires.begin) in
+    let items = c.column.inside.objects.items in
+    let more = count-after_create m c.create.new.self _ _ c.in_ok-o.ensures.created in
+    let first = numbered-first (length m.records) c.in-Some-split_first.form.now c.in-Some-split_first.forms.now c.args.forms.now forms c.requires.numbered in
+    let rest = numbered-rest (length m.records) c.in-Some-split_first.form.now c.in-Some-split_first.forms.now c.args.forms.now forms c.requires.numbered in
+    record {
+      pushed = pushed-more (length m.records) (length c.create.new.self.records) _ _ c.in-Some.columns.now _ c.args.columns.now
+          (columns ∙ ap (λ (d : Texts). d ∷ c.in-Some.columns.now) (sym c.column.view_is)) (subst (λ t. begins_group t ≡ true) (sym c.column.view_is) begins)
+          (c.push_reserved.ensures.items ∙ ap (λ l. l ++ c.in_ok-o.o ∷ []) c.in_ok-reserve.ensures.items ∙ ap (λ o. items ++ o ∷ []) c.in_ok-o.ensures.number)
+          more made.pushed;
+      created = created-more m c.create.new.self c.begin_groups.new.objects _ c.in-Some.columns.now c.args.columns.now _ _ _ _
+          (columns ∙ ap (λ (d : Texts). d ∷ c.in-Some.columns.now) (sym c.column.view_is)) c.deref.ensures.value
+          (c.in_ok-o.ensures.created ∙ ap (λ n. after_create m record { column = c.column.inside.column; group = n } c.deref.result.now) (c.len.ensures ∙ c.column.inside.objects.ok.0)) made.created
+          ∙ ap (λ l. after_create_all m c.args.columns.now (forms_of l)) (sym forms);
+      count = omega (arith, more, made.count, c.in-Some.ensures.cases.1);
+      lists = subst (λ l. ChangesTo lists (lists_of g.S.FarTickets.content c.begin_groups.new.objects) (forms_of l)) (sym forms)
+          (changes-more lists (lists_of g.S.FarTickets.content c.create.new.self) (lists_of g.S.FarTickets.content c.begin_groups.new.objects) (length m.records) _ _ _ _ first c.deref.ensures.value
+          (numbered-disjoint (length m.records) c.in-Some-split_first.forms.now rest) c.in_ok-o.ensures.list made.lists);
+      space = fit-more m c.create.new.self c.in-Some-split_first.form.now c.in-Some-split_first.forms.now c.args.forms.now _ forms c.deref.ensures.value c.in_ok-o.ensures.next made.space;
+    }
 
-pub returns-clause-clean : goal.returns-clause-clean
-returns-clause-clean g t c = λ clean. c.begin_groups.ensures.clean (c.create.ensures.clean clean)
-
-pub returns-clause-store : goal.returns-clause-store
-returns-clause-store g t c = λ id here. c.begin_groups.ensures.store id (c.create.ensures.store id here)
-
-pub returns-clause-count : goal.returns-clause-count
-returns-clause-count g t c =
-    let more = count-after_create c.args.objects.now c.create.new.self _ _ c.in_ok-o.ensures.created in
-    omega (arith, more, c.in_default-begin_groups.ensures.count, c.in-Some.ensures.cases.1)
+pub returns-clause-copies : goal.returns-clause-copies
+returns-clause-copies g t c = record {
+  clean = λ clean. c.begin_groups.ensures.copies.clean (c.create.ensures.clean clean);
+  store = λ id here. c.begin_groups.ensures.copies.store id (c.create.ensures.store id here);
+}

@@ -1,4 +1,0 @@
-use Rattle.far_columns.proofs.int_column.IntColumn.set.Goals as goal
-
-pub returns-clause-disjoint : goal.returns-clause-disjoint
-returns-clause-disjoint g c = rw (← c.self.view_is) c.set.ensures.disjoint

@@ -1,5 +1,0 @@
-use Rattle.far_vector.proofs.VectorGroups.{list-of-group}
-use Rattle.far_vector.proofs.laws.objects_hold_row_groups.Goals as goal
-
-pub returns : goal.returns
-returns g c = list-of-group
