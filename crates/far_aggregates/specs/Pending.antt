@@ -1,7 +1,9 @@
 -- The deltas that an edit applied and the pairs that it is to retract: the deltas are undone, or the pairs are retracted.
-use Rattle.std.specs.Prelude.{◌≡◌, ℕ, ◌≤◌, ◌^◌, List, length, Some, slice_get}
+use Rattle.std.specs.Prelude.{◌≡◌, ℕ, ◌≤◌, ◌/◌, ◌^◌, List, length, Some, slice_get}
 use Rattle.far_types.specs.declared.cell.Cell.{Cell}
+use Rattle.far_types.specs.declared.edit.Edit.{Edit}
 use Rattle.far_types.specs.Cells.{Cells, cells_of}
+use Rattle.far_types.specs.Edits.{places_after}
 use Rattle.far_types.specs.Table.{Place, in_group}
 use Rattle.far_aggregates.specs.declared.pending.Pending.{Pending}
 use Rattle.far_aggregates.specs.Accumulators.{RegistryEntry, PlacesFit, Keeps}
@@ -60,3 +62,13 @@ pub record RetractsAll (size g : ℕ) (places : List Place) (registry : List Reg
   pub at : pending.group ≡ g
   pub may : MayRetractAll (in_group size g places) registry pending
   pub kept : Keeps size places (after_retract_all (in_group size g places) registry pending)
+
+-- the pairs that a place's row with these cells gave can be retracted once the places are those after an edit: if the
+-- aggregates were up to date before it, and the numbers fit 64 bits after it
+abbrev pub RetractsOnce : Edit → ℕ → ℕ → Cells → List RegistryEntry → List RegistryEntry
+    → Pending → Type 0
+RetractsOnce e size place cells old new pending = (places : List Place)
+    → IsAliveAt cells place places
+    → AreUpToDate size places old
+    → PlacesFit (places_after e places)
+    → RetractsAll size (place / size) (places_after e places) new pending

@@ -140,7 +140,8 @@ fn apply_under_text(
         (delta_in group entry.old (Some (variants.Text text.now), value))) }
     ensures deltas { OnOk result
         (deltas.new.items
-        ≡ deltas.old.items ++ delta_in group entry.old (Some (variants.Text text.now), value) ∷ []) }
+        ≡ deltas.old.items
+        ++ delta_in group entry.old (Some (variants.Text text.now), value) ∷ []) }
     ensures capacity { vec_capacity deltas.new ≡ vec_capacity deltas.old }
     ensures err { OnErr result (entry.new ≡ entry.old) }
     ensures before { OnErr result (deltas.new.items ≡ deltas.old.items) }

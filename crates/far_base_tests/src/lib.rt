@@ -1,8 +1,7 @@
 #![tactic(auto)]
-//! Tests of the crates without objects: the words of the table (far_types), pointer words (far_pointer), encodings
-//! (far_codec), far stores (far_store), local memory (far_log), proposals of row groups (far_prefetcher), quotients
-//! (far_reciprocal), scripts as text (far_script), accumulators (far_groups, far_extrema), partial aggregates
-//! (far_offload), and edits (far_aggregates).
+//! Tests of the crates without objects: the words of the table and quotients (far_types), pointer words (far_pointer), encodings
+//! (far_codec), far stores (far_store), local memory (far_log), proposals of row groups (far_prefetcher), scripts as text
+//! (far_script), accumulators (far_groups, far_extrema), partial aggregates (far_offload), and edits (far_aggregates).
 
 #[cfg(test)]
 mod accumulators;

@@ -1,5 +1,5 @@
-// Tests of far_reciprocal: quotients with the right reciprocal and with a wrong one.
-use far_reciprocal::Reciprocal;
+// Tests of `Reciprocal`: quotients with the right reciprocal and with a wrong one.
+use far_types::Reciprocal;
 
 static NUMBERS: [usize; 7] = [0, 1, 63, 64, 4_099, 16_777_215, 1_099_511_627_776];
 

@@ -1,5 +1,5 @@
 -- What is held of numbers in a list and two trees: what is found there, how it changes, and in which order the numbers are.
-use Rattle.std.proofs.Common.{◌≡◌, ℕ, zero, suc, ◌-◌, ◌<◌, ◌≤◌, ◌==◌, true, false, Bool, cond, List, [], ◌∷◌, ◌++◌, length, get_or, slice_get, slice_set, refl, sym, ap, ◌∙◌, subst, arith, Option, None, Some, true≢false, ◌⊎◌, inl, inr}
+use Rattle.std.proofs.Common.{◌≡◌, ℕ, zero, suc, ◌+◌, ◌-◌, ◌<◌, ◌≤◌, ◌==◌, true, false, Bool, cond, List, [], ◌∷◌, ◌++◌, length, get_or, slice_get, slice_set, refl, sym, ap, ◌∙◌, subst, arith, Option, None, Some, true≢false, ◌⊎◌, inl, inr}
 use Rattle.std.specs.Borrow.{MutBor}
 use Rattle.std.specs.Option.{option_copied_mut, MatchOption}
 use Rattle.std.specs.List.{HoldsAt}
@@ -10,6 +10,7 @@ use Rattle.std.specs.declared.cmp.Ordering.{Ordering}
 use Rattle.std.specs.declared.cmp.Ordering.TheVariants.{Less, Equal, Greater}
 use Rattle.std.specs.BTreeMap.{is_at}
 use Rattle.std.proofs.lemmas.Bool.Decides.{nat_tests}
+use Rattle.std.proofs.lemmas.List.{length-append}
 use Rattle.std.proofs.lemmas.Cmp.{tied_itself}
 use Rattle.std.proofs.lemmas.Int.{ints}
 use Rattle.std.proofs.lemmas.Map.Lookups.{exact_signed}
@@ -86,6 +87,17 @@ placed_at first (h ∷ hs) k l = elim (is_at (int_cmp (pos k)) (pos first)) as (
       let one : suc (k - suc first) ≡ k - first = omega (arith, less) in
       placed_at (suc first) hs k less ∙ ap (slice_get (h ∷ hs)) one
 ] refl
+
+length_placed : (first : ℕ) (hs : List Holding) → length (placed first hs) ≡ length hs
+length_placed first [] = refl
+length_placed first (h ∷ hs) = ap suc (length_placed (suc first) hs)
+
+-- a list and two trees hold as many numbers as the three have entries
+pub length_all : (b : Numbers) (s : List Holding) (a : Numbers)
+    → length (numbers_in b s a) ≡ length b + (length s + length a)
+length_all b s a =
+    length-append b (placed 0 s ++ a)
+    ∙ ap (λ n. length b + n) (length-append (placed 0 s) a ∙ ap (λ n. n + length a) (length_placed 0 s))
 
 placed_under : (first : ℕ) (hs : List Holding) (k : ℕ) → number_at (placed first hs) (negsuc k) ≡ None
 placed_under first [] k = refl

@@ -1,5 +1,5 @@
 // The row groups by number: those of the numbers from 0 on in a list, up to a bound, and those of the others in two trees.
-ghost use Rattle.std.specs.Prelude.{◌≡◌, ℤ, Some, None, OnOk, OnErr, IfErr};
+ghost use Rattle.std.specs.Prelude.{◌≡◌, ◌≤◌, ℤ, Some, None, length, OnOk, OnErr, IfErr};
 ghost use Rattle.std.specs.Ordering.{int_cmp};
 ghost use Rattle.std.specs.List.{AllByRecursion};
 ghost use Rattle.far_extrema.specs.Parts.{IsPart};
@@ -141,7 +141,9 @@ impl Numbers {
     }
 
     /// Returns how many numbers occur or are reserved, or fewer if they are too many to be counted.
-    pub fn len(&self) -> usize {
+    pub fn len(&self) -> usize
+        ensures { result ≤ length self.now }
+    {
         let others = self.below.len().saturating_add(self.above.len());
         others.saturating_add(dense::count_of(&self.small))
     }

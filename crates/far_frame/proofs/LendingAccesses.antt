@@ -12,8 +12,8 @@ use Rattle.far_types.specs.declared.refusal.Refusal.{Refusal}
 use Rattle.far_types.specs.declared.refusal.Refusal.TheVariants as refusal
 use Rattle.far_types.specs.FirstOf.{first_of}
 use Rattle.far_scopes.specs.Refusing.{refusal_in}
-use Rattle.far_vector.specs.Pieces.{overlapped_groups, overlapped_count}
-use Rattle.far_vector.proofs.PiecesLaws.{overlapped-step, rest, rows}
+use Rattle.far_columns.specs.Pieces.{overlapped_groups, overlapped_count}
+use Rattle.far_columns.proofs.PiecesLaws.{overlapped-step, rest, rows}
 use Rattle.far_prefetcher.specs.Strides.{history_of, with_access}
 use Rattle.far_rows.specs.declared.column_index.ColumnIndex.{ColumnIndex}
 use Rattle.far_rows.specs.declared.object.Object.{Object}

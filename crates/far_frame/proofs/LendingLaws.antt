@@ -23,8 +23,8 @@ use Rattle.far_types.specs.Lent.{int_cell, text_cell}
 use Rattle.far_types.specs.Bounds.{AreLimits}
 use Rattle.far_types.specs.Table.{Table, Place, column as column_of, part}
 use Rattle.far_scopes.specs.Refusing.{refusal_in}
-use Rattle.far_vector.specs.Pieces.{pieces_of, overlapped_groups, overlapped_count}
-use Rattle.far_vector.proofs.PiecesLaws.{none-pieces, pieces-step, joined-pieces, end, further, ends}
+use Rattle.far_columns.specs.Pieces.{pieces_of, overlapped_groups, overlapped_count}
+use Rattle.far_columns.proofs.PiecesLaws.{none-pieces, pieces-step, joined-pieces, end, further, ends}
 use Rattle.far_columns.specs.Numbers.{Numbers, with_flags}
 use Rattle.far_rows.specs.declared.column_index.ColumnIndex.{ColumnIndex}
 use Rattle.far_rows.specs.declared.column_index.ColumnIndex.TheVariants as column_index

@@ -14,8 +14,8 @@ use Rattle.far_types.specs.declared.cell.Kind.TheVariants as kind
 use Rattle.far_types.specs.Cells.{cell_at}
 use Rattle.far_types.specs.Lent.{int_cell, text_cell}
 use Rattle.far_types.specs.Table.{Table, Place, column as column_of, part}
-use Rattle.far_vector.specs.Pieces.{pieces_of, overlapped_count}
-use Rattle.far_vector.proofs.PiecesLaws.{joined-pieces, length-pieces}
+use Rattle.far_columns.specs.Pieces.{pieces_of, overlapped_count}
+use Rattle.far_columns.proofs.PiecesLaws.{joined-pieces, length-pieces}
 use Rattle.far_columns.specs.Numbers.{Numbers}
 use Rattle.far_frame.specs.declared.piece.IntPiece.{IntPiece}
 use Rattle.far_frame.specs.declared.piece.TextPiece.{TextPiece}

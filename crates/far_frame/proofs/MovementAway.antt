@@ -16,8 +16,8 @@ use Rattle.far_scopes.specs.Compaction.{moved_word, hot_first, offset_after, IsC
 use Rattle.far_scopes.specs.Effects.{with_record, after_create, after_write, after_replace, with_lens, after_write_all, after_replace_all, after_touch}
 use Rattle.far_scopes.specs.Placing.{spot, with_new}
 use Rattle.far_scopes.specs.Replacing.{moved_all, replaced_all as replaced_all_in}
-use Rattle.far_vector.specs.Vector.{Vector, object_at}
-use Rattle.far_vector.specs.Effects.{is_full, next_name, next_group, objects_after_push, after_write_range}
+use Rattle.far_columns.specs.Vector.{Vector, object_at}
+use Rattle.far_columns.specs.Effects.{is_full, next_name, next_group, objects_after_push, after_write_range}
 use Rattle.far_columns.specs.Numbers.{Numbers}
 use Rattle.far_columns.specs.NumbersTogether.{NumberColumns, objects_after_push_all}
 use Rattle.far_texts.specs.Texts.{Texts}

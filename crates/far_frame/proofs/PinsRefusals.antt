@@ -10,7 +10,7 @@ use Rattle.far_types.specs.MayRefuse.{MayRefuse}
 use Rattle.far_scopes.specs.Movement.{is_local}
 use Rattle.far_scopes.specs.Refusing.{absent}
 use Rattle.far_scopes.proofs.MovementFrames.{object_record-with_other}
-use Rattle.far_vector.specs.Pieces.{overlapped_groups}
+use Rattle.far_columns.specs.Pieces.{overlapped_groups}
 use Rattle.far_rows.specs.declared.column_index.ColumnIndex.{ColumnIndex}
 use Rattle.far_rows.specs.declared.column_index.ColumnIndex.TheVariants as column_index
 use Rattle.far_rows.specs.declared.object.Object.{Object}

@@ -8,8 +8,8 @@ use Rattle.far_types.specs.declared.edit.Edit.{Edit}
 use Rattle.far_types.specs.declared.edit.Edit.TheVariants as edit
 use Rattle.far_scopes.specs.Movement.{Movement, pins_of}
 use Rattle.far_codec.specs.TextForm.{texts_form}
-use Rattle.far_vector.specs.Vector.{Vector}
-use Rattle.far_vector.specs.Effects.{after_write_range}
+use Rattle.far_columns.specs.Vector.{Vector}
+use Rattle.far_columns.specs.Effects.{after_write_range}
 use Rattle.far_texts.specs.Texts.{Texts, lists_of, object_at as text_at}
 use Rattle.far_texts.specs.Effects.{group_with, set_in as text_set_in}
 use Rattle.far_columns.specs.Numbers.{number_lists}

@@ -18,7 +18,7 @@ use Rattle.far_types.specs.Table.{Registered, is_pending}
 use Rattle.far_pointer.specs.declared.pointer.Pointer.{Pointer}
 use Rattle.far_pointer.specs.declared.pointer.Pointer.TheVariants.{Local, Remote}
 use Rattle.far_scopes.specs.Refusing.{absent}
-use Rattle.far_vector.specs.Pieces.{overlapped_groups}
+use Rattle.far_columns.specs.Pieces.{overlapped_groups}
 use Rattle.far_rows.specs.declared.column_index.ColumnIndex.{ColumnIndex}
 use Rattle.far_rows.specs.declared.column_index.ColumnIndex.TheVariants as column_index
 use Rattle.far_rows.specs.declared.object.Object.{Object}

@@ -16,7 +16,7 @@ use Rattle.far_types.specs.FirstOf.{first_of}
 use Rattle.far_types.specs.MayRefuse.{MayRefuse}
 use Rattle.far_types.specs.Table.{Registered, Table, answer_now}
 use Rattle.far_aggregates.specs.Aggregates.{Answers, ask_refusal}
-use Rattle.far_vector.specs.Pieces.{overlapped_groups}
+use Rattle.far_columns.specs.Pieces.{overlapped_groups}
 use Rattle.far_rows.specs.Jobs.{evac_refusal, fetch_refusal}
 use Rattle.far_rows.specs.Moving.{object_at, pin_refusal, unpin_refusal}
 use Rattle.far_rows.specs.Rows.{Rows}

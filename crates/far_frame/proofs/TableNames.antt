@@ -13,7 +13,7 @@ use Rattle.far_types.specs.declared.cell.Cell.{Cell}
 use Rattle.far_types.specs.declared.name.Name.{Name}
 use Rattle.far_types.specs.Table.{groups}
 use Rattle.far_scopes.specs.declared.object_record.ObjectRecord.{ObjectRecord}
-use Rattle.far_vector.specs.Vector.{Vector, IsShaped}
+use Rattle.far_columns.specs.Vector.{Vector, IsShaped}
 use Rattle.far_texts.specs.Texts.{Texts, HasGroups}
 use Rattle.far_table.specs.Watching.{group_count}
 use Rattle.far_rows.specs.declared.column_index.ColumnIndex.{ColumnIndex}

@@ -14,8 +14,8 @@ use Rattle.far_scopes.specs.Movement.{Movement, pins_of, word_of}
 use Rattle.far_scopes.specs.Placing.{spot}
 use Rattle.far_scopes.specs.Effects.{with_record, after_leave, after_arrive}
 use Rattle.far_scopes.proofs.MovementFrames.{object_record-with_other}
-use Rattle.far_vector.specs.Vector.{Vector}
-use Rattle.far_vector.specs.Effects.{is_full}
+use Rattle.far_columns.specs.Vector.{Vector}
+use Rattle.far_columns.specs.Effects.{is_full}
 use Rattle.far_texts.specs.Texts.{Texts}
 use Rattle.far_texts.specs.Effects.{begins_group}
 use Rattle.far_texts.specs.Together.{after_push_all as texts_after_push_all}

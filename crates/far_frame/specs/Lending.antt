@@ -10,7 +10,7 @@ use Rattle.far_types.specs.declared.refusal.Refusal.TheVariants as refusal
 use Rattle.far_types.specs.FirstOf.{first_of}
 use Rattle.far_types.specs.Lent.{int_cell, text_cell}
 use Rattle.far_types.specs.Table.{Table, Place, column as column_of, groups}
-use Rattle.far_vector.specs.Pieces.{pieces_of, overlapped_groups}
+use Rattle.far_columns.specs.Pieces.{pieces_of, overlapped_groups}
 use Rattle.far_prefetcher.specs.Strides.{history_of, with_access, proposed}
 use Rattle.far_rows.specs.Rows.{Rows}
 use Rattle.far_rows.specs.Moving.{object_at, after_touch}

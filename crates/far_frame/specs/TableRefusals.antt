@@ -13,7 +13,7 @@ use Rattle.far_types.specs.Edits.{edit_faults, overfills}
 use Rattle.far_types.specs.FirstOf.{first_of}
 use Rattle.far_types.specs.Table.{Table, Registered, is_pending}
 use Rattle.far_aggregates.specs.Aggregates.{ask_refusal}
-use Rattle.far_vector.specs.Pieces.{overlapped_groups}
+use Rattle.far_columns.specs.Pieces.{overlapped_groups}
 use Rattle.far_table.specs.Watching.{aggregate_at, group_count, watch_refusal, unwatch_refusal}
 use Rattle.far_frame.specs.declared.step.Step.{Step}
 use Rattle.far_frame.specs.declared.step.Step.TheVariants as step

@@ -79,7 +79,9 @@ pub fn an_edit_is_that_of_the_plain_list<S: FarTickets>()
     ensures done { (old : World S.Ticket) → (e : Edit) → (new : World S.Ticket)
         → IsStep S.content S.number_of old (step.Edit e) reply.Done new
         → new.state.table ≡ after_edit e old.state.table }
-    ensures placed { (old : World S.Ticket) → (e : Edit) → (place : ℕ) → (new : World S.Ticket) → IsStep S.content S.number_of old (step.Edit e) (reply.Place place) new → reply.Place place ≡ edit_reply old.state.table e }
+    ensures placed { (old : World S.Ticket) → (e : Edit) → (place : ℕ) → (new : World S.Ticket)
+        → IsStep S.content S.number_of old (step.Edit e) (reply.Place place) new
+        → reply.Place place ≡ edit_reply old.state.table e }
     ensures returned { (old : World S.Ticket) → (e : Edit) → (new : World S.Ticket)
         → IsStep S.content S.number_of old (step.Edit e) reply.Done new
         → reply.Done ≡ edit_reply old.state.table e }
@@ -196,7 +198,8 @@ pub fn a_pinned_object_stays<S: FarTickets, N: FarTickets>()
         → (new : World S.Ticket) → ArePinnedHere old.state.rows
         → IsRun S.content S.number_of old steps replies new
         → ArePinnedHere new.state.rows }
-    ensures opened { (schema : List Kind) → (limits : Limits) → (number : ℕ) → ArePinnedHere (empty_rows {K = S.Ticket} schema limits number) }
+    ensures opened { (schema : List Kind) → (limits : Limits) → (number : ℕ)
+        → ArePinnedHere (empty_rows {K = S.Ticket} schema limits number) }
     ensures lent { (old : World S.Ticket) → ArePinnedHere old.state.rows
         → (column from to c g : ℕ) → (new : World S.Ticket)
         → IsStep S.content S.number_of old (step.Lend column from to)
@@ -209,7 +212,9 @@ pub fn a_pinned_object_stays<S: FarTickets, N: FarTickets>()
         → pins_by old.state.rows carried ≢ 0
         → (new : World S.Ticket)
         → ¬ (IsStep S.content S.number_of old (step.Commit n) reply.Done new) }
-    ensures migrated { (id : List ℕ) → (old : World S.Ticket) → (new : World N.Ticket) → ArePinnedHere old.state.rows → IsMigratedTo S.content N.content id old new → ArePinnedHere new.state.rows }
+    ensures migrated { (id : List ℕ) → (old : World S.Ticket) → (new : World N.Ticket)
+        → ArePinnedHere old.state.rows → IsMigratedTo S.content N.content id old new
+        → ArePinnedHere new.state.rows }
     ensures migrated_pins { (id : List ℕ) → (old : World S.Ticket) → (new : World N.Ticket)
         → IsMigratedTo S.content N.content id old new
         → (o : Object) → pins_at new.state.rows o ≡ pins_at old.state.rows o }
@@ -350,15 +355,20 @@ pub fn runs_join<S: FarTickets>()
 
 /// A step of a world is also a step of its table in a user's words.
 pub fn a_step_is_one_of_its_table<S: FarTickets>()
-    ensures { (old : World S.Ticket) → IsKept S.content old.state → (s : Step) → (given : Reply) → (new : World S.Ticket) → IsStep S.content S.number_of old s given new → IsTableStep (table_of old.state) s given (table_of new.state) }
+    ensures { (old : World S.Ticket) → IsKept S.content old.state → (s : Step) → (given : Reply)
+        → (new : World S.Ticket) → IsStep S.content S.number_of old s given new
+        → IsTableStep (table_of old.state) s given (table_of new.state) }
 {}
 
 /// A chunk that has a pin is local, after any run of a table in a user's words.
 pub fn a_pinned_chunk_is_local()
-    ensures { (old : TableState) → (steps : List Step) → (replies : List Reply) → (new : TableState) → IsTableRun old steps replies new → ArePinnedLocal old → ArePinnedLocal new }
+    ensures { (old : TableState) → (steps : List Step) → (replies : List Reply) → (new : TableState)
+        → IsTableRun old steps replies new → ArePinnedLocal old → ArePinnedLocal new }
 {}
 
 /// After any run of a table in a user's words, the rows are those of the plain list after the accepted edits.
 pub fn table_rows_are_those_of_the_plain_list()
-    ensures { (old : TableState) → (steps : List Step) → (replies : List Reply) → (new : TableState) → IsTableRun old steps replies new → new.table.places ≡ plain_rows steps replies old.table.places }
+    ensures { (old : TableState) → (steps : List Step) → (replies : List Reply) → (new : TableState)
+        → IsTableRun old steps replies new
+        → new.table.places ≡ plain_rows steps replies old.table.places }
 {}

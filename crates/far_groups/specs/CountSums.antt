@@ -24,17 +24,22 @@ AreCountSums totals = (key : Option Key) → IfSome (fin.get totals key) IsCount
 
 -- a count and a sum more under a key
 abbrev pub with_count_sum : Totals → Option Key → ℕ × ℤ → Totals
-with_count_sum totals key more = fin.insert totals key (option_map_or (λ count_sum. add_count_sums count_sum more) (fin.get totals key) more)
+with_count_sum totals key more =
+    fin.insert totals key
+    (option_map_or (λ count_sum. add_count_sums count_sum more) (fin.get totals key) more)
 
 -- the key has at least this count, and the sum that is left is one that the values left can have
 abbrev pub LeavesCountSum : ℕ × ℤ → Option (ℕ × ℤ) → Type 0
 LeavesCountSum less None = ⊥
-LeavesCountSum less (Some count_sum) = (less.0 ≤ count_sum.0) × IsSumOf (count_sum.0 - less.0) (count_sum.1 -ℤ less.1)
+LeavesCountSum less (Some count_sum) = (less.0 ≤ count_sum.0)
+    × IsSumOf (count_sum.0 - less.0) (count_sum.1 -ℤ less.1)
 
 -- totals with a count and a sum subtracted from those that the key has. A key whose count is then 0 goes
 abbrev pub without_less : Totals → Option Key → ℕ × ℤ → Option (ℕ × ℤ) → Totals
 without_less totals key less None = totals
-without_less totals key less (Some count_sum) = cond (count_sum.0 == less.0) (fin.remove totals key) (fin.insert totals key (count_sum.0 - less.0, count_sum.1 -ℤ less.1))
+without_less totals key less (Some count_sum) =
+    cond (count_sum.0 == less.0) (fin.remove totals key)
+    (fin.insert totals key (count_sum.0 - less.0, count_sum.1 -ℤ less.1))
 
 -- totals with a count and a sum subtracted from those of a key
 abbrev pub without_count_sum : Totals → Option Key → ℕ × ℤ → Totals
@@ -43,12 +48,14 @@ without_count_sum totals key less = without_less totals key less (fin.get totals
 -- the entries of another map can be retracted one after another
 abbrev pub CanRetractAll : Totals → List (Option Key × (ℕ × ℤ)) → Type 0
 CanRetractAll totals [] = Unit {0}
-CanRetractAll totals (entry ∷ entries) = LeavesCountSum entry.1 (fin.get totals entry.0) × CanRetractAll (without_count_sum totals entry.0 entry.1) entries
+CanRetractAll totals (entry ∷ entries) = LeavesCountSum entry.1 (fin.get totals entry.0)
+    × CanRetractAll (without_count_sum totals entry.0 entry.1) entries
 
 -- the totals once they are retracted
 abbrev pub without_all : Totals → List (Option Key × (ℕ × ℤ)) → Totals
 without_all totals [] = totals
-without_all totals (entry ∷ entries) = without_all (without_count_sum totals entry.0 entry.1) entries
+without_all totals (entry ∷ entries) =
+    without_all (without_count_sum totals entry.0 entry.1) entries
 
 -- a count of at most 2^26, and a sum that this many numbers can have. Two such fit when they are added
 abbrev pub IsAddend : ℕ × ℤ → Type 0

@@ -19,7 +19,10 @@ standing count_sum = cond (count_sum.0 == 0) None (Some count_sum)
 -- counts and sums by number, if the list begins with this place
 abbrev pub entries_from : ℕ → List (ℕ × ℤ) → List (ℤ × (ℕ × ℤ))
 entries_from first [] = []
-entries_from first (count_sum ∷ count_sums) = cond (count_sum.0 == 0) (entries_from (first + 1) count_sums) ((place_number first, count_sum) ∷ entries_from (first + 1) count_sums)
+entries_from first (count_sum ∷ count_sums) =
+    cond (count_sum.0 == 0)
+    (entries_from (first + 1) count_sums)
+    ((place_number first, count_sum) ∷ entries_from (first + 1) count_sums)
 
 -- the totals of the places
 abbrev pub by_place : List (ℕ × ℤ) → Totals
@@ -37,7 +40,8 @@ entry_of place count_sum = cond (count_sum.0 == 0) [] ((place_number place, coun
 abbrev pub ranked : List (ℕ × ℤ) → ℕ → ℕ → List (ℤ × (ℕ × ℤ))
 ranked count_sums rank zero = []
 ranked count_sums rank (suc more) =
-    entry_of (rank_place (length count_sums / 2) rank) (slice_index_or count_sums (rank_place (length count_sums / 2) rank) (0, pos 0))
+    entry_of (rank_place (length count_sums / 2) rank)
+    (slice_index_or count_sums (rank_place (length count_sums / 2) rank) (0, pos 0))
     ++ ranked count_sums (rank + 1) more
 
 -- counts and sums by number, in the order of their numbers

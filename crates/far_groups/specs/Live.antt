@@ -15,16 +15,19 @@ pub record TotalsState : Type 0 where
 
 -- the code of live totals, which tells one value from another
 abbrev pub coded_totals_state : Coded TotalsState
-coded_totals_state = code_by (ℕ × Totals) (coded× coded_ℕ coded_totals) (λ live. (live.left, live.totals)) (λ p. record { left = p.0; totals = p.1 }) (λ _. refl)
+coded_totals_state = code_by (ℕ × Totals) (coded× coded_ℕ coded_totals)
+    (λ live. (live.left, live.totals)) (λ p. record { left = p.0; totals = p.1 }) (λ _. refl)
 
 -- a value can be retracted from a count and a sum if the sum that is left is one that the pairs left can have
 abbrev pub CanRetract : ℤ → Option (ℕ × ℤ) → Type 0
 CanRetract value None = ⊥
-CanRetract value (Some count_sum) = (1 ≤ count_sum.0) × IsSumOf (count_sum.0 - 1) (count_sum.1 -ℤ value)
+CanRetract value (Some count_sum) = (1 ≤ count_sum.0)
+    × IsSumOf (count_sum.0 - 1) (count_sum.1 -ℤ value)
 
 -- two totals can be joined if each key then has at most 2^26 pairs
 abbrev pub CanJoin : Totals → Totals → Type 0
-CanJoin one other = (key : Option Key) → count_in (fin.get one key) + count_in (fin.get other key) ≤ 2 ^ 26
+CanJoin one other = (key : Option Key)
+    → count_in (fin.get one key) + count_in (fin.get other key) ≤ 2 ^ 26
 
 -- totals in which one value under a key is replaced by another: the new one is added, and the old one is retracted
 abbrev pub with_replaced : Totals → Option Key → ℤ → ℤ → Totals

@@ -23,7 +23,8 @@ count_sum_at lines key = lookup (is_at (line_cmp key)) lines
 
 -- the keys that are only in the others, each with a count of 0 and a sum of 0
 abbrev pub new_lines : Lines → Lines → Lines
-new_lines lines others = map (λ line. (line.0, (0, pos 0))) (filter (λ line. not (is_some (count_sum_at lines line.0))) others)
+new_lines lines others = map (λ line. (line.0, (0, pos 0)))
+    (filter (λ line. not (is_some (count_sum_at lines line.0))) others)
 
 -- a count and a sum with more added, if there is more; a key that is not there is not added
 abbrev pub added_to : Option (ℕ × ℤ) → Option (ℕ × ℤ) → Option (ℕ × ℤ)

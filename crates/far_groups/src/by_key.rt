@@ -110,7 +110,8 @@ fn plain_with_key(
     requires more_valid_sums { IsCountSum more }
     requires capacity { count_in (fin.get (plain_totals count_sum) key.now) + more.0 ≤ 2 ^ 26 }
     requires other { IsSome key.now }
-    ensures ok { IfOk result (λ keys. totals_of keys.entries ≡ with_count_sum (plain_totals count_sum) key.now more) }
+    ensures ok { IfOk result
+        (λ keys. totals_of keys.entries ≡ with_count_sum (plain_totals count_sum) key.now more) }
     ensures valid_sums { IfOk result (λ keys. AreCountSums (totals_of keys.entries)) }
     ensures new { fin.get (plain_totals count_sum) key.now ≡ None }
     ensures memory { IfErr result (λ e. e ≡ Refusal.NoMemory) }
@@ -129,9 +130,11 @@ fn with_key(
 ) -> Result<Form, Refusal>
     requires valid_sums { AreCountSums (by_number numbers.now.entries) }
     requires more_valid_sums { IsCountSum more }
-    requires capacity { count_in (fin.get (by_number numbers.now.entries) key.now) + more.0 ≤ 2 ^ 26 }
+    requires capacity { count_in (fin.get (by_number numbers.now.entries) key.now) + more.0
+        ≤ 2 ^ 26 }
     requires other { number_of key.now ≡ None }
-    ensures ok { IfOk result (λ form. in_form form ≡ with_count_sum (by_number numbers.now.entries) key.now more) }
+    ensures ok { IfOk result
+        (λ form. in_form form ≡ with_count_sum (by_number numbers.now.entries) key.now more) }
     ensures valid_sums { IfOk result (λ form. AreCountSums (in_form form)) }
     ensures new { fin.get (by_number numbers.now.entries) key.now ≡ None }
     ensures memory { IfErr result (λ e. e ≡ Refusal.NoMemory) }
@@ -151,7 +154,8 @@ fn in_tree(
     requires valid_sums { AreCountSums (by_number numbers.entries) }
     requires more_valid_sums { IsCountSum more }
     requires capacity { count_in (fin.get (by_number numbers.entries) key.now) + more.0 ≤ 2 ^ 26 }
-    ensures ok { IfOk result (λ form. in_form form ≡ with_count_sum (by_number numbers.entries) key.now more) }
+    ensures ok { IfOk result
+        (λ form. in_form form ≡ with_count_sum (by_number numbers.entries) key.now more) }
     ensures valid_sums { IfOk result (λ form. AreCountSums (in_form form)) }
     ensures memory { IfErr result (λ e. e ≡ Refusal.NoMemory) }
 {
@@ -174,7 +178,8 @@ fn with_new_key(
     requires valid_sums { AreCountSums (by_place dense.now.items) }
     requires more_valid_sums { IsCountSum more }
     requires new { fin.get (by_place dense.now.items) key.now ≡ None }
-    ensures ok { IfOk result (λ form. in_form form ≡ with_count_sum (by_place dense.now.items) key.now more) }
+    ensures ok { IfOk result
+        (λ form. in_form form ≡ with_count_sum (by_place dense.now.items) key.now more) }
     ensures valid_sums { IfOk result (λ form. AreCountSums (in_form form)) }
     ensures memory { IfErr result (λ e. e ≡ Refusal.NoMemory) }
 {
@@ -207,7 +212,8 @@ pub fn add(by_key: &mut ByKey, key: Option<Key>, more: CountSum) -> Result<(), R
     requires more_valid_sums { IsCountSum more }
     requires capacity { count_in (fin.get (totals_in by_key.old) key) + more.0 ≤ 2 ^ 26 }
     ensures valid_sums { AreCountSums (totals_in by_key.new) }
-    ensures ok { OnOk result (totals_in by_key.new ≡ with_count_sum (totals_in by_key.old) key more) }
+    ensures ok { OnOk result
+        (totals_in by_key.new ≡ with_count_sum (totals_in by_key.old) key more) }
     ensures err { OnErr result (totals_in by_key.new ≡ totals_in by_key.old) }
     ensures only_new { OnErr result (fin.get (totals_in by_key.old) key ≡ None) }
     ensures memory { IfErr result (λ e. e ≡ Refusal.NoMemory) }
@@ -225,7 +231,8 @@ pub fn add_under(by_key: &mut ByKey, key: &Option<Key>, more: CountSum) -> Resul
     requires more_valid_sums { IsCountSum more }
     requires capacity { count_in (fin.get (totals_in by_key.old) key.now) + more.0 ≤ 2 ^ 26 }
     ensures valid_sums { AreCountSums (totals_in by_key.new) }
-    ensures ok { OnOk result (totals_in by_key.new ≡ with_count_sum (totals_in by_key.old) key.now more) }
+    ensures ok { OnOk result
+        (totals_in by_key.new ≡ with_count_sum (totals_in by_key.old) key.now more) }
     ensures err { OnErr result (totals_in by_key.new ≡ totals_in by_key.old) }
     ensures only_new { OnErr result (fin.get (totals_in by_key.old) key.now ≡ None) }
     ensures memory { IfErr result (λ e. e ≡ Refusal.NoMemory) }
@@ -266,7 +273,8 @@ fn add_elsewhere(
     requires capacity { count_in (fin.get (totals_in by_key.old) key.now) + count ≤ 2 ^ 26 }
     requires elsewhere { MayBeElsewhere by_key.old.form key.now }
     ensures valid_sums { AreCountSums (totals_in by_key.new) }
-    ensures ok { OnOk result (totals_in by_key.new ≡ with_count_sum (totals_in by_key.old) key.now (count, sum)) }
+    ensures ok { OnOk result
+        (totals_in by_key.new ≡ with_count_sum (totals_in by_key.old) key.now (count, sum)) }
     ensures err { OnErr result (totals_in by_key.new ≡ totals_in by_key.old) }
     ensures only_new { OnErr result (fin.get (totals_in by_key.old) key.now ≡ None) }
     ensures memory { IfErr result (λ e. e ≡ Refusal.NoMemory) }

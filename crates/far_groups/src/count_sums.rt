@@ -20,10 +20,13 @@ pub type CountSums = BTreeMap<Option<Key>, CountSum>;
 pub fn add_existing(count_sums: &mut CountSums, key: &Option<Key>, more: CountSum) -> bool
     requires valid_sums { AreCountSums (totals_of count_sums.old.entries) }
     requires more_valid_sums { IsCountSum more }
-    requires capacity { count_in (fin.get (totals_of count_sums.old.entries) key.now) + more.0 ≤ 2 ^ 26 }
+    requires capacity { count_in (fin.get (totals_of count_sums.old.entries) key.now) + more.0
+        ≤ 2 ^ 26 }
     ensures valid_sums { AreCountSums (totals_of count_sums.new.entries) }
     ensures there { result ≡ is_some (fin.get (totals_of count_sums.old.entries) key.now) }
-    ensures added { IsTrue result → totals_of count_sums.new.entries ≡ with_count_sum (totals_of count_sums.old.entries) key.now more }
+    ensures added { IsTrue result
+        → totals_of count_sums.new.entries
+        ≡ with_count_sum (totals_of count_sums.old.entries) key.now more }
     ensures absent { result ≡ false → count_sums.new.entries ≡ count_sums.old.entries }
 {
     match count_sums.get_mut(key) {
@@ -39,9 +42,12 @@ pub fn add_existing(count_sums: &mut CountSums, key: &Option<Key>, more: CountSu
 pub fn add(count_sums: &mut CountSums, key: Option<Key>, more: CountSum) -> Result<(), Refusal>
     requires valid_sums { AreCountSums (totals_of count_sums.old.entries) }
     requires more_valid_sums { IsCountSum more }
-    requires capacity { count_in (fin.get (totals_of count_sums.old.entries) key) + more.0 ≤ 2 ^ 26 }
+    requires capacity { count_in (fin.get (totals_of count_sums.old.entries) key) + more.0
+        ≤ 2 ^ 26 }
     ensures valid_sums { AreCountSums (totals_of count_sums.new.entries) }
-    ensures ok { OnOk result (totals_of count_sums.new.entries ≡ with_count_sum (totals_of count_sums.old.entries) key more) }
+    ensures ok { OnOk result
+        (totals_of count_sums.new.entries
+        ≡ with_count_sum (totals_of count_sums.old.entries) key more) }
     ensures err { OnErr result (count_sums.new.entries ≡ count_sums.old.entries) }
     ensures only_new { OnErr result (fin.get (totals_of count_sums.old.entries) key ≡ None) }
     ensures memory { IfErr result (λ e. e ≡ Refusal.NoMemory) }
@@ -60,9 +66,12 @@ pub fn add_under(
 ) -> Result<(), Refusal>
     requires valid_sums { AreCountSums (totals_of count_sums.old.entries) }
     requires more_valid_sums { IsCountSum more }
-    requires capacity { count_in (fin.get (totals_of count_sums.old.entries) key.now) + more.0 ≤ 2 ^ 26 }
+    requires capacity { count_in (fin.get (totals_of count_sums.old.entries) key.now) + more.0
+        ≤ 2 ^ 26 }
     ensures valid_sums { AreCountSums (totals_of count_sums.new.entries) }
-    ensures ok { OnOk result (totals_of count_sums.new.entries ≡ with_count_sum (totals_of count_sums.old.entries) key.now more) }
+    ensures ok { OnOk result
+        (totals_of count_sums.new.entries
+        ≡ with_count_sum (totals_of count_sums.old.entries) key.now more) }
     ensures err { OnErr result (count_sums.new.entries ≡ count_sums.old.entries) }
     ensures only_new { OnErr result (fin.get (totals_of count_sums.old.entries) key.now ≡ None) }
     ensures memory { IfErr result (λ e. e ≡ Refusal.NoMemory) }
@@ -79,7 +88,8 @@ pub fn take(count_sums: &mut CountSums, key: &Option<Key>, less: CountSum)
     requires valid_sums { AreCountSums (totals_of count_sums.old.entries) }
     requires there { LeavesCountSum less (fin.get (totals_of count_sums.old.entries) key.now) }
     ensures valid_sums { AreCountSums (totals_of count_sums.new.entries) }
-    ensures less { totals_of count_sums.new.entries ≡ without_count_sum (totals_of count_sums.old.entries) key.now less }
+    ensures less { totals_of count_sums.new.entries
+        ≡ without_count_sum (totals_of count_sums.old.entries) key.now less }
 {
     match count_sums.get_mut(key) {
         None => {}
@@ -100,7 +110,8 @@ pub fn replace(count_sums: &mut CountSums, key: &Option<Key>, from: i64, to: i64
     requires valid_sums { AreCountSums (totals_of count_sums.old.entries) }
     requires there { CanRetract from (fin.get (totals_of count_sums.old.entries) key.now) }
     ensures valid_sums { AreCountSums (totals_of count_sums.new.entries) }
-    ensures replaced { totals_of count_sums.new.entries ≡ with_replaced (totals_of count_sums.old.entries) key.now from to }
+    ensures replaced { totals_of count_sums.new.entries
+        ≡ with_replaced (totals_of count_sums.old.entries) key.now from to }
 {
     match count_sums.get_mut(key) {
         None => {}
@@ -111,8 +122,10 @@ pub fn replace(count_sums: &mut CountSums, key: &Option<Key>, from: i64, to: i64
 /// Subtracts the first `count` entries of another map from these. Allocates nothing.
 fn retract_first(count_sums: &mut CountSums, other: &CountSums, count: usize)
     requires valid_sums { AreCountSums (totals_of count_sums.old.entries) }
-    requires there { CanRetractAll (totals_of count_sums.old.entries) (take count other.now.entries) }
-    ensures { totals_of count_sums.new.entries ≡ without_all (totals_of count_sums.old.entries) (take count other.now.entries) }
+    requires there { CanRetractAll (totals_of count_sums.old.entries)
+        (take count other.now.entries) }
+    ensures { totals_of count_sums.new.entries
+        ≡ without_all (totals_of count_sums.old.entries) (take count other.now.entries) }
 {
     let mut left = count;
     for (key, count_sum) in other {
@@ -130,8 +143,11 @@ pub fn join(count_sums: &mut CountSums, other: &CountSums) -> Result<(), Refusal
     requires other_valid_sums { AreCountSums (totals_of other.now.entries) }
     requires can_join { CanJoin (totals_of count_sums.old.entries) (totals_of other.now.entries) }
     ensures valid_sums { AreCountSums (totals_of count_sums.new.entries) }
-    ensures ok { OnOk result (totals_of count_sums.new.entries ≡ joined_totals (totals_of count_sums.old.entries) (totals_of other.now.entries)) }
-    ensures err { OnErr result (totals_of count_sums.new.entries ≡ totals_of count_sums.old.entries) }
+    ensures ok { OnOk result
+        (totals_of count_sums.new.entries
+        ≡ joined_totals (totals_of count_sums.old.entries) (totals_of other.now.entries)) }
+    ensures err { OnErr result
+        (totals_of count_sums.new.entries ≡ totals_of count_sums.old.entries) }
     ensures memory { IfErr result (λ e. e ≡ Refusal.NoMemory) }
 {
     let mut done = 0;
@@ -152,7 +168,10 @@ pub fn lines(
     alloc: Global,
     count_sums: &CountSums,
 ) -> Result<Vec<(Option<Key>, u64, i128)>, Refusal>
-    ensures ok { IfOk result (λ lines. lines.items ≡ map (λ (entry : Option Key × (ℕ × ℤ)). (entry.0, entry.1.0, entry.1.1)) count_sums.now.entries) }
+    ensures ok { IfOk result
+        (λ lines. lines.items
+        ≡ map (λ (entry : Option Key × (ℕ × ℤ)). (entry.0, entry.1.0, entry.1.1))
+        count_sums.now.entries) }
     ensures ordered { IsOrdered line_cmp count_sums.now }
     ensures memory { IfErr result (λ e. e ≡ Refusal.NoMemory) }
 {

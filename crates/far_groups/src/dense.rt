@@ -62,7 +62,8 @@ fn added(count_sum: CountSum, more: CountSum) -> CountSum
     requires valid_sums { IfSome (standing count_sum) IsCountSum }
     requires more_valid_sums { IsCountSum more }
     requires capacity { count_in (standing count_sum) + more.0 ≤ 2 ^ 26 }
-    ensures value { result ≡ option_map_or (λ there. add_count_sums there more) (standing count_sum) more }
+    ensures value { result
+        ≡ option_map_or (λ there. add_count_sums there more) (standing count_sum) more }
     ensures valid_sums { IsCountSum result }
 {
     if count_sum.count == 0 {
@@ -76,10 +77,13 @@ fn added(count_sum: CountSum, more: CountSum) -> CountSum
 pub fn add_existing(dense: &mut Dense, place: usize, more: CountSum) -> bool
     requires valid_sums { AreCountSums (by_place dense.old.items) }
     requires more_valid_sums { IsCountSum more }
-    requires capacity { count_in (fin.get (by_place dense.old.items) (place_key place)) + more.0 ≤ 2 ^ 26 }
+    requires capacity { count_in (fin.get (by_place dense.old.items) (place_key place)) + more.0
+        ≤ 2 ^ 26 }
     ensures valid_sums { AreCountSums (by_place dense.new.items) }
     ensures there { place < length dense.old.items → result ≡ true }
-    ensures added { IsTrue result → by_place dense.new.items ≡ with_count_sum (by_place dense.old.items) (place_key place) more }
+    ensures added { IsTrue result
+        → by_place dense.new.items
+        ≡ with_count_sum (by_place dense.old.items) (place_key place) more }
     ensures absent { result ≡ false → dense.new.items ≡ dense.old.items }
     ensures behind { result ≡ false → length dense.old.items ≤ place }
     ensures len { length dense.new.items ≡ length dense.old.items }
@@ -107,10 +111,13 @@ fn grow(dense: &mut Dense, len: usize) -> Result<(), Refusal>
 pub fn add(dense: &mut Dense, place: usize, more: CountSum) -> Result<(), Refusal>
     requires valid_sums { AreCountSums (by_place dense.old.items) }
     requires more_valid_sums { IsCountSum more }
-    requires capacity { count_in (fin.get (by_place dense.old.items) (place_key place)) + more.0 ≤ 2 ^ 26 }
+    requires capacity { count_in (fin.get (by_place dense.old.items) (place_key place)) + more.0
+        ≤ 2 ^ 26 }
     requires fits { place < 2 ^ 63 }
     ensures valid_sums { AreCountSums (by_place dense.new.items) }
-    ensures ok { OnOk result (by_place dense.new.items ≡ with_count_sum (by_place dense.old.items) (place_key place) more) }
+    ensures ok { OnOk result
+        (by_place dense.new.items
+        ≡ with_count_sum (by_place dense.old.items) (place_key place) more) }
     ensures err { OnErr result (by_place dense.new.items ≡ by_place dense.old.items) }
     ensures only_new { OnErr result (fin.get (by_place dense.old.items) (place_key place) ≡ None) }
     ensures memory { IfErr result (λ e. e ≡ Refusal.NoMemory) }
@@ -128,7 +135,8 @@ pub fn take(dense: &mut Dense, place: usize, less: CountSum)
     requires valid_sums { AreCountSums (by_place dense.old.items) }
     requires there { LeavesCountSum less (fin.get (by_place dense.old.items) (place_key place)) }
     ensures valid_sums { AreCountSums (by_place dense.new.items) }
-    ensures less { by_place dense.new.items ≡ without_count_sum (by_place dense.old.items) (place_key place) less }
+    ensures less { by_place dense.new.items
+        ≡ without_count_sum (by_place dense.old.items) (place_key place) less }
 {
     if place < dense.len() {
         dense[place] = dense[place].subtract(less);
@@ -141,7 +149,8 @@ pub fn replace(dense: &mut Dense, place: usize, from: i64, to: i64)
     requires valid_sums { AreCountSums (by_place dense.old.items) }
     requires there { CanRetract from (fin.get (by_place dense.old.items) (place_key place)) }
     ensures valid_sums { AreCountSums (by_place dense.new.items) }
-    ensures replaced { by_place dense.new.items ≡ with_replaced (by_place dense.old.items) (place_key place) from to }
+    ensures replaced { by_place dense.new.items
+        ≡ with_replaced (by_place dense.old.items) (place_key place) from to }
 {
     if place < dense.len() {
         dense[place] = dense[place].replace(from, to);
@@ -168,7 +177,9 @@ pub fn join(dense: &mut Dense, other: &Dense) -> Result<(), Refusal>
     requires other_valid_sums { AreCountSums (by_place other.now.items) }
     requires can_join { CanJoin (by_place dense.old.items) (by_place other.now.items) }
     ensures valid_sums { AreCountSums (by_place dense.new.items) }
-    ensures ok { OnOk result (by_place dense.new.items ≡ joined_totals (by_place dense.old.items) (by_place other.now.items)) }
+    ensures ok { OnOk result
+        (by_place dense.new.items
+        ≡ joined_totals (by_place dense.old.items) (by_place other.now.items)) }
     ensures err { OnErr result (by_place dense.new.items ≡ by_place dense.old.items) }
     ensures memory { IfErr result (λ e. e ≡ Refusal.NoMemory) }
 {
@@ -223,7 +234,8 @@ pub fn places_for(numbers: &Numbers) -> Option<usize>
 pub fn dense_of(alloc: Global, numbers: &Numbers, places: usize) -> Result<Option<Dense>, Refusal>
     requires valid_sums { AreCountSums (by_number numbers.now.entries) }
     requires fits { places ≤ 2 ^ 28 }
-    ensures same { IfOk result (λ made. IfSome made (λ dense. by_place dense.items ≡ by_number numbers.now.entries)) }
+    ensures same { IfOk result
+        (λ made. IfSome made (λ dense. by_place dense.items ≡ by_number numbers.now.entries)) }
     ensures memory { IfErr result (λ e. e ≡ Refusal.NoMemory) }
 {
     let mut dense = Vec::with_capacity(alloc, places)?;

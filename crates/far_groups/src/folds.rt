@@ -16,8 +16,10 @@ pub type Pair = (Option<Key>, i64);
 fn undo_first(count_sums: &mut ByKey, pairs: &[Pair], count: usize)
     requires within { count ≤ length pairs.now }
     requires valid_sums { AreCountSums (totals_in count_sums.old) }
-    requires folded { (start : Totals) × HasFolded start (take count pairs.now) (totals_in count_sums.old) }
-    ensures { (start : Totals) → HasFolded start (take count pairs.now) (totals_in count_sums.old) → totals_in count_sums.new ≡ start }
+    requires folded { (start : Totals)
+        × HasFolded start (take count pairs.now) (totals_in count_sums.old) }
+    ensures { (start : Totals) → HasFolded start (take count pairs.now) (totals_in count_sums.old)
+        → totals_in count_sums.new ≡ start }
 {
     for done in 0..count {
         let pair = &pairs[count - 1 - done];
@@ -30,7 +32,8 @@ pub fn fold_all(count_sums: &mut ByKey, pairs: &[Pair]) -> Result<(), Refusal>
     requires valid_sums { AreCountSums (totals_in count_sums.old) }
     requires can { CanFoldAll (totals_in count_sums.old) pairs.now }
     ensures valid_sums { AreCountSums (totals_in count_sums.new) }
-    ensures ok { OnOk result (totals_in count_sums.new ≡ with_pairs (totals_in count_sums.old) pairs.now) }
+    ensures ok { OnOk result
+        (totals_in count_sums.new ≡ with_pairs (totals_in count_sums.old) pairs.now) }
     ensures err { OnErr result (totals_in count_sums.new ≡ totals_in count_sums.old) }
     ensures memory { IfErr result (λ e. e ≡ Refusal.NoMemory) }
 {

@@ -54,7 +54,8 @@ impl<'a> Walk<'a> {
     /// Goes past the lines below a key and that of the key. Returns the key's count and sum.
     fn find(&mut self, key: &Option<Key>) -> Option<CountSum>
         ensures found { result ≡ count_sum_at self.old key.now }
-        ensures rest { (above : Option Key) → line_cmp key.now above ≡ Less → count_sum_at self.new above ≡ count_sum_at self.old above }
+        ensures rest { (above : Option Key) → line_cmp key.now above ≡ Less
+            → count_sum_at self.new above ≡ count_sum_at self.old above }
     {
         while let Some((next, count_sum)) = self.next {
             match next.cmp(key) {
@@ -76,7 +77,8 @@ fn new_lines(
     count_sums: &CountSums,
     other: &CountSums,
 ) -> Result<Vec<(Option<Key>, CountSum)>, Refusal>
-    ensures ok { IfOk result (λ lines. lines.items ≡ new_lines count_sums.now.entries other.now.entries) }
+    ensures ok { IfOk result
+        (λ lines. lines.items ≡ new_lines count_sums.now.entries other.now.entries) }
     ensures ordered { IsOrdered line_cmp other.now }
     ensures memory { IfErr result (λ e. e ≡ Refusal.NoMemory) }
 {
@@ -102,8 +104,12 @@ pub fn map_of(alloc: Global, lines: Vec<(Option<Key>, CountSum)>) -> Result<Coun
 /// Inserts the keys that are only in the other map, each with a count of 0. If memory runs out, it removes all keys of count 0.
 fn reserve_keys(alloc: Global, count_sums: &mut CountSums, other: &CountSums) -> Result<(), Refusal>
     requires valid_sums { AreCountSums (totals_of count_sums.old.entries) }
-    ensures ok { OnOk result (totals_of count_sums.new.entries ≡ joined_totals (totals_of count_sums.old.entries) (totals_of (new_lines count_sums.old.entries other.now.entries))) }
-    ensures err { OnErr result (totals_of count_sums.new.entries ≡ totals_of count_sums.old.entries) }
+    ensures ok { OnOk result
+        (totals_of count_sums.new.entries
+        ≡ joined_totals (totals_of count_sums.old.entries)
+        (totals_of (new_lines count_sums.old.entries other.now.entries))) }
+    ensures err { OnErr result
+        (totals_of count_sums.new.entries ≡ totals_of count_sums.old.entries) }
     ensures memory { IfErr result (λ e. e ≡ Refusal.NoMemory) }
 {
     let lines = new_lines(alloc, count_sums, other)?;
@@ -129,8 +135,12 @@ fn added(count_sum: CountSum, more: CountSum) -> CountSum
 
 /// Adds the counts and sums of the other map under each key that both have. Allocates nothing.
 fn add_all_existing(count_sums: &mut CountSums, other: &CountSums)
-    requires addends { (key : Option Key) → AreAddends (count_sum_at count_sums.old.entries key) (count_sum_at other.now.entries key) }
-    ensures { (key : Option Key) → count_sum_at count_sums.new.entries key ≡ added_to (count_sum_at other.now.entries key) (count_sum_at count_sums.old.entries key) }
+    requires addends { (key : Option Key)
+        → AreAddends (count_sum_at count_sums.old.entries key)
+        (count_sum_at other.now.entries key) }
+    ensures { (key : Option Key)
+        → count_sum_at count_sums.new.entries key
+        ≡ added_to (count_sum_at other.now.entries key) (count_sum_at count_sums.old.entries key) }
 {
     let mut walk = Walk::new(other);
     count_sums.retain(|key, count_sum| {
@@ -147,8 +157,11 @@ fn join_walking(alloc: Global, count_sums: &mut CountSums, other: &CountSums) ->
     requires other_valid_sums { AreCountSums (totals_of other.now.entries) }
     requires can_join { CanJoin (totals_of count_sums.old.entries) (totals_of other.now.entries) }
     ensures valid_sums { AreCountSums (totals_of count_sums.new.entries) }
-    ensures ok { OnOk result (totals_of count_sums.new.entries ≡ joined_totals (totals_of count_sums.old.entries) (totals_of other.now.entries)) }
-    ensures err { OnErr result (totals_of count_sums.new.entries ≡ totals_of count_sums.old.entries) }
+    ensures ok { OnOk result
+        (totals_of count_sums.new.entries
+        ≡ joined_totals (totals_of count_sums.old.entries) (totals_of other.now.entries)) }
+    ensures err { OnErr result
+        (totals_of count_sums.new.entries ≡ totals_of count_sums.old.entries) }
     ensures memory { IfErr result (λ e. e ≡ Refusal.NoMemory) }
 {
     reserve_keys(alloc, count_sums, other)?;
@@ -162,8 +175,11 @@ pub fn join_all(alloc: Global, count_sums: &mut CountSums, other: &CountSums) ->
     requires other_valid_sums { AreCountSums (totals_of other.now.entries) }
     requires can_join { CanJoin (totals_of count_sums.old.entries) (totals_of other.now.entries) }
     ensures valid_sums { AreCountSums (totals_of count_sums.new.entries) }
-    ensures ok { OnOk result (totals_of count_sums.new.entries ≡ joined_totals (totals_of count_sums.old.entries) (totals_of other.now.entries)) }
-    ensures err { OnErr result (totals_of count_sums.new.entries ≡ totals_of count_sums.old.entries) }
+    ensures ok { OnOk result
+        (totals_of count_sums.new.entries
+        ≡ joined_totals (totals_of count_sums.old.entries) (totals_of other.now.entries)) }
+    ensures err { OnErr result
+        (totals_of count_sums.new.entries ≡ totals_of count_sums.old.entries) }
     ensures memory { IfErr result (λ e. e ≡ Refusal.NoMemory) }
 {
     if other.len() < count_sums.len() / WALKED {

@@ -15,14 +15,21 @@ ghost use Rattle.far_groups.specs.CountSums.{IsCountSum};
 /// - No more values stand under a key than there are pairs.
 /// - The totals of at most 2^26 pairs can be joined.
 pub fn pairs_meet_the_conditions()
-    ensures retractable { (pair : Pair) → (pairs : List Pair) → PairsFit (pair ∷ pairs) → CanRetract pair.1 (fin.get (totals (pair ∷ pairs)) pair.0) }
-    ensures counted { (pairs : List Pair) → (key : Option Key) → count_in (fin.get (totals pairs) key) ≤ length pairs }
-    ensures joinable { (some : List Pair) → (others : List Pair) → length some + length others ≤ 2 ^ 26 → CanJoin (totals some) (totals others) }
+    ensures retractable { (pair : Pair) → (pairs : List Pair) → PairsFit (pair ∷ pairs)
+        → CanRetract pair.1 (fin.get (totals (pair ∷ pairs)) pair.0) }
+    ensures counted { (pairs : List Pair) → (key : Option Key)
+        → count_in (fin.get (totals pairs) key) ≤ length pairs }
+    ensures joinable { (some : List Pair) → (others : List Pair)
+        → length some + length others ≤ 2 ^ 26 → CanJoin (totals some) (totals others) }
 {}
 
 /// Rows that all stand under one key, as `add_rows` takes them: their totals are their count and their sum under that key. Rows can have
 /// such a count and such a sum.
 pub fn rows_under_one_key_are_folded()
-    ensures totals { (key : Option Key) → (value : ℤ) → (values : List ℤ) → totals (map (λ each. (key, each)) (value ∷ values)) ≡ fin.insert fin.empty key (count_sum (value ∷ values)) }
-    ensures valid_sums { (value : ℤ) → (values : List ℤ) → AllByRecursion (FitsSigned w64) (value ∷ values) → length (value ∷ values) ≤ 2 ^ 26 → IsCountSum (count_sum (value ∷ values)) }
+    ensures totals { (key : Option Key) → (value : ℤ) → (values : List ℤ)
+        → totals (map (λ each. (key, each)) (value ∷ values))
+        ≡ fin.insert fin.empty key (count_sum (value ∷ values)) }
+    ensures valid_sums { (value : ℤ) → (values : List ℤ)
+        → AllByRecursion (FitsSigned w64) (value ∷ values) → length (value ∷ values) ≤ 2 ^ 26
+        → IsCountSum (count_sum (value ∷ values)) }
 {}

@@ -64,7 +64,8 @@ impl LiveTotals {
     /// Refused with `NoMemory` (1) alone, and only if the key is new. Then nothing is changed.
     pub fn add(&mut self, key: Option<Key>, value: i64) -> Result<(), Refusal>
         requires { count_in (fin.get self.old.totals key) < 2 ^ 26 }
-        ensures ok { OnOk result (self.new ≡ record self.old { totals = with_pair self.old.totals (key, value) }) }
+        ensures ok { OnOk result
+            (self.new ≡ record self.old { totals = with_pair self.old.totals (key, value) }) }
         ensures err { OnErr result (self.new ≡ self.old) }
         ensures only_new { OnErr result (fin.get self.old.totals key ≡ None) }
         ensures memory { IfErr result (λ e. e ≡ Refusal.NoMemory) }
@@ -76,7 +77,8 @@ impl LiveTotals {
     #[inline(always)]
     pub fn add_under(&mut self, key: &Option<Key>, value: i64) -> Result<(), Refusal>
         requires { count_in (fin.get self.old.totals key.now) < 2 ^ 26 }
-        ensures ok { OnOk result (self.new ≡ record self.old { totals = with_pair self.old.totals (key.now, value) }) }
+        ensures ok { OnOk result
+            (self.new ≡ record self.old { totals = with_pair self.old.totals (key.now, value) }) }
         ensures err { OnErr result (self.new ≡ self.old) }
         ensures only_new { OnErr result (fin.get self.old.totals key.now ≡ None) }
         ensures memory { IfErr result (λ e. e ≡ Refusal.NoMemory) }
@@ -89,7 +91,11 @@ impl LiveTotals {
     pub fn add_rows(&mut self, key: Option<Key>, count_sum: CountSum) -> Result<(), Refusal>
         requires valid_sums { IsCountSum count_sum }
         requires capacity { count_in (fin.get self.old.totals key) + count_sum.0 ≤ 2 ^ 26 }
-        ensures ok { OnOk result (self.new ≡ record self.old { totals = joined_totals self.old.totals (fin.insert fin.empty key count_sum) }) }
+        ensures ok { OnOk result
+            (self.new
+            ≡ record self.old {
+              totals = joined_totals self.old.totals (fin.insert fin.empty key count_sum);
+            }) }
         ensures err { OnErr result (self.new ≡ self.old) }
         ensures only_new { OnErr result (fin.get self.old.totals key ≡ None) }
         ensures memory { IfErr result (λ e. e ≡ Refusal.NoMemory) }
@@ -101,7 +107,8 @@ impl LiveTotals {
     #[inline(always)]
     pub fn take(&mut self, key: &Option<Key>, value: i64)
         requires { CanRetract value (fin.get self.old.totals key.now) }
-        ensures { self.new ≡ record self.old { totals = without_pair self.old.totals (key.now, value) } }
+        ensures { self.new
+            ≡ record self.old { totals = without_pair self.old.totals (key.now, value) } }
     {
         take(&mut self.count_sums, key, CountSum::of(value));
     }
@@ -111,7 +118,8 @@ impl LiveTotals {
     #[inline(always)]
     pub fn replace(&mut self, key: &Option<Key>, from: i64, to: i64)
         requires { CanRetract from (fin.get self.old.totals key.now) }
-        ensures { self.new ≡ record self.old { totals = with_replaced self.old.totals key.now from to } }
+        ensures { self.new
+            ≡ record self.old { totals = with_replaced self.old.totals key.now from to } }
     {
         replace(&mut self.count_sums, key, from, to);
     }
@@ -127,7 +135,12 @@ impl LiveTotals {
     pub fn merge(&mut self, other: &LiveTotals) -> Result<(), Refusal>
         requires left { self.old.left ≢ 0 }
         requires can_join { CanJoin self.old.totals other.now.totals }
-        ensures ok { OnOk result (self.new ≡ record { left = self.old.left - 1; totals = joined_totals self.old.totals other.now.totals }) }
+        ensures ok { OnOk result
+            (self.new
+            ≡ record {
+              left = self.old.left - 1;
+              totals = joined_totals self.old.totals other.now.totals;
+            }) }
         ensures err { OnErr result (self.new ≡ self.old) }
         ensures memory { IfErr result (λ e. e ≡ Refusal.NoMemory) }
     {
@@ -143,7 +156,12 @@ impl LiveTotals {
         requires left { self.old.left ≢ 0 }
         requires fits { PairsFit pairs.now }
         requires can_join { CanJoin self.old.totals (totals pairs.now) }
-        ensures ok { OnOk result (self.new ≡ record { left = self.old.left - 1; totals = joined_totals self.old.totals (totals pairs.now) }) }
+        ensures ok { OnOk result
+            (self.new
+            ≡ record {
+              left = self.old.left - 1;
+              totals = joined_totals self.old.totals (totals pairs.now);
+            }) }
         ensures err { OnErr result (self.new ≡ self.old) }
         ensures memory { IfErr result (λ e. e ≡ Refusal.NoMemory) }
     {

@@ -22,10 +22,14 @@ pub type Numbers = BTreeMap<i64, CountSum>;
 fn add_existing(numbers: &mut Numbers, number: &i64, more: CountSum) -> bool
     requires valid_sums { AreCountSums (by_number numbers.old.entries) }
     requires more_valid_sums { IsCountSum more }
-    requires capacity { count_in (fin.get (by_number numbers.old.entries) (number_key number.now)) + more.0 ≤ 2 ^ 26 }
+    requires capacity { count_in (fin.get (by_number numbers.old.entries) (number_key number.now))
+        + more.0 ≤ 2 ^ 26 }
     ensures valid_sums { AreCountSums (by_number numbers.new.entries) }
-    ensures there { result ≡ is_some (fin.get (by_number numbers.old.entries) (number_key number.now)) }
-    ensures added { IsTrue result → by_number numbers.new.entries ≡ with_count_sum (by_number numbers.old.entries) (number_key number.now) more }
+    ensures there { result
+        ≡ is_some (fin.get (by_number numbers.old.entries) (number_key number.now)) }
+    ensures added { IsTrue result
+        → by_number numbers.new.entries
+        ≡ with_count_sum (by_number numbers.old.entries) (number_key number.now) more }
     ensures absent { result ≡ false → numbers.new.entries ≡ numbers.old.entries }
 {
     match numbers.get_mut(number) {
@@ -41,11 +45,15 @@ fn add_existing(numbers: &mut Numbers, number: &i64, more: CountSum) -> bool
 pub fn add(numbers: &mut Numbers, number: &i64, more: CountSum) -> Result<(), Refusal>
     requires valid_sums { AreCountSums (by_number numbers.old.entries) }
     requires more_valid_sums { IsCountSum more }
-    requires capacity { count_in (fin.get (by_number numbers.old.entries) (number_key number.now)) + more.0 ≤ 2 ^ 26 }
+    requires capacity { count_in (fin.get (by_number numbers.old.entries) (number_key number.now))
+        + more.0 ≤ 2 ^ 26 }
     ensures valid_sums { AreCountSums (by_number numbers.new.entries) }
-    ensures ok { OnOk result (by_number numbers.new.entries ≡ with_count_sum (by_number numbers.old.entries) (number_key number.now) more) }
+    ensures ok { OnOk result
+        (by_number numbers.new.entries
+        ≡ with_count_sum (by_number numbers.old.entries) (number_key number.now) more) }
     ensures err { OnErr result (numbers.new.entries ≡ numbers.old.entries) }
-    ensures only_new { OnErr result (fin.get (by_number numbers.old.entries) (number_key number.now) ≡ None) }
+    ensures only_new { OnErr result
+        (fin.get (by_number numbers.old.entries) (number_key number.now) ≡ None) }
     ensures memory { IfErr result (λ e. e ≡ Refusal.NoMemory) }
 {
     if !add_existing(numbers, number, more) {
@@ -58,9 +66,11 @@ pub fn add(numbers: &mut Numbers, number: &i64, more: CountSum) -> Result<(), Re
 #[inline(never)]
 pub fn take(numbers: &mut Numbers, number: &i64, less: CountSum)
     requires valid_sums { AreCountSums (by_number numbers.old.entries) }
-    requires there { LeavesCountSum less (fin.get (by_number numbers.old.entries) (number_key number.now)) }
+    requires there { LeavesCountSum less
+        (fin.get (by_number numbers.old.entries) (number_key number.now)) }
     ensures valid_sums { AreCountSums (by_number numbers.new.entries) }
-    ensures less { by_number numbers.new.entries ≡ without_count_sum (by_number numbers.old.entries) (number_key number.now) less }
+    ensures less { by_number numbers.new.entries
+        ≡ without_count_sum (by_number numbers.old.entries) (number_key number.now) less }
 {
     match numbers.get_mut(number) {
         None => {}
@@ -79,9 +89,11 @@ pub fn take(numbers: &mut Numbers, number: &i64, less: CountSum)
 #[inline(never)]
 pub fn replace(numbers: &mut Numbers, number: &i64, from: i64, to: i64)
     requires valid_sums { AreCountSums (by_number numbers.old.entries) }
-    requires there { CanRetract from (fin.get (by_number numbers.old.entries) (number_key number.now)) }
+    requires there { CanRetract from
+        (fin.get (by_number numbers.old.entries) (number_key number.now)) }
     ensures valid_sums { AreCountSums (by_number numbers.new.entries) }
-    ensures replaced { by_number numbers.new.entries ≡ with_replaced (by_number numbers.old.entries) (number_key number.now) from to }
+    ensures replaced { by_number numbers.new.entries
+        ≡ with_replaced (by_number numbers.old.entries) (number_key number.now) from to }
 {
     match numbers.get_mut(number) {
         None => {}
@@ -92,8 +104,10 @@ pub fn replace(numbers: &mut Numbers, number: &i64, from: i64, to: i64)
 /// Subtracts the first `count` entries of another map from these. Allocates nothing.
 fn retract_first(numbers: &mut Numbers, other: &Numbers, count: usize)
     requires valid_sums { AreCountSums (by_number numbers.old.entries) }
-    requires there { CanRetractAll (by_number numbers.old.entries) (take count (numbered other.now.entries)) }
-    ensures { by_number numbers.new.entries ≡ without_all (by_number numbers.old.entries) (take count (numbered other.now.entries)) }
+    requires there { CanRetractAll (by_number numbers.old.entries)
+        (take count (numbered other.now.entries)) }
+    ensures { by_number numbers.new.entries
+        ≡ without_all (by_number numbers.old.entries) (take count (numbered other.now.entries)) }
 {
     let mut left = count;
     for (number, count_sum) in other {
@@ -111,7 +125,9 @@ pub fn join(numbers: &mut Numbers, other: &Numbers) -> Result<(), Refusal>
     requires other_valid_sums { AreCountSums (by_number other.now.entries) }
     requires can_join { CanJoin (by_number numbers.old.entries) (by_number other.now.entries) }
     ensures valid_sums { AreCountSums (by_number numbers.new.entries) }
-    ensures ok { OnOk result (by_number numbers.new.entries ≡ joined_totals (by_number numbers.old.entries) (by_number other.now.entries)) }
+    ensures ok { OnOk result
+        (by_number numbers.new.entries
+        ≡ joined_totals (by_number numbers.old.entries) (by_number other.now.entries)) }
     ensures err { OnErr result (by_number numbers.new.entries ≡ by_number numbers.old.entries) }
     ensures memory { IfErr result (λ e. e ≡ Refusal.NoMemory) }
 {

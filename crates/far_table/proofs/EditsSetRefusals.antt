@@ -15,7 +15,7 @@ use Rattle.far_types.specs.Bounds.{is_text}
 use Rattle.far_types.specs.Edits.{edit_faults, overfills, text_object_length, places_after}
 use Rattle.far_types.specs.FirstOf.{first_of}
 use Rattle.far_log.specs.RegionState.{fits_in}
-use Rattle.far_vector.specs.Vector.{Vector, IsShaped}
+use Rattle.far_columns.specs.Vector.{Vector, IsShaped}
 use Rattle.far_texts.specs.Texts.{Texts, HasGroups}
 use Rattle.far_rows.specs.declared.object.Object.{Object}
 use Rattle.far_rows.specs.declared.new_cell.NewCell.{NewCell}

@@ -14,9 +14,9 @@ use Rattle.far_codec.specs.Reading.{ints_meaning, IsIntsForm}
 use Rattle.far_codec.specs.TextForm.{texts_meaning, IsTextsForm}
 use Rattle.far_codec.proofs.LentForms.{ints_second}
 use Rattle.far_codec.proofs.FormsMeaning.{ints_meant}
-use Rattle.far_vector.specs.Vector.{Vector, IsVector, IsShaped, group_list}
-use Rattle.far_vector.proofs.VectorGroups.{list-of-group}
-use Rattle.far_vector.proofs.VectorLaws.{length-elements}
+use Rattle.far_columns.specs.Vector.{Vector, IsVector, IsShaped, group_list}
+use Rattle.far_columns.proofs.VectorGroups.{list-of-group}
+use Rattle.far_columns.proofs.VectorLaws.{length-elements}
 use Rattle.far_texts.specs.Texts.{Texts, HasGroups, IsTextColumn, lists_of, texts_in}
 use Rattle.far_columns.specs.Numbers.{Numbers, number_lists, numbers_in}
 use Rattle.far_texts.proofs.TextsInGroups.{texts-of-group}

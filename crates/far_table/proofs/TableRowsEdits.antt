@@ -12,8 +12,8 @@ use Rattle.far_types.specs.Edits.{change_at, with_cell, after_remove}
 use Rattle.far_scopes.specs.declared.replacement.Replacement.{Replacement}
 use Rattle.far_scopes.specs.Effects.{after_create, after_write, after_write_all}
 use Rattle.far_scopes.specs.Movement.{Movement, version_of}
-use Rattle.far_vector.specs.Vector.{Vector}
-use Rattle.far_vector.specs.Effects.{is_full, next_name, next_group, objects_after_push, after_write_range}
+use Rattle.far_columns.specs.Vector.{Vector}
+use Rattle.far_columns.specs.Effects.{is_full, next_name, next_group, objects_after_push, after_write_range}
 use Rattle.far_texts.specs.Texts.{Texts, lists_of}
 use Rattle.far_texts.specs.Effects.{set_in as text_set_in}
 use Rattle.far_columns.specs.Numbers.{Numbers}

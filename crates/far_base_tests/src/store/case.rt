@@ -1,8 +1,7 @@
 // A store that is made for a case, and the script for it.
 use crate::store::planned_engine::{PlannedEngine, Turn};
 use crate::store::script::{Line, plays};
-use far_byte_log::ByteLog;
-use far_store::{AgentStore, EngineStore, FarStore, FaultyStore};
+use far_store::{AgentStore, ByteLog, EngineStore, FarStore, FaultyStore};
 use far_types::Refusal;
 use std::alloc::Global;
 use std::process::Abort;

@@ -2,7 +2,7 @@
 ghost use Rattle.std.specs.Prelude.{◌≡◌, ℕ, List, true, None, [], ◌∷◌, slice_get, IfOk, IfErr, OnOk, OnErr};
 ghost use Rattle.far_types.specs.MayRefuse.{MayRefuse};
 ghost use Rattle.far_scopes.specs.Refusing.{refusal_in};
-ghost use Rattle.far_vector.specs.Pieces.{overlapped_groups};
+ghost use Rattle.far_columns.specs.Pieces.{overlapped_groups};
 ghost use Rattle.far_rows.specs.Jobs.{AreAt};
 ghost use Rattle.far_rows.specs.Moving.{object_refusal};
 ghost use Rattle.far_frame.specs.declared.step.Reply.{Reply};

@@ -20,7 +20,9 @@ fn with_keys(alloc: Global, mut keys: CountSums, more: &CountSums) -> Result<Cou
     requires valid_sums { AreCountSums (totals_of keys.entries) }
     requires other_valid_sums { AreCountSums (totals_of more.now.entries) }
     requires can_join { CanJoin (totals_of keys.entries) (totals_of more.now.entries) }
-    ensures ok { IfOk result (λ all. totals_of all.entries ≡ joined_totals (totals_of keys.entries) (totals_of more.now.entries)) }
+    ensures ok { IfOk result
+        (λ all. totals_of all.entries
+        ≡ joined_totals (totals_of keys.entries) (totals_of more.now.entries)) }
     ensures valid_sums { IfOk result (λ all. AreCountSums (totals_of all.entries)) }
     ensures memory { IfErr result (λ e. e ≡ Refusal.NoMemory) }
 {
@@ -34,7 +36,8 @@ fn join_keys(by_key: &mut ByKey, more: &CountSums) -> Result<(), Refusal>
     requires other_valid_sums { AreCountSums (totals_of more.now.entries) }
     requires can_join { CanJoin (totals_in by_key.old) (totals_of more.now.entries) }
     ensures valid_sums { AreCountSums (totals_in by_key.new) }
-    ensures ok { OnOk result (totals_in by_key.new ≡ joined_totals (totals_in by_key.old) (totals_of more.now.entries)) }
+    ensures ok { OnOk result
+        (totals_in by_key.new ≡ joined_totals (totals_in by_key.old) (totals_of more.now.entries)) }
     ensures err { OnErr result (totals_in by_key.new ≡ totals_in by_key.old) }
     ensures memory { IfErr result (λ e. e ≡ Refusal.NoMemory) }
 {
@@ -65,7 +68,8 @@ fn join_numbers(by_key: &mut ByKey, more: &Numbers) -> Result<(), Refusal>
     requires other_valid_sums { AreCountSums (by_number more.now.entries) }
     requires can_join { CanJoin (totals_in by_key.old) (by_number more.now.entries) }
     ensures valid_sums { AreCountSums (totals_in by_key.new) }
-    ensures ok { OnOk result (totals_in by_key.new ≡ joined_totals (totals_in by_key.old) (by_number more.now.entries)) }
+    ensures ok { OnOk result
+        (totals_in by_key.new ≡ joined_totals (totals_in by_key.old) (by_number more.now.entries)) }
     ensures err { OnErr result (totals_in by_key.new ≡ totals_in by_key.old) }
     ensures memory { IfErr result (λ e. e ≡ Refusal.NoMemory) }
 {
@@ -93,7 +97,8 @@ fn join_dense(by_key: &mut ByKey, more: &Dense) -> Result<(), Refusal>
     requires other_valid_sums { AreCountSums (by_place more.now.items) }
     requires can_join { CanJoin (totals_in by_key.old) (by_place more.now.items) }
     ensures valid_sums { AreCountSums (totals_in by_key.new) }
-    ensures ok { OnOk result (totals_in by_key.new ≡ joined_totals (totals_in by_key.old) (by_place more.now.items)) }
+    ensures ok { OnOk result
+        (totals_in by_key.new ≡ joined_totals (totals_in by_key.old) (by_place more.now.items)) }
     ensures err { OnErr result (totals_in by_key.new ≡ totals_in by_key.old) }
     ensures memory { IfErr result (λ e. e ≡ Refusal.NoMemory) }
 {
@@ -112,7 +117,8 @@ pub fn join(by_key: &mut ByKey, other: &ByKey) -> Result<(), Refusal>
     requires other_valid_sums { AreCountSums (totals_in other.now) }
     requires can_join { CanJoin (totals_in by_key.old) (totals_in other.now) }
     ensures valid_sums { AreCountSums (totals_in by_key.new) }
-    ensures ok { OnOk result (totals_in by_key.new ≡ joined_totals (totals_in by_key.old) (totals_in other.now)) }
+    ensures ok { OnOk result
+        (totals_in by_key.new ≡ joined_totals (totals_in by_key.old) (totals_in other.now)) }
     ensures err { OnErr result (totals_in by_key.new ≡ totals_in by_key.old) }
     ensures memory { IfErr result (λ e. e ≡ Refusal.NoMemory) }
 {

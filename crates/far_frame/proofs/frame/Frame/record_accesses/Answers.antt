@@ -1,6 +1,6 @@
 use Rattle.std.proofs.Common.{◌≡◌, ◌+◌, ◌*◌, ◌/◌, ◌<◌, ◌≤◌, ℕ, List, ◌∷◌, ap, subst, sym, ◌∙◌, arith}
 use Rattle.far_table.specs.State.{LiveState}
-use Rattle.far_vector.specs.Pieces.{overlapped_groups}
+use Rattle.far_columns.specs.Pieces.{overlapped_groups}
 use Rattle.far_frame.proofs.LendingAccesses.{IsObserving, observing-all, observing-more, overlapped-next, overlapped-none}
 use Rattle.far_frame.proofs.frame.Frame.record_accesses.Goals as goal
 

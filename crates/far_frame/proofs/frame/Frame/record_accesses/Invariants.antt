@@ -1,5 +1,5 @@
 use Rattle.std.proofs.Common.{ℕ, List, ◌-◌}
-use Rattle.far_vector.specs.Pieces.{overlapped_groups}
+use Rattle.far_columns.specs.Pieces.{overlapped_groups}
 use Rattle.far_rows.specs.Jobs.{AreAt}
 use Rattle.far_frame.proofs.LendingAccesses.{IsObserving}
 use Rattle.far_frame.proofs.frame.Frame.record_accesses.Given as goal

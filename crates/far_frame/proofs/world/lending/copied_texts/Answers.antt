@@ -2,7 +2,7 @@ use Rattle.std.proofs.Common.{◌≡◌, ◌++◌, ◌+◌, ◌*◌, ◌/◌, �
 use Rattle.std.specs.Prelude.{slice_range}
 use Rattle.std.proofs.lemmas.Option.{none-some}
 use Rattle.far_types.specs.Table.{part}
-use Rattle.far_vector.specs.Pieces.{pieces_of}
+use Rattle.far_columns.specs.Pieces.{pieces_of}
 use Rattle.far_table.specs.State.{LiveState}
 use Rattle.far_rows.specs.Refusing.{texts_refusal}
 use Rattle.far_frame.specs.Lending.{flags_of, lent_part, piece_of, text_piece}

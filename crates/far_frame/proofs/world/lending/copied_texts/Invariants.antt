@@ -1,5 +1,5 @@
 use Rattle.std.proofs.Common.{◌≡◌, ◌≤◌, ◌++◌, ◌-◌, map, None}
-use Rattle.far_vector.specs.Pieces.{pieces_of}
+use Rattle.far_columns.specs.Pieces.{pieces_of}
 use Rattle.far_rows.specs.Refusing.{texts_refusal}
 use Rattle.far_frame.specs.Lending.{piece_of, text_piece, lent_part}
 use Rattle.far_frame.proofs.world.lending.copied_texts.Given as goal

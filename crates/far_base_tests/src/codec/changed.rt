@@ -1,11 +1,10 @@
-// Forms with random changes.
+// Forms with changed bytes.
 use crate::cases::{all, must_be};
 use crate::codec::forms::{
     E_ACUTE, MISSING_AND_A, ONE_AND_MINUS_ONE, ONE_AND_MISSING, THREE_TEXTS, are_rewritten,
 };
 use crate::codec::no_forms::is_no_form;
 use far_codec::kind_of;
-use far_random::Draws;
 use far_types::Refusal;
 use std::alloc::Global;
 
@@ -19,16 +18,15 @@ fn is_read_alike(alloc: Global, bytes: &[u8]) -> Result<bool, Refusal> {
 
 /// Returns whether all calls agree on a form with one of its bytes changed, then cut off there, and then with one byte
 /// more.
-fn is_changed_at_random(alloc: Global, form: &[u8], draws: &mut Draws) -> Result<bool, Refusal> {
+fn is_changed(alloc: Global, form: &[u8], at: usize, byte: u8) -> Result<bool, Refusal> {
     let mut bytes = Vec::from_slice(alloc, form)?;
-    let at = draws.index_or_end(bytes.len());
     if at < bytes.len() {
-        bytes[at] = draws.below(4) as u8;
+        bytes[at] = byte;
     }
     let changed = is_read_alike(alloc, bytes.as_slice());
     bytes.truncate(at);
     let cut = is_read_alike(alloc, bytes.as_slice());
-    bytes.push(draws.below(256) as u8)?;
+    bytes.push(byte.wrapping_mul(85))?;
     all(&[changed, cut, is_read_alike(alloc, bytes.as_slice())])
 }
 
@@ -40,11 +38,10 @@ static FORMS: [&[u8]; 5] = [
     MISSING_AND_A,
 ];
 
-/// Returns whether all calls agree on each form, with a random byte changed, a hundred times.
-fn are_changed_at_random(alloc: Global) -> Result<bool, Refusal> {
-    let mut draws = Draws::new(1);
+/// Returns whether all calls agree on each form, with each of its bytes changed to 0, 1, 2 and 3. No form has more than 25 bytes.
+fn are_changed(alloc: Global) -> Result<bool, Refusal> {
     for i in 0..500 {
-        let answer = is_changed_at_random(alloc, FORMS[i / 100], &mut draws);
+        let answer = is_changed(alloc, FORMS[i / 100], i % 100 / 4, (i % 4) as u8);
         if answer != Ok(true) {
             return answer;
         }
@@ -54,5 +51,5 @@ fn are_changed_at_random(alloc: Global) -> Result<bool, Refusal> {
 
 #[test]
 fn what_is_read_from_changed_forms_is_written_as_them(rt: HostRuntime) {
-    must_be(&rt, are_changed_at_random(rt.alloc()), Ok(true));
+    must_be(&rt, are_changed(rt.alloc()), Ok(true));
 }
