@@ -6,7 +6,7 @@ use Rattle.csv.specs.Writing.{default_writer, field_text, fields_text}
 use Rattle.far_store.specs.declared.store.FarTickets.{Ghosts as Tickets}
 use Rattle.far_types.specs.declared.cell.Cell.{Cell}
 use Rattle.far_types.specs.declared.cell.Kind.{Kind}
-use Rattle.far_vector.specs.Pieces.{pieces_of}
+use Rattle.far_columns.specs.Pieces.{pieces_of}
 use Rattle.far_frame.specs.declared.step.Reply.{Reply}
 use Rattle.far_frame.specs.declared.step.Reply.TheVariants as reply
 use Rattle.far_frame.specs.declared.step.Step.TheVariants as step

@@ -71,7 +71,11 @@ total_text line = key_text line.0 ++ codes "count " ++ decimal line.1 ++ codes "
 
 -- the text of a gauge's reading: the number of edits, the count and the sum
 abbrev pub reading_text : ℕ → ℕ → ℤ → List ℕ
-reading_text edits count sum = decimal edits ++ space ++ decimal count ++ space ++ signed_decimal sum
+reading_text edits count sum = decimal edits
+    ++ space
+    ++ decimal count
+    ++ space
+    ++ signed_decimal sum
     ++ line_end
 
 -- the line of the gauge of a session's stripe

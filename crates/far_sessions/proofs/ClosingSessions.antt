@@ -1,8 +1,8 @@
 -- Sessions that a history has the entries of, and one more.
 use Rattle.std.proofs.Common.{◌≡◌, ℕ, List, [], ◌∷◌, ◌++◌, subst}
 use mathlib.Core.List.{IsPrefix}
-use Rattle.far_history.specs.Histories.{by_session}
-use Rattle.far_history.specs.declared.view.Entry.{Entry}
+use Rattle.far_sessions.specs.Histories.{by_session}
+use Rattle.far_sessions.specs.declared.view.Entry.{Entry}
 use Rattle.far_sessions.specs.Known.{Known, at, session_number}
 use Rattle.far_sessions.specs.Closing.{IsSeenBy, SeenByAll}
 

@@ -11,4 +11,5 @@ four a b c d (suc (suc (suc k))) = d
 
 -- an arbitrary cell, where none is named
 abbrev pub no_cell : TableId
-no_cell = record { words = 0; slots = 0; views_name = 0; atom = 0; block = 0; offset = 0; slot_names = [] }
+no_cell = record
+    { words = 0; slots = 0; views_name = 0; atom = 0; block = 0; offset = 0; slot_names = [] }

@@ -1,8 +1,8 @@
 -- How sessions end.
 use Rattle.std.specs.Prelude.{◌≡◌, ℕ, ◌<◌, List, [], ◌∷◌, Some, slice_get}
 use mathlib.Core.List.{IsPrefix}
-use Rattle.far_history.specs.Histories.{AllBelow, by_session}
-use Rattle.far_history.specs.declared.view.Entry.{Entry}
+use Rattle.far_sessions.specs.Histories.{AllBelow, by_session}
+use Rattle.far_sessions.specs.declared.view.Entry.{Entry}
 use Rattle.far_sessions.specs.Known.{Known, at, session_number}
 
 -- one of the sessions has this number

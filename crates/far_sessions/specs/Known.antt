@@ -1,8 +1,8 @@
 -- What a session knows of the four histories.
 use Rattle.std.specs.Prelude.{◌≡◌, ℕ, zero, suc, List, [], ◌∷◌, ◌++◌}
 use mathlib.Core.List.{IsPrefix}
-use Rattle.far_history.specs.Histories.{Planned, IsLegal, by_session}
-use Rattle.far_history.specs.Sessions.{SessionState, newcomer}
+use Rattle.far_sessions.specs.Histories.{Planned, IsLegal, by_session}
+use Rattle.far_sessions.specs.Sessions.{SessionState, newcomer}
 use Rattle.far_sessions.specs.Cells.{four}
 
 -- the state of one session at each of the four histories
@@ -22,7 +22,8 @@ session_number s = s.zeroth.by
 
 -- a session that has seen nothing at any history
 abbrev pub newcomer_at_all : ℕ → Known
-newcomer_at_all n = record { zeroth = newcomer n; first = newcomer n; second = newcomer n; third = newcomer n }
+newcomer_at_all n = record
+    { zeroth = newcomer n; first = newcomer n; second = newcomer n; third = newcomer n }
 
 -- the first n sessions, before they have seen anything
 abbrev pub newcomers : ℕ → List Known

@@ -1,4 +1,9 @@
 pub mod Cells
 pub mod Closing
+pub mod Histories
 pub mod Known
 pub mod Passes
+pub mod Readings
+pub mod Rule
+pub mod Sessions
+pub mod Views

@@ -1,13 +1,14 @@
 // The four cells outside the locks.
 ghost use Rattle.std.specs.Prelude.{◌≡◌, ◌≢◌, ◌<◌, ◌≤◌, ℕ, OnOk, IfOk, IfErr};
 ghost use Rattle.crossbeam_utils.specs.Padded.{padded_value};
-ghost use Rattle.far_history.specs.Histories.{gauge_of};
+ghost use Rattle.far_sessions.specs.Histories.{gauge_of};
 ghost use Rattle.far_sessions.specs.Known.{at, SeesMore};
 
+use crate::law::PlanTag;
+use crate::reading::Reading;
 use crate::session::Session;
 use crate::stripe_cell::{CellsTag, StripeCell};
 use crossbeam_utils::CachePadded;
-use far_history::{PlanTag, Reading};
 use far_types::Refusal;
 use std::sync::Wait;
 
@@ -70,7 +71,8 @@ impl<N: PlanTag, B: CellsTag> Cells<N, B> {
         ensures reading { IfOk result (λ r. r ≡ gauge_of N.plan (at me.new stripe).seen) }
         ensures seen { OnOk result (SeesMore N.plan (at me.old stripe) (at me.new stripe)) }
         ensures others { (k : ℕ) → k < 4 → k ≢ stripe → at me.new k ≡ at me.old k }
-        ensures refused { IfErr result (λ e. (e ≡ Refusal.OutOfRange) × (4 ≤ stripe) × (me.new ≡ me.old)) }
+        ensures refused { IfErr result
+            (λ e. (e ≡ Refusal.OutOfRange) × (4 ≤ stripe) × (me.new ≡ me.old)) }
     {
         match stripe {
             0 => Ok(self.zero().gauge(rt, &mut me.zero)),

@@ -4,9 +4,9 @@ ghost use Rattle.far_sessions.specs.Closing.{Has, IsWhole, IsSettled};
 
 use crate::cells::Cells;
 use crate::keeper::Keepers;
+use crate::law::PlanTag;
 use crate::session::Session;
 use crate::stripe_cell::CellsTag;
-use far_history::PlanTag;
 use std::sync::Wait;
 
 // Returns whether one of the sessions has this number.

@@ -2,17 +2,18 @@
 ghost use Rattle.std.specs.Prelude.{◌≡◌, ◌++◌, ◌∷◌, [], None};
 ghost use mathlib.Core.List.{IsPrefix};
 ghost use Rattle.far_types.specs.Edits.{edit_refusal};
-ghost use Rattle.far_history.specs.Histories.{replay, gauge_of, by_session, IsLegal, AllBelow};
-ghost use Rattle.far_history.specs.Rule.{entry};
+ghost use Rattle.far_sessions.specs.Histories.{replay, gauge_of, by_session, IsLegal, AllBelow};
+ghost use Rattle.far_sessions.specs.Rule.{entry};
 ghost use Rattle.far_sessions.specs.Known.{SeesMore};
 
+use crate::kept::Kept;
+use crate::law::PlanTag;
+use crate::reading::{Reading, reading_of, words_of};
 use crate::session::SessionAt;
+use crate::steps::{add, join_session, look, split_session};
 use crate::stripe_cell::{CellsTag, StripeCell};
+use crate::view::PassView;
 use crossbeam_utils::atomic::seq_cell::Doing;
-use far_history::reading::{reading_of, words_of};
-use far_history::steps::{add, join_session, look, split_session};
-use far_history::{PassView, PlanTag, Reading};
-use far_kept::Kept;
 use far_types::Edit;
 use std::marker::{Model, PhantomData};
 use std::snapshot::Snapshot;
@@ -29,7 +30,7 @@ pub struct Keeper<N: PlanTag, B: CellsTag, const I: usize> {
 
 impl<N: PlanTag, B: CellsTag, const I: usize> Model for Keeper<N, B, I> {
     ghost use Rattle.std.specs.Prelude.{List};
-    ghost use Rattle.far_history.specs.declared.view.Entry.{Entry};
+    ghost use Rattle.far_sessions.specs.declared.view.Entry.{Entry};
     ghost use Rattle.far_sessions.specs.Passes.{history_in, IsHeld};
 
     ghost Value = { List Entry };

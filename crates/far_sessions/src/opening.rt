@@ -1,16 +1,16 @@
 // Makes four histories and their sessions.
 ghost use Rattle.std.specs.Prelude.{◌≡◌, ◌+◌, ◌*◌, [], length, IfOk, OnOk};
-ghost use Rattle.far_history.specs.Sessions.{newcomer};
+ghost use Rattle.far_sessions.specs.Sessions.{newcomer};
 ghost use Rattle.far_sessions.specs.Known.{newcomers};
 
 use crate::cells::{Cells, Spacers};
 use crate::keeper::{Keeper, Keepers};
+use crate::kept::Kept;
+use crate::law::{HistoryCell, Pass, PlanTag};
 use crate::session::{Session, SessionAt};
+use crate::steps::{begin, give};
 use crate::stripe_cell::{CellsTag, StripeCell};
 use crossbeam_utils::CachePadded;
-use far_history::steps::{begin, give};
-use far_history::{HistoryCell, Pass, PlanTag};
-use far_kept::Kept;
 use std::alloc::{AllocError, Global};
 use std::marker::{Model, PhantomData};
 
@@ -25,13 +25,14 @@ impl<N: PlanTag> Model for Fresh<N> {
     ghost use Rattle.std.specs.Prelude.{◌≡◌, []};
     ghost use Rattle.crossbeam_utils.specs.Seq.{cell_view};
     ghost use Rattle.atomic_table.specs.Seated.{TableId};
-    ghost use Rattle.far_history.specs.Views.{keeper};
+    ghost use Rattle.far_sessions.specs.Views.{keeper};
 
     ghost Value = { TableId };
 
     ghost view = { λ s. s.cell.table.shared.table_id };
 
-    ghost invariant = { λ s. (s.pass.table_id ≡ s.cell.table.shared.table_id) × (cell_view s.pass ≡ keeper [] 0) };
+    ghost invariant = { λ s. (s.pass.table_id ≡ s.cell.table.shared.table_id)
+        × (cell_view s.pass ≡ keeper [] 0) };
 }
 
 /// Creates the sessions of a stripe. Contracts see how many it has created.
@@ -44,7 +45,7 @@ struct Giver<B: CellsTag, const I: usize> {
 impl<B: CellsTag, const I: usize> Model for Giver<B, I> {
     ghost use Rattle.std.specs.Prelude.{◌≡◌, ℕ};
     ghost use Rattle.crossbeam_utils.specs.Seq.{cell_view};
-    ghost use Rattle.far_history.specs.Sessions.{IsGiver};
+    ghost use Rattle.far_sessions.specs.Sessions.{IsGiver};
 
     ghost Value = { ℕ };
 
@@ -163,10 +164,16 @@ impl<N: PlanTag> NewCells<N> {
 
     /// Returns the keepers of the four empty histories, the cells, and `count` sessions. Fails only if out of memory.
     pub fn open<B: CellsTag>(self, alloc: Global, count: u64) -> Result<Opened<N, B>, AllocError>
-        requires names { (self.zero ≡ B.cells 0) × (self.one ≡ B.cells 1) × (self.two ≡ B.cells 2) × (self.three ≡ B.cells 3) }
+        requires names { (self.zero ≡ B.cells 0)
+            × (self.one ≡ B.cells 1)
+            × (self.two ≡ B.cells 2)
+            × (self.three ≡ B.cells 3) }
         requires count { count ≡ N.plan.sessions }
         ensures sessions { IfOk result (λ o. o.sessions.items ≡ newcomers N.plan.sessions) }
-        ensures histories { IfOk result (λ o. (o.keepers.zero ≡ []) × (o.keepers.one ≡ []) × (o.keepers.two ≡ []) × (o.keepers.three ≡ [])) }
+        ensures histories { IfOk result (λ o. (o.keepers.zero ≡ [])
+            × (o.keepers.one ≡ [])
+            × (o.keepers.two ≡ [])
+            × (o.keepers.three ≡ [])) }
     {
         let NewCells {
             zero,

@@ -1,12 +1,12 @@
 // The session of a thread.
 ghost use Rattle.std.specs.Prelude.{◌≡◌, ℕ};
-ghost use Rattle.far_history.specs.Histories.{gauge_of};
+ghost use Rattle.far_sessions.specs.Histories.{gauge_of};
 ghost use Rattle.far_sessions.specs.Known.{at, SeesMore};
 
+use crate::law::{Pass, PlanTag};
+use crate::reading::{Reading, reading_of};
+use crate::steps::look;
 use crate::stripe_cell::{CellsTag, StripeCell};
-use far_history::reading::reading_of;
-use far_history::steps::look;
-use far_history::{Pass, PlanTag, Reading};
 use std::marker::{Model, PhantomData};
 use std::sync::Wait;
 
@@ -20,7 +20,7 @@ pub struct SessionAt<B: CellsTag, const I: usize> {
 impl<B: CellsTag, const I: usize> Model for SessionAt<B, I> {
     ghost use Rattle.std.specs.Prelude.{◌≡◌};
     ghost use Rattle.crossbeam_utils.specs.Seq.{cell_view};
-    ghost use Rattle.far_history.specs.Sessions.{SessionState, session_state, IsSession};
+    ghost use Rattle.far_sessions.specs.Sessions.{SessionState, session_state, IsSession};
 
     ghost Value = { SessionState };
 
@@ -49,9 +49,13 @@ impl<B: CellsTag> Model for Session<B> {
 
     ghost Value = { Known };
 
-    ghost view = { λ s. record { zeroth = s.zero; first = s.one; second = s.two; third = s.three } };
+    ghost view = { λ s. record
+        { zeroth = s.zero; first = s.one; second = s.two; third = s.three } };
 
-    ghost invariant = { λ s. (s.number ≡ s.zero.by) × (s.one.by ≡ s.zero.by) × (s.two.by ≡ s.zero.by) × (s.three.by ≡ s.zero.by) };
+    ghost invariant = { λ s. (s.number ≡ s.zero.by)
+        × (s.one.by ≡ s.zero.by)
+        × (s.two.by ≡ s.zero.by)
+        × (s.three.by ≡ s.zero.by) };
 }
 
 impl<B: CellsTag> Session<B> {

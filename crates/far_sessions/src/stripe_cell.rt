@@ -1,7 +1,7 @@
 // The tag of the four cells, and the cell of one stripe.
 ghost use Rattle.std.specs.Prelude.{◌≡◌};
 
-use far_history::{HistoryCell, PlanTag};
+use crate::law::{HistoryCell, PlanTag};
 use std::marker::{Brand, PhantomData};
 
 /// The tag of four cells, as a type. It has no functions: a caller picks a type, as `Brand`.

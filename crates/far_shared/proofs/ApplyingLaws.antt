@@ -4,10 +4,10 @@ use Rattle.std.specs.declared.result.Result.TheVariants.{Ok, Err}
 use mathlib.Core.List.{IsPrefix}
 use Rattle.far_types.specs.declared.edit.Edit.{Edit}
 use Rattle.far_types.specs.declared.refusal.Refusal.{Refusal}
-use Rattle.far_history.specs.Histories.{Planned, IsLegal, by_session, replay}
-use Rattle.far_history.specs.Rule.{entry}
-use Rattle.far_history.specs.Sessions.{SessionState}
-use Rattle.far_history.specs.declared.view.Entry.{Entry}
+use Rattle.far_sessions.specs.Histories.{Planned, IsLegal, by_session, replay}
+use Rattle.far_sessions.specs.Rule.{entry}
+use Rattle.far_sessions.specs.Sessions.{SessionState}
+use Rattle.far_sessions.specs.declared.view.Entry.{Entry}
 use Rattle.far_shared.specs.Applying.{place_of, WhyNot, Extends, IsRefused}
 use Rattle.far_shared.specs.declared.stripe.Applied.{Applied}
 

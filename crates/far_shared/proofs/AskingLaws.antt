@@ -8,8 +8,8 @@ use Rattle.far_types.specs.declared.refusal.Refusal.TheVariants as refusal
 use Rattle.far_types.specs.declared.spec.Spec.{Spec}
 use Rattle.far_types.specs.Answers.{answer_over}
 use Rattle.far_types.specs.Table.{Table, Registered}
-use Rattle.far_history.specs.Histories.{Planned, IsLegal, replay}
-use Rattle.far_history.specs.declared.view.Entry.{Entry}
+use Rattle.far_sessions.specs.Histories.{Planned, IsLegal, replay}
+use Rattle.far_sessions.specs.declared.view.Entry.{Entry}
 use Rattle.far_shared.specs.Asking.{IsAnswer, AskRefusal}
 use Rattle.far_shared.specs.Fours.{AreLike, AreAlike, FourRefusal, all_rows, pending_in_all, spec_at}
 use Rattle.far_shared.specs.Stripes.{IsStripe}

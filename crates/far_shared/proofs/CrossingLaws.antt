@@ -11,7 +11,7 @@ use Rattle.crossbeam_utils.specs.contracts.cache_padded.CachePadded as padded
 use Rattle.crossbeam_utils.proofs.cache_padded.CachePadded.TheSendSync as padding
 use Rattle.far_store.specs.declared.store.FarTickets.{Ghosts as Tickets}
 use Rattle.far_frame.proofs.frame.Frame.TheSendSync as frame
-use Rattle.far_history.specs.declared.law.PlanTag.{Ghosts as PlanTags}
+use Rattle.far_sessions.specs.declared.law.PlanTag.{Ghosts as PlanTags}
 use Rattle.far_sessions.specs.declared.stripe_cell.CellsTag.{Ghosts as CellsTags}
 use Rattle.far_sessions.proofs.cells.Cells.TheSendSync as cells
 use Rattle.far_sessions.proofs.keeper.Keeper.TheSendSync as keeper

@@ -14,8 +14,8 @@ use Rattle.far_types.specs.Edits.{after_edit, edit_refusal, kinds_fit, overfills
 use Rattle.far_types.specs.FirstOf.{first_of}
 use Rattle.far_types.specs.Table.{Place, Table}
 use Rattle.far_aggregates.proofs.TableGroups.{length-changed}
-use Rattle.far_history.specs.Histories.{replay_on, IsLegalOn}
-use Rattle.far_history.specs.declared.view.Entry.{Entry}
+use Rattle.far_sessions.specs.Histories.{replay_on, IsLegalOn}
+use Rattle.far_sessions.specs.declared.view.Entry.{Entry}
 
 -- the fourth of some tests refuses nothing, if none does
 fourth-free : (a b c d : Bool) (q r s t : Refusal) (rest : List (Bool × Refusal)) → first_of ((a, q) ∷ (b, r) ∷ (c, s) ∷ (d, t) ∷ rest) ≡ None → d ≡ false

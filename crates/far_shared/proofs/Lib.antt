@@ -14,4 +14,5 @@ mod ReportLaws
 mod StripesLaws
 mod WatchingUndo
 mod WatchingLaws
+mod UnderLockLaws
 mod WorksLaws

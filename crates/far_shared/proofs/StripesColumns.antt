@@ -13,8 +13,8 @@ use Rattle.far_scopes.specs.Movement.{Movement}
 use Rattle.far_scopes.specs.Effects.{after_create, after_write, after_write_all, after_replace_all, with_lens, after_arrive}
 use Rattle.far_scopes.specs.Replacing.{replaced_all as replaced_all_in}
 use Rattle.far_scopes.specs.declared.replacement.Replacement.{Replacement}
-use Rattle.far_vector.specs.Vector.{Vector}
-use Rattle.far_vector.specs.Effects.{is_full, next_group, next_name, objects_after_push, after_write_range}
+use Rattle.far_columns.specs.Vector.{Vector}
+use Rattle.far_columns.specs.Effects.{is_full, next_group, next_name, objects_after_push, after_write_range}
 use Rattle.far_columns.specs.NumbersTogether.{NumberColumns, objects_after_push_all}
 use Rattle.far_columns.specs.Numbers.{Numbers, number_lists}
 use Rattle.far_evacuator.specs.Jobs.{CarriedEvacuation, CarriedFetch}

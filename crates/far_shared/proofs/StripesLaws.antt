@@ -14,12 +14,12 @@ use Rattle.far_types.specs.Bounds.{spec_refusal}
 use Rattle.far_types.specs.Edits.{after_edit, edit_refusal, places_after}
 use Rattle.far_types.specs.Table.{Place, Table, empty_table}
 use Rattle.far_aggregates.specs.Readings.{plain_in}
-use Rattle.far_history.specs.declared.reading.Reading.{Reading}
-use Rattle.far_history.specs.declared.view.Entry.{Entry}
-use Rattle.far_history.specs.Histories.{Planned, IsLegal, replay, folded, gauge_of}
-use Rattle.far_history.specs.Rule.{entry}
-use Rattle.far_history.proofs.Histories.{replay_on-push}
-use Rattle.far_history.proofs.HistoriesLegality.{schema_stays, limits_stay, few_edits}
+use Rattle.far_sessions.specs.declared.reading.Reading.{Reading}
+use Rattle.far_sessions.specs.declared.view.Entry.{Entry}
+use Rattle.far_sessions.specs.Histories.{Planned, IsLegal, replay, folded, gauge_of}
+use Rattle.far_sessions.specs.Rule.{entry}
+use Rattle.far_sessions.proofs.Histories.{replay_on-push}
+use Rattle.far_sessions.proofs.HistoriesLegality.{schema_stays, limits_stay, few_edits}
 use Rattle.far_shared.specs.Applying.{WhyNot, place_of}
 use Rattle.far_shared.specs.Fours.{pending_in}
 use Rattle.far_shared.specs.Plans.{IsPlan, is_plain, or_else}

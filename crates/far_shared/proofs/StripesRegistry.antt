@@ -24,8 +24,8 @@ use Rattle.far_frame.specs.State.{State, empty_state}
 use Rattle.far_frame.specs.declared.step.Reply.{Reply}
 use Rattle.far_frame.specs.declared.step.Reply.TheVariants as reply
 use Rattle.far_frame.specs.declared.step.Step.TheVariants as step
-use Rattle.far_history.specs.Histories.{Planned, IsLegal}
-use Rattle.far_history.specs.declared.view.Entry.{Entry}
+use Rattle.far_sessions.specs.Histories.{Planned, IsLegal}
+use Rattle.far_sessions.specs.declared.view.Entry.{Entry}
 use Rattle.far_shared.specs.Fours.{pending_in}
 use Rattle.far_shared.specs.Opening.{IsEmpty}
 use Rattle.far_shared.specs.Plans.{IsPlan}

@@ -13,8 +13,8 @@ use Rattle.far_frame.specs.Effects.{Accepts, Refuses}
 use Rattle.far_frame.specs.State.{State}
 use Rattle.far_frame.specs.declared.step.Reply.TheVariants as reply
 use Rattle.far_frame.specs.declared.step.Step.TheVariants as step
-use Rattle.far_history.specs.Histories.{Planned}
-use Rattle.far_history.specs.declared.view.Entry.{Entry}
+use Rattle.far_sessions.specs.Histories.{Planned}
+use Rattle.far_sessions.specs.declared.view.Entry.{Entry}
 use Rattle.far_shared.specs.Stripes.{StripeState, IsStripe}
 use Rattle.far_shared.specs.Watching.{IsAsBefore, after_register, after_unregister, uncounted}
 use Rattle.far_shared.proofs.StripesRegistry.{free-within, number-free}

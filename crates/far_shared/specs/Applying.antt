@@ -10,10 +10,10 @@ use Rattle.far_types.specs.declared.refusal.Refusal.TheVariants as refusal
 use Rattle.far_types.specs.Edits.{edit_faults, edit_refusal, overfills}
 use Rattle.far_types.specs.FirstOf.{first_of}
 use Rattle.far_types.specs.Table.{Place, Table}
-use Rattle.far_history.specs.Histories.{Planned, IsLegal, by_session, replay}
-use Rattle.far_history.specs.Rule.{entry}
-use Rattle.far_history.specs.Sessions.{SessionState}
-use Rattle.far_history.specs.declared.view.Entry.{Entry}
+use Rattle.far_sessions.specs.Histories.{Planned, IsLegal, by_session, replay}
+use Rattle.far_sessions.specs.Rule.{entry}
+use Rattle.far_sessions.specs.Sessions.{SessionState}
+use Rattle.far_sessions.specs.declared.view.Entry.{Entry}
 use Rattle.far_sessions.specs.Known.{SeesMore}
 use Rattle.far_shared.specs.declared.stripe.Applied.{Applied}
 
@@ -38,14 +38,18 @@ places_cells schema (edit.Remove p) = false
 -- no text object would be too long
 abbrev pub IsOfObjects : (columns group : ℕ) (places_some is_too_long : Bool) → Refusal → Type 0
 IsOfObjects columns group places_some is_too_long (refusal.Absent c g) = (c < columns) × (g ≡ group)
-IsOfObjects columns group places_some is_too_long refusal.RegionFull = (places_some ≡ true) × (is_too_long ≡ false)
+IsOfObjects columns group places_some is_too_long refusal.RegionFull =
+    (places_some ≡ true) × (is_too_long ≡ false)
 IsOfObjects columns group places_some is_too_long _ = ⊥
 
 -- why an edit of a table over objects is refused. The plain table refuses it for that reason. Or it has no fault of its own, and its
 -- objects prevent it. Or the plain table accepts it, and memory ran out
 abbrev pub WhyNot : Table → Edit → Refusal → Type 0
 WhyNot table e given = (edit_refusal table e ≡ Some given)
-    ⊎ (((first_of (edit_faults table.schema table.limits table.places e) ≡ None) × IsOfObjects (length table.schema) (place_of table e / table.limits.group) (places_cells table.schema e) (overfills table.schema table.limits e table.places) given)
+    ⊎ (((first_of (edit_faults table.schema table.limits table.places e) ≡ None)
+    × IsOfObjects (length table.schema) (place_of table e / table.limits.group)
+    (places_cells table.schema e) (overfills table.schema table.limits e table.places)
+    given)
     ⊎ ((edit_refusal table e ≡ None) × (given ≡ refusal.NoMemory)))
 
 module _ (p : Planned) (before : SessionState) (e : Edit) (after : SessionState) where

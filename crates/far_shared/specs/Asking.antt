@@ -6,8 +6,8 @@ use Rattle.far_types.specs.declared.refusal.Refusal.TheVariants as refusal
 use Rattle.far_types.specs.declared.spec.Spec.{Spec}
 use Rattle.far_types.specs.Answers.{answer_over}
 use Rattle.far_types.specs.Table.{Table}
-use Rattle.far_history.specs.Histories.{Planned, IsLegal, replay}
-use Rattle.far_history.specs.declared.view.Entry.{Entry}
+use Rattle.far_sessions.specs.Histories.{Planned, IsLegal, replay}
+use Rattle.far_sessions.specs.declared.view.Entry.{Entry}
 use Rattle.far_shared.specs.Fours.{AreAlike, LeftRefusal, all_rows, pending_in_all, spec_at}
 use Rattle.far_shared.specs.Stripes.{IsStripe}
 
@@ -20,7 +20,8 @@ pub record IsAnswer (p : Planned) (a : ℕ) (answer : Answer) : Type 0 where
   pub legal : IsLegal p zero × IsLegal p one × IsLegal p two × IsLegal p three
   pub spec : Spec
   pub gauge : a ≡ 0 → spec ≡ p.gauge
-  pub is : answer ≡ answer_over spec (all_rows (replay p zero) (replay p one) (replay p two) (replay p three))
+  pub is : answer
+      ≡ answer_over spec (all_rows (replay p zero) (replay p one) (replay p two) (replay p three))
 
 -- the table is what some legal history leaves
 pub record IsLeft (p : Planned) (table : Table) : Type 0 where
@@ -30,7 +31,8 @@ pub record IsLeft (p : Planned) (table : Table) : Type 0 where
 
 -- why four stripes do not answer: their aggregates differ, or they are alike and row groups are pending or memory ran out
 abbrev pub AskRefusal : ℕ → Table → Table → Table → Table → Refusal → Type 0
-AskRefusal a zero one two three given = ((given ≡ refusal.NoAggregate) × ¬ (AreAlike a zero one two three))
+AskRefusal a zero one two three given = ((given ≡ refusal.NoAggregate)
+    × ¬ (AreAlike a zero one two three))
     ⊎ (AreAlike a zero one two three × LeftRefusal (pending_in_all a zero one two three) given)
 
 -- the answer of four tables that legal histories leave, under a number: all of them have the same aggregate there with nothing
@@ -43,5 +45,6 @@ pub record IsAsked (p : Planned) (a : ℕ) (result : Result Answer Refusal) : Ty
   pub left : IsLeft p zero × IsLeft p one × IsLeft p two × IsLeft p three
   pub alike : OnOk result (AreAlike a zero one two three)
   pub scanned : OnOk result (pending_in_all a zero one two three ≡ 0)
-  pub answer : IfOk result (λ answer. IfSome (spec_at zero a) (λ spec. answer ≡ answer_over spec (all_rows zero one two three)))
+  pub answer : IfOk result (λ answer. IfSome (spec_at zero a)
+      (λ spec. answer ≡ answer_over spec (all_rows zero one two three)))
   pub refused : IfErr result (AskRefusal a zero one two three)

@@ -1,8 +1,8 @@
 -- What a shared table ends with.
 use Rattle.std.specs.Prelude.{ℕ, List}
 use Rattle.far_types.specs.Table.{Table}
-use Rattle.far_history.specs.Histories.{Planned, IsLegal}
-use Rattle.far_history.specs.declared.view.Entry.{Entry}
+use Rattle.far_sessions.specs.Histories.{Planned, IsLegal}
+use Rattle.far_sessions.specs.declared.view.Entry.{Entry}
 use Rattle.far_sessions.specs.Closing.{IsSettled}
 use Rattle.far_sessions.specs.Known.{Known}
 use Rattle.far_shared.specs.Stripes.{IsStripe}

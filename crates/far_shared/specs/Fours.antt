@@ -18,7 +18,10 @@ spec_at table a = option_map (λ aggregate. aggregate.spec) (aggregate_at table 
 
 -- two tables have one schema, and the same aggregate under a number
 abbrev pub AreLike : ℕ → Table → Table → Type 0
-AreLike a one other = (spec : Spec) × (spec_at one a ≡ Some spec) × (spec_at other a ≡ Some spec) × (one.schema ≡ other.schema)
+AreLike a one other = (spec : Spec)
+    × (spec_at one a ≡ Some spec)
+    × (spec_at other a ≡ Some spec)
+    × (one.schema ≡ other.schema)
 
 -- four tables have one schema, and the same aggregate under a number
 pub record AreAlike (a : ℕ) (one two three four : Table) : Type 0 where
@@ -32,11 +35,15 @@ pending_in aggregate = option_map_or (λ there. left there.pending) aggregate 0
 
 -- how many are in four tables
 abbrev pub pending_in_all : ℕ → Table → Table → Table → Table → ℕ
-pending_in_all a one two three four = pending_in (aggregate_at one a) + pending_in (aggregate_at two a) + pending_in (aggregate_at three a) + pending_in (aggregate_at four a)
+pending_in_all a one two three four = pending_in (aggregate_at one a)
+    + pending_in (aggregate_at two a)
+    + pending_in (aggregate_at three a)
+    + pending_in (aggregate_at four a)
 
 -- the rows of four tables, one table after the other
 abbrev pub all_rows : Table → Table → Table → Table → List (List Cell)
-all_rows one two three four = rows_of one.places ++ (rows_of two.places ++ (rows_of three.places ++ rows_of four.places))
+all_rows one two three four = rows_of one.places
+    ++ (rows_of two.places ++ (rows_of three.places ++ rows_of four.places))
 
 -- an answer is of this kind
 abbrev pub IsOf : Fold → Answer → Type 0
@@ -47,7 +54,8 @@ IsOf fold.Extrema (answer.Extrema lines) = Unit {0}
 
 -- why tables with this many pending row groups do not answer: some are pending, or memory ran out
 abbrev pub LeftRefusal : ℕ → Refusal → Type 0
-LeftRefusal some given = ((some ≢ 0) × (given ≡ refusal.Building some)) ⊎ ((some ≡ 0) × (given ≡ refusal.NoMemory))
+LeftRefusal some given = ((some ≢ 0) × (given ≡ refusal.Building some))
+    ⊎ ((some ≡ 0) × (given ≡ refusal.NoMemory))
 
 -- the same of any tables: also `NoMemory` if the number of pending row groups is not one of 32 bits. Four stripes never leave
 -- that many
@@ -57,5 +65,6 @@ AnyRefusal some given = LeftRefusal some given ⊎ ((2 ^ 32 ≤ some) × (given 
 -- why any four tables do not answer: their schemas or their aggregates differ, or they are alike and row groups are pending or
 -- memory ran out
 abbrev pub FourRefusal : ℕ → Table → Table → Table → Table → Refusal → Type 0
-FourRefusal a one two three four given = ((given ≡ refusal.NoAggregate) × ¬ (AreAlike a one two three four))
+FourRefusal a one two three four given = ((given ≡ refusal.NoAggregate)
+    × ¬ (AreAlike a one two three four))
     ⊎ (AreAlike a one two three four × AnyRefusal (pending_in_all a one two three four) given)

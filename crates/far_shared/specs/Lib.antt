@@ -7,5 +7,6 @@ pub mod Lines
 pub mod Opening
 pub mod Plans
 pub mod Stripes
+pub mod UnderLock
 pub mod Watching
 pub mod Works

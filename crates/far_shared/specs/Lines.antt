@@ -7,7 +7,8 @@ use Rattle.far_types.specs.Answers.{TotalLines, ExtremaLines}
 -- the lines of totals that have rows, each as a key with its count and sum
 abbrev pub count_sums_in : TotalLines → List (Option Key × (ℕ × ℤ))
 count_sums_in [] = []
-count_sums_in (line ∷ lines) = cond (line.1 == 0) (count_sums_in lines) ((line.0, (line.1, line.2)) ∷ count_sums_in lines)
+count_sums_in (line ∷ lines) = cond (line.1 == 0) (count_sums_in lines)
+    ((line.0, (line.1, line.2)) ∷ count_sums_in lines)
 
 -- the lines of extrema, each as a key with its least and greatest value
 abbrev pub min_maxes_in : ExtremaLines → List (Option Key × (ℤ × ℤ))

@@ -3,7 +3,7 @@ use Rattle.std.specs.Prelude.{◌≡◌, ℕ, List, []}
 use Rattle.atomic_table.specs.Seated.{TableId}
 use Rattle.far_rows.specs.Jobs.{AreAt}
 use Rattle.far_frame.specs.State.{State}
-use Rattle.far_history.specs.Histories.{Planned}
+use Rattle.far_sessions.specs.Histories.{Planned}
 use Rattle.far_shared.specs.Stripes.{AreRowsOf, IsStripe}
 
 -- the cells of the four stripes
@@ -15,10 +15,14 @@ pub record CellIds : Type 0 where
 
 -- the four cells have these names
 abbrev pub HaveNames : CellIds → (ℕ → TableId) → Type 0
-HaveNames ids names = (ids.zeroth ≡ names 0) × (ids.first ≡ names 1) × (ids.second ≡ names 2) × (ids.third ≡ names 3)
+HaveNames ids names = (ids.zeroth ≡ names 0)
+    × (ids.first ≡ names 1)
+    × (ids.second ≡ names 2)
+    × (ids.third ≡ names 3)
 
 -- the table of an empty history, with its gauge, as stripe n. It has no tickets, so they are all of any store
-pub record IsEmpty {K : Type 0} (is_of : K → List ℕ → Type 0) (p : Planned) (n : ℕ) (s : State K) : Type 0 where
+pub record IsEmpty {K : Type 0} (is_of : K → List ℕ → Type 0) (p : Planned) (n : ℕ)
+    (s : State K) : Type 0 where
   pub stripe : IsStripe p [] s.table
   pub here : (id : List ℕ) → AreAt is_of id s.rows
   pub rows : AreRowsOf p.schema n s.rows

@@ -7,7 +7,7 @@ use Rattle.far_types.specs.declared.refusal.Refusal.TheVariants as refusal
 use Rattle.far_types.specs.Bounds.{AreLimits, spec_refusal}
 use Rattle.far_types.specs.FirstOf.{first_of}
 use Rattle.far_aggregates.specs.Readings.{is_totals}
-use Rattle.far_history.specs.Histories.{Planned}
+use Rattle.far_sessions.specs.Histories.{Planned}
 
 -- an aggregate of totals without key column has one count and one sum
 abbrev pub is_plain : Spec → Bool
@@ -15,7 +15,8 @@ is_plain spec = is_totals spec.fold && is_none spec.key
 
 -- why an aggregate cannot be the gauge of tables with a schema
 abbrev pub gauge_refusal : List Kind → Spec → Option Refusal
-gauge_refusal schema gauge = cond (is_plain gauge) (spec_refusal schema gauge) (Some refusal.BadSpec)
+gauge_refusal schema gauge = cond (is_plain gauge) (spec_refusal schema gauge)
+    (Some refusal.BadSpec)
 
 -- the first of two that refuses
 abbrev pub or_else : Option Refusal → Option Refusal → Option Refusal
@@ -24,7 +25,8 @@ or_else (Some due) other = Some due
 
 -- why there is no such plan, its limits aside
 abbrev pub plan_refusal : List Kind → Spec → ℕ → Option Refusal
-plan_refusal schema gauge sessions = or_else (gauge_refusal schema gauge) (first_of ((sessions == 0 || nat_lt 64 sessions, refusal.OutOfRange) ∷ []))
+plan_refusal schema gauge sessions = or_else (gauge_refusal schema gauge)
+    (first_of ((sessions == 0 || nat_lt 64 sessions, refusal.OutOfRange) ∷ []))
 
 -- what a plan is
 pub record IsPlan (p : Planned) : Type 0 where

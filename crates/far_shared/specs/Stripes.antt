@@ -6,8 +6,8 @@ use Rattle.far_types.specs.Table.{Table, Registered}
 use Rattle.far_rows.specs.Rows.{Rows}
 use Rattle.far_table.specs.Watching.{aggregate_at}
 use Rattle.far_frame.specs.State.{State}
-use Rattle.far_history.specs.Histories.{Planned, replay}
-use Rattle.far_history.specs.declared.view.Entry.{Entry}
+use Rattle.far_sessions.specs.Histories.{Planned, replay}
+use Rattle.far_sessions.specs.declared.view.Entry.{Entry}
 use Rattle.far_shared.specs.Fours.{pending_in}
 use Rattle.far_shared.specs.Plans.{IsPlan}
 

@@ -11,20 +11,24 @@ use Rattle.far_shared.specs.Stripes.{StripeState}
 -- it cannot be had over the schema; or there are too many, or they have not the same number in all four, or memory ran out
 abbrev pub WatchRefusal : List Kind → Spec → Refusal → Type 0
 WatchRefusal schema spec given = (spec_refusal schema spec ≡ Some given)
-    ⊎ ((spec_refusal schema spec ≡ None) × ((given ≡ refusal.TooManyAggregates) ⊎ (given ≡ refusal.NoMemory)))
+    ⊎ ((spec_refusal schema spec ≡ None)
+    × ((given ≡ refusal.TooManyAggregates) ⊎ (given ≡ refusal.NoMemory)))
 
 module _ {K : Type 0} where
   -- a stripe whose table has an aggregate more, under a number
   abbrev pub after_register : ℕ → Spec → StripeState K → StripeState K
-  after_register a spec h = record h { state = record h.state { table = after_register_at a spec h.state.table } }
+  after_register a spec h = record h
+      { state = record h.state { table = after_register_at a spec h.state.table } }
 
   -- a stripe whose table has no aggregate under a number
   abbrev pub after_unregister : ℕ → StripeState K → StripeState K
-  after_unregister a h = record h { state = record h.state { table = with_aggregate a None h.state.table } }
+  after_unregister a h = record h
+      { state = record h.state { table = with_aggregate a None h.state.table } }
 
   -- a stripe but for how many registrations were made: its history, rows, objects, pins and aggregates
   abbrev pub uncounted : StripeState K → StripeState K
-  uncounted h = record h { state = record h.state { table = record h.state.table { registrations = 0 } } }
+  uncounted h = record h
+      { state = record h.state { table = record h.state.table { registrations = 0 } } }
 
   -- a stripe is as it was. It may count one registration more, which was made and taken back
   pub record IsAsBefore (old new : StripeState K) : Type 0 where

@@ -61,12 +61,14 @@ abbrev pub works_in : Report → ℕ
 works_in report = report.done + report.refused
 
 -- there are four stripes: of an unknown one a call is refused with 14, and of the others by these numbers
-pub record RefusedAt {A : Type 0} (stripe : ℕ) (numbers : List ℕ) (result : Result A Refusal) : Type 0 where
+pub record RefusedAt {A : Type 0} (stripe : ℕ) (numbers : List ℕ)
+    (result : Result A Refusal) : Type 0 where
   pub unknown : 4 ≤ stripe → IsErrOf result refusal.OutOfRange
   pub known : stripe < 4 → RefusedBy numbers result
 
 -- a call needs a schema of this many columns: if this one has fewer, it is refused with 4, and otherwise as at its stripe
-pub record RefusedFor {A : Type 0} (columns wanted stripe : ℕ) (numbers : List ℕ) (result : Result A Refusal) : Type 0 where
+pub record RefusedFor {A : Type 0} (columns wanted stripe : ℕ) (numbers : List ℕ)
+    (result : Result A Refusal) : Type 0 where
   pub column : columns < wanted → IsErrOf result refusal.NoColumn
   pub unknown : wanted ≤ columns → 4 ≤ stripe → IsErrOf result refusal.OutOfRange
   pub known : wanted ≤ columns → stripe < 4 → RefusedBy numbers result
@@ -79,7 +81,8 @@ pub record KeepsRows (old new : Table) : Type 0 where
   pub places : new.places ≡ old.places
   pub edits : new.edits ≡ old.edits
   pub aggregates : length new.aggregates ≡ length old.aggregates
-  pub scanned : (a : ℕ) → pending_in (aggregate_at old a) ≡ 0 → aggregate_at new a ≡ aggregate_at old a
+  pub scanned : (a : ℕ) → pending_in (aggregate_at old a) ≡ 0
+      → aggregate_at new a ≡ aggregate_at old a
   pub fewer : (a : ℕ) → pending_in (aggregate_at new a) ≤ pending_in (aggregate_at old a)
 
 module _ {K : Type 0} (s : State K) where
@@ -90,11 +93,15 @@ module _ {K : Type 0} (s : State K) where
   -- a pending row group is scanned by a job, or none is pending
   abbrev pub IsBuildJob : Option (JobRecord K) → Type 0
   IsBuildJob None = IsAllScanned
-  IsBuildJob (Some job) = (a : ℕ) × (g : ℕ) × (is_pending_in (aggregate_at s.table a) g ≡ true) × IsOffloadJob s a g job
+  IsBuildJob (Some job) = (a : ℕ) × (g : ℕ)
+      × (is_pending_in (aggregate_at s.table a) g ≡ true)
+      × IsOffloadJob s a g job
 
   -- why a pending row group is not scanned by a job: the far store does not have what it needs, or memory ran out
   abbrev pub BuildRefusal : Refusal → Type 0
-  BuildRefusal given = (a : ℕ) × (g : ℕ) × (is_pending_in (aggregate_at s.table a) g ≡ true) × MayRefuse (offload_refusal (live s) (aggregate_at s.table a) g) true given
+  BuildRefusal given = (a : ℕ) × (g : ℕ)
+      × (is_pending_in (aggregate_at s.table a) g ≡ true)
+      × MayRefuse (offload_refusal (live s) (aggregate_at s.table a) g) true given
 
   -- the job that a work begins, or none if there is nothing to do
   abbrev pub BeginsWork : Work → Option (JobRecord K) → Type 0
@@ -105,14 +112,19 @@ module _ {K : Type 0} (s : State K) where
   -- why a work does not begin
   abbrev pub BeginRefusal : Work → Refusal → Type 0
   BeginRefusal (work.Evacuate stripe) given = given ≡ refusal.NoMemory
-  BeginRefusal (work.Fetch stripe name) given = fetch_refusal s.rows name.column name.group ≡ Some given
+  BeginRefusal (work.Fetch stripe name) given =
+      fetch_refusal s.rows name.column name.group ≡ Some given
   BeginRefusal (work.Build stripe) given = BuildRefusal given
 
   -- a pending row group is scanned in place if it can be, otherwise by a job
   abbrev pub BeginsBuild : Building (JobRecord K) → Type 0
   BeginsBuild building.Nothing = IsAllScanned
-  BeginsBuild (building.Scan a g) = (is_pending_in (aggregate_at s.table a) g ≡ true) × (scan_refusal (live s) (aggregate_at s.table a) g ≡ None)
-  BeginsBuild (building.Offload job) = (a : ℕ) × (g : ℕ) × (is_pending_in (aggregate_at s.table a) g ≡ true) × (is_none (scan_refusal (live s) (aggregate_at s.table a) g) ≡ false) × IsOffloadJob s a g job
+  BeginsBuild (building.Scan a g) = (is_pending_in (aggregate_at s.table a) g ≡ true)
+      × (scan_refusal (live s) (aggregate_at s.table a) g ≡ None)
+  BeginsBuild (building.Offload job) = (a : ℕ) × (g : ℕ)
+      × (is_pending_in (aggregate_at s.table a) g ≡ true)
+      × (is_none (scan_refusal (live s) (aggregate_at s.table a) g) ≡ false)
+      × IsOffloadJob s a g job
 
 module _ {K : Type 0} (number_of : K → ℕ) (content : K → List ℕ) (old : State K) where
   -- a job of this kind is accepted at its end
@@ -145,8 +157,10 @@ module _ {K : Type 0} where
   -- a job is begun for a work, described without its table. There may be nothing to send away or to build. An evacuation names
   -- its object
   abbrev pub IsJobOf : Work → Option (JobRecord K) → Type 0
-  IsJobOf (work.Evacuate stripe) job = IfSome job (λ begun. (begun_kind begun.work ≡ Some kind.Evac) × IsSome begun.name)
-  IsJobOf (work.Fetch stripe name) job = IsSomeAnd job (λ begun. (begun_kind begun.work ≡ Some kind.Fetch) × (begun.name ≡ Some name))
+  IsJobOf (work.Evacuate stripe) job = IfSome job
+      (λ begun. (begun_kind begun.work ≡ Some kind.Evac) × IsSome begun.name)
+  IsJobOf (work.Fetch stripe name) job = IsSomeAnd job
+      (λ begun. (begun_kind begun.work ≡ Some kind.Fetch) × (begun.name ≡ Some name))
   IsJobOf (work.Build stripe) job = IfSome job (λ begun. begun_kind begun.work ≡ Some kind.Offload)
 
   -- a build by a job has an offloaded build that was begun

@@ -8,7 +8,7 @@ use crate::four::answer_four;
 use crate::shared::Shared;
 use crate::stripe::{Stripe, TableTag};
 use far_frame::View;
-use far_history::PlanTag;
+use far_sessions::PlanTag;
 use far_store::FarTickets;
 use far_types::{Answer, Refusal};
 use std::alloc::Global;

@@ -1,12 +1,13 @@
 // Works that several threads do.
 ghost use Rattle.std.specs.Prelude.{◌≡◌, ◌+◌, ◌<◌, ◌≤◌, ◌^◌, ◌⊎◌, length, vec_len, sum_by, IfOk, IfErr, OnOk};
 ghost use Rattle.std.specs.Int.{div_ceil};
+ghost use Rattle.far_shared.specs.UnderLock.{IsUnder, ServeFails, Serves};
 ghost use Rattle.far_shared.specs.Works.{RefusedFor, columns_for, stripe_of, work_refusals, works_in};
 
 use crate::shared::Shared;
 use crate::stripe::TableTag;
 use crate::work::{Report, Work};
-use far_history::PlanTag;
+use far_sessions::PlanTag;
 use far_store::{FarStore, Meter};
 use far_types::Refusal;
 use std::alloc::AllocError;
@@ -21,7 +22,13 @@ fn serve<N: PlanTag, B: TableTag, S: FarStore, R: Wait>(
     work: &Work,
 ) -> Result<(), Refusal>
     requires store { S.store_id store.now ≡ B.store }
-    ensures refused { RefusedFor (length N.plan.schema) (columns_for work.now) (stripe_of work.now) (work_refusals work.now) result }
+    ensures refused { RefusedFor (length N.plan.schema) (columns_for work.now) (stripe_of work.now)
+        (work_refusals work.now) result }
+    ensures served { OnOk result
+        (Serves S.number_of S.content (IsUnder N.plan S.is_of B.store) work.now) }
+    ensures why { IfErr result
+        (λ e. columns_for work.now ≤ length N.plan.schema → stripe_of work.now < 4
+        → ServeFails S.number_of S.content (IsUnder N.plan S.is_of B.store) work.now e) }
 {
     let mut meter = Meter::new();
     match work {
@@ -164,7 +171,9 @@ impl Background {
         requires store { S.store_id store.now ≡ B.store }
         ensures all { IfOk result (λ report. report.done + report.refused ≡ vec_len works) }
         ensures workers { OnOk result ((1 ≤ workers) × (workers ≤ 8)) }
-        ensures refused { IfErr result (λ e. ((e ≡ Refusal.OutOfRange) × ((workers ≡ 0) ⊎ (8 < workers))) ⊎ ((e ≡ Refusal.NoMemory) × ((1 ≤ workers) × (workers ≤ 8)))) }
+        ensures refused { IfErr result
+            (λ e. ((e ≡ Refusal.OutOfRange) × ((workers ≡ 0) ⊎ (8 < workers)))
+            ⊎ ((e ≡ Refusal.NoMemory) × ((1 ≤ workers) × (workers ≤ 8)))) }
     {
         if workers < 1 || workers > 8 {
             return Err(Refusal::OutOfRange);

@@ -1,7 +1,7 @@
 // How a shared table ends.
 ghost use Rattle.std.specs.Prelude.{◌≡◌, IfOk, IfErr, OnOk};
 ghost use Rattle.far_rows.specs.Jobs.{AreAt};
-ghost use Rattle.far_history.specs.Histories.{IsLegal};
+ghost use Rattle.far_sessions.specs.Histories.{IsLegal};
 ghost use Rattle.far_sessions.specs.Closing.{IsSettled, IsWhole};
 ghost use Rattle.far_shared.specs.Closing.{IsClosed};
 ghost use Rattle.far_shared.specs.Stripes.{IsStripe};
@@ -11,8 +11,7 @@ use crate::shared::Shared;
 use crate::stripe::{Stripe, TableTag};
 use crossbeam_utils::CachePadded;
 use far_frame::Frame;
-use far_history::PlanTag;
-use far_sessions::{Cells, Keeper, Keepers, Session, are_whole, settle};
+use far_sessions::{Cells, Keeper, Keepers, PlanTag, Session, are_whole, settle};
 use far_store::FarTickets;
 use far_types::Refusal;
 use std::sync::{RwLock, Wait};
@@ -24,10 +23,14 @@ fn end<N: PlanTag, B: TableTag, R: Wait>(
     keepers: Keepers<N, B>,
     sessions: Vec<Session<B>>,
 )
-    ensures zero { IsLegal N.plan keepers.zero × IsSettled N.plan.sessions 0 keepers.zero sessions.items }
-    ensures one { IsLegal N.plan keepers.one × IsSettled N.plan.sessions 1 keepers.one sessions.items }
-    ensures two { IsLegal N.plan keepers.two × IsSettled N.plan.sessions 2 keepers.two sessions.items }
-    ensures three { IsLegal N.plan keepers.three × IsSettled N.plan.sessions 3 keepers.three sessions.items }
+    ensures zero { IsLegal N.plan keepers.zero
+        × IsSettled N.plan.sessions 0 keepers.zero sessions.items }
+    ensures one { IsLegal N.plan keepers.one
+        × IsSettled N.plan.sessions 1 keepers.one sessions.items }
+    ensures two { IsLegal N.plan keepers.two
+        × IsSettled N.plan.sessions 2 keepers.two sessions.items }
+    ensures three { IsLegal N.plan keepers.three
+        × IsSettled N.plan.sessions 3 keepers.three sessions.items }
 {
     let mut keepers = keepers;
     keepers.zero.known();
@@ -63,12 +66,18 @@ fn end_stripes<N: PlanTag, B: TableTag, S: FarTickets, R: Wait>(
     three: Stripe<N, B, S, 3>,
     sessions: Vec<Session<B>>,
 ) -> Four<Frame<S>>
-    ensures same { (result.zero ≡ zero.state) × (result.one ≡ one.state) × (result.two ≡ two.state) × (result.three ≡ three.state) }
+    ensures same { (result.zero ≡ zero.state)
+        × (result.one ≡ one.state)
+        × (result.two ≡ two.state)
+        × (result.three ≡ three.state) }
     ensures zero { IsClosed N.plan 0 sessions.items result.zero.table }
     ensures one { IsClosed N.plan 1 sessions.items result.one.table }
     ensures two { IsClosed N.plan 2 sessions.items result.two.table }
     ensures three { IsClosed N.plan 3 sessions.items result.three.table }
-    ensures here { AreAt S.is_of B.store result.zero.rows × AreAt S.is_of B.store result.one.rows × AreAt S.is_of B.store result.two.rows × AreAt S.is_of B.store result.three.rows }
+    ensures here { AreAt S.is_of B.store result.zero.rows
+        × AreAt S.is_of B.store result.one.rows
+        × AreAt S.is_of B.store result.two.rows
+        × AreAt S.is_of B.store result.three.rows }
 {
     let (frame_zero, keeper_zero) = zero.into_parts();
     let (frame_one, keeper_one) = one.into_parts();
@@ -103,7 +112,10 @@ impl<N: PlanTag, B: TableTag, S: FarTickets> Shared<N, B, S> {
         ensures one { IsClosed N.plan 1 sessions.items result.one.table }
         ensures two { IsClosed N.plan 2 sessions.items result.two.table }
         ensures three { IsClosed N.plan 3 sessions.items result.three.table }
-        ensures here { AreAt S.is_of B.store result.zero.rows × AreAt S.is_of B.store result.one.rows × AreAt S.is_of B.store result.two.rows × AreAt S.is_of B.store result.three.rows }
+        ensures here { AreAt S.is_of B.store result.zero.rows
+            × AreAt S.is_of B.store result.one.rows
+            × AreAt S.is_of B.store result.two.rows
+            × AreAt S.is_of B.store result.three.rows }
     {
         let Shared {
             alloc: _,
@@ -140,8 +152,12 @@ pub fn close<N: PlanTag, B: TableTag, S: FarTickets, R: Wait>(
     ensures one { IfOk result (λ frames. IsClosed N.plan 1 sessions.items frames.one.table) }
     ensures two { IfOk result (λ frames. IsClosed N.plan 2 sessions.items frames.two.table) }
     ensures three { IfOk result (λ frames. IsClosed N.plan 3 sessions.items frames.three.table) }
-    ensures here { IfOk result (λ frames. AreAt S.is_of B.store frames.zero.rows × AreAt S.is_of B.store frames.one.rows × AreAt S.is_of B.store frames.two.rows × AreAt S.is_of B.store frames.three.rows) }
-    ensures missing { IfErr result (λ refused. (refused.0 ≡ Refusal.OutOfRange) × ¬ (IsWhole N.plan.sessions sessions.items)) }
+    ensures here { IfOk result (λ frames. AreAt S.is_of B.store frames.zero.rows
+        × AreAt S.is_of B.store frames.one.rows
+        × AreAt S.is_of B.store frames.two.rows
+        × AreAt S.is_of B.store frames.three.rows) }
+    ensures missing { IfErr result
+        (λ refused. (refused.0 ≡ Refusal.OutOfRange) × ¬ (IsWhole N.plan.sessions sessions.items)) }
     ensures back { IfErr result (λ refused. refused.2.items ≡ sessions.items) }
 {
     if !are_whole(&sessions, shared.count.sessions) {

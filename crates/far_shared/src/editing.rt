@@ -5,13 +5,13 @@ ghost use Rattle.far_rows.specs.Jobs.{AreAt};
 ghost use Rattle.far_table.specs.Watching.{aggregate_at};
 ghost use Rattle.far_frame.specs.Effects.{Accepts, Refuses, edit_reply};
 ghost use Rattle.far_frame.specs.declared.step.Step.TheVariants as step;
-ghost use Rattle.far_history.specs.Histories.{folded};
+ghost use Rattle.far_sessions.specs.Histories.{folded};
 ghost use Rattle.far_shared.specs.Applying.{place_of};
 ghost use Rattle.far_shared.specs.Plans.{IsPlan};
 ghost use Rattle.far_shared.specs.Stripes.{KeepsColumns, first_registered};
 
 use far_frame::Frame;
-use far_history::{PlanTag, Reading};
+use far_sessions::{PlanTag, Reading};
 use far_store::FarTickets;
 use far_types::{Edit, Refusal};
 
@@ -28,11 +28,13 @@ fn make<S: FarTickets>(frame: &mut Frame<S>, edit: Edit) -> Result<u32, Refusal>
     requires column_indexes { length frame.old.rows.column_indexes ≡ length frame.old.table.schema }
     ensures may { OnOk result (edit_refusal frame.old.table edit ≡ None) }
     ensures made { OnOk result (frame.new.table ≡ after_edit edit frame.old.table) }
-    ensures accepted { OnOk result (Accepts S.content frame.old (step.Edit edit) (edit_reply frame.old.table edit) frame.new) }
+    ensures accepted { OnOk result
+        (Accepts S.content frame.old (step.Edit edit) (edit_reply frame.old.table edit) frame.new) }
     ensures place { IfOk result (λ place. place ≡ place_of frame.old.table edit) }
     ensures due { IfErr result (λ e. Refuses frame.old (step.Edit edit) e frame.new) }
     ensures err { OnErr result (frame.new ≡ frame.old) }
-    ensures here { (id : List ℕ) → AreAt S.is_of id frame.old.rows → AreAt S.is_of id frame.new.rows }
+    ensures here { (id : List ℕ) → AreAt S.is_of id frame.old.rows
+        → AreAt S.is_of id frame.new.rows }
     ensures columns { KeepsColumns frame.old.rows frame.new.rows }
 {
     match edit {
@@ -56,7 +58,12 @@ fn make<S: FarTickets>(frame: &mut Frame<S>, edit: Edit) -> Result<u32, Refusal>
 fn gauged<N: PlanTag, S: FarTickets>(frame: &Frame<S>, edits: u64) -> Reading
     requires plan { IsPlan N.plan }
     requires gauge { aggregate_at frame.now.table 0 ≡ Some (first_registered N.plan.gauge) }
-    ensures { result ≡ record { edits = edits; count = (folded N.plan.gauge frame.now.table.places).0; sum = (folded N.plan.gauge frame.now.table.places).1 } }
+    ensures { result
+        ≡ record {
+          edits = edits;
+          count = (folded N.plan.gauge frame.now.table.places).0;
+          sum = (folded N.plan.gauge frame.now.table.places).1;
+        } }
 {
     let Some((count, sum)) = frame.plain(0) else {
         unreachable!()
@@ -76,12 +83,19 @@ pub(crate) fn change<N: PlanTag, S: FarTickets>(
     requires few { edits < 2 ^ 63 }
     ensures may { OnOk result (edit_refusal frame.old.table edit ≡ None) }
     ensures made { OnOk result (frame.new.table ≡ after_edit edit frame.old.table) }
-    ensures accepted { OnOk result (Accepts S.content frame.old (step.Edit edit) (edit_reply frame.old.table edit) frame.new) }
+    ensures accepted { OnOk result
+        (Accepts S.content frame.old (step.Edit edit) (edit_reply frame.old.table edit) frame.new) }
     ensures place { IfOk result (λ changed. changed.place ≡ place_of frame.old.table edit) }
-    ensures after { IfOk result (λ changed. changed.after ≡ record { edits = edits + 1; count = (folded N.plan.gauge frame.new.table.places).0; sum = (folded N.plan.gauge frame.new.table.places).1 }) }
+    ensures after { IfOk result (λ changed. changed.after
+        ≡ record {
+          edits = edits + 1;
+          count = (folded N.plan.gauge frame.new.table.places).0;
+          sum = (folded N.plan.gauge frame.new.table.places).1;
+        }) }
     ensures due { IfErr result (λ e. Refuses frame.old (step.Edit edit) e frame.new) }
     ensures err { OnErr result (frame.new ≡ frame.old) }
-    ensures here { (id : List ℕ) → AreAt S.is_of id frame.old.rows → AreAt S.is_of id frame.new.rows }
+    ensures here { (id : List ℕ) → AreAt S.is_of id frame.old.rows
+        → AreAt S.is_of id frame.new.rows }
     ensures columns { KeepsColumns frame.old.rows frame.new.rows }
 {
     let place = make(frame, edit)?;

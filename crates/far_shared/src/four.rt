@@ -52,7 +52,8 @@ fn are_alike<S: FarTickets>(
     four: &Frame<S>,
     a: u32,
 ) -> bool
-    ensures { IsTrue result ↔ AreAlike a one.now.table two.now.table three.now.table four.now.table }
+    ensures { IsTrue result
+        ↔ AreAlike a one.now.table two.now.table three.now.table four.now.table }
 {
     are_like(one, two, a) && are_like(one, three, a) && are_like(one, four, a)
 }
@@ -61,7 +62,8 @@ fn are_alike<S: FarTickets>(
 fn asked<S: FarTickets>(frame: &Frame<S>, spec: &Spec, a: u32) -> (u32, Option<Answer>)
     requires { spec_at frame.now.table a ≡ Some spec.now }
     ensures left { result.0 ≡ pending_in (aggregate_at frame.now.table a) }
-    ensures answer { IfSome result.1 (λ answer. answer ≡ answer_over spec.now (rows_of frame.now.table.places)) }
+    ensures answer { IfSome result.1
+        (λ answer. answer ≡ answer_over spec.now (rows_of frame.now.table.places)) }
     ensures kind { IfSome result.1 (IsOf spec.now.fold) }
 {
     // For the proof: what the answer is of.
@@ -118,7 +120,8 @@ fn all_scanned<T: Drop>(
     ensures two { IfOk result (λ four. two ≡ Some four.two) }
     ensures three { IfOk result (λ four. three ≡ Some four.three) }
     ensures scanned { OnOk result (IsOk scanned) }
-    ensures refused { IfErr result (λ e. IsErrOf scanned e ⊎ (IsOk scanned × (e ≡ Refusal.NoMemory))) }
+    ensures refused { IfErr result
+        (λ e. IsErrOf scanned e ⊎ (IsOk scanned × (e ≡ Refusal.NoMemory))) }
 {
     match scanned {
         Ok(()) => match (zero, one, two, three) {
@@ -169,7 +172,13 @@ fn merge(
     requires two { IsOf spec.now.fold two }
     requires three { IsOf spec.now.fold three }
     requires four { IsOf spec.now.fold four }
-    ensures ok { IfOk result (λ answer. (a : List (List Cell)) → (b : List (List Cell)) → (c : List (List Cell)) → (d : List (List Cell)) → one ≡ answer_over spec.now a → two ≡ answer_over spec.now b → three ≡ answer_over spec.now c → four ≡ answer_over spec.now d → answer ≡ answer_over spec.now (a ++ (b ++ (c ++ d)))) }
+    ensures ok { IfOk result (λ answer. (a : List (List Cell)) → (b : List (List Cell))
+        → (c : List (List Cell)) → (d : List (List Cell))
+        → one ≡ answer_over spec.now a
+        → two ≡ answer_over spec.now b
+        → three ≡ answer_over spec.now c
+        → four ≡ answer_over spec.now d
+        → answer ≡ answer_over spec.now (a ++ (b ++ (c ++ d)))) }
     ensures memory { IfErr result (λ e. e ≡ Refusal.NoMemory) }
 {
     match spec.fold {
@@ -210,9 +219,12 @@ fn answer_alike<S: FarTickets>(
     requires two { spec_at two.now.table a ≡ Some spec.now }
     requires three { spec_at three.now.table a ≡ Some spec.now }
     requires four { spec_at four.now.table a ≡ Some spec.now }
-    ensures answer { IfOk result (λ answer. answer ≡ answer_over spec.now (all_rows one.now.table two.now.table three.now.table four.now.table)) }
-    ensures scanned { OnOk result (pending_in_all a one.now.table two.now.table three.now.table four.now.table ≡ 0) }
-    ensures refused { IfErr result (AnyRefusal (pending_in_all a one.now.table two.now.table three.now.table four.now.table)) }
+    ensures answer { IfOk result (λ answer. answer ≡ answer_over spec.now
+        (all_rows one.now.table two.now.table three.now.table four.now.table)) }
+    ensures scanned { OnOk result
+        (pending_in_all a one.now.table two.now.table three.now.table four.now.table ≡ 0) }
+    ensures refused { IfErr result
+        (AnyRefusal (pending_in_all a one.now.table two.now.table three.now.table four.now.table)) }
 {
     let (left_one, answer_one) = asked(one, spec, a);
     let (left_two, answer_two) = asked(two, spec, a);
@@ -241,10 +253,15 @@ pub fn answer_four<S: FarTickets>(
     four: &Frame<S>,
     a: u32,
 ) -> Result<Answer, Refusal>
-    ensures answer { IfOk result (λ answer. IfSome (spec_at one.now.table a) (λ spec. answer ≡ answer_over spec (all_rows one.now.table two.now.table three.now.table four.now.table))) }
-    ensures alike { OnOk result (AreAlike a one.now.table two.now.table three.now.table four.now.table) }
-    ensures scanned { OnOk result (pending_in_all a one.now.table two.now.table three.now.table four.now.table ≡ 0) }
-    ensures refused { IfErr result (FourRefusal a one.now.table two.now.table three.now.table four.now.table) }
+    ensures answer { IfOk result (λ answer. IfSome (spec_at one.now.table a)
+        (λ spec. answer ≡ answer_over spec
+        (all_rows one.now.table two.now.table three.now.table four.now.table))) }
+    ensures alike { OnOk result
+        (AreAlike a one.now.table two.now.table three.now.table four.now.table) }
+    ensures scanned { OnOk result
+        (pending_in_all a one.now.table two.now.table three.now.table four.now.table ≡ 0) }
+    ensures refused { IfErr result
+        (FourRefusal a one.now.table two.now.table three.now.table four.now.table) }
 {
     if !are_alike(one, two, three, four, a) {
         return Err(Refusal::NoAggregate);

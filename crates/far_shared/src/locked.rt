@@ -1,13 +1,17 @@
 // Work in the background, under the lock of one stripe. A carry holds no lock.
-ghost use Rattle.std.specs.Prelude.{◌≡◌, ◌+◌, ◌<◌, ◌≤◌, ◌^◌, [], ◌∷◌, None, length, IfOk, IfSome, OnOk};
+ghost use Rattle.std.specs.Prelude.{◌≡◌, ◌+◌, ◌<◌, ◌≤◌, ◌^◌, [], ◌∷◌, None, length, IfOk, IfErr, IfSome, OnOk};
 ghost use Rattle.far_store.specs.Faults.{RefusedBy, faults_in};
+ghost use Rattle.far_frame.specs.Effects.{Accepts, WhyRefused};
 ghost use Rattle.far_frame.specs.Jobs.{IsJobAt, job_kind};
-ghost use Rattle.far_shared.specs.Works.{IsJobOf, IsBuildOf, IsBuildingAt, begin_refusals, begun_kind, columns_for, end_refusals, job_refusals, stripe_of};
+ghost use Rattle.far_frame.specs.declared.step.Reply.TheVariants as reply;
+ghost use Rattle.far_frame.specs.declared.step.Step.TheVariants as step;
+ghost use Rattle.far_shared.specs.Works.{IsJobOf, IsBuildOf, IsBuildingAt, BeginsBuild, BuildRefusal, begin_refusals, begun_kind, columns_for, end_refusals, job_refusals, stripe_of};
+ghost use Rattle.far_shared.specs.UnderLock.{BeginFails, Begins, BuildFails, Builds, Changed, CompleteFails, Completes, EndFails, Ends, EvacuationFails, Evacuates, FetchFails, Fetches, Found, IsUnder};
 
 use crate::stripe::{Stripe, TableTag};
 use crate::work::{Building, Work};
 use far_frame::Job;
-use far_history::PlanTag;
+use far_sessions::PlanTag;
 use far_store::{FarStore, FarTickets, Meter};
 use far_types::{Name, Refusal};
 use std::alloc::Global;
@@ -26,8 +30,14 @@ pub(crate) fn begin_under<N: PlanTag, B: TableTag, S: FarTickets, const I: usize
     ensures begun { IfOk result (IsJobOf work.now) }
     ensures here { IfOk result (λ job. IfSome job (IsJobAt S.is_of B.store)) }
     ensures refused { RefusedBy (begin_refusals work.now) result }
+    ensures begins { IfOk result
+        (Begins (IsUnder N.plan S.is_of B.store (stripe_of work.now)) work.now) }
+    ensures why { IfErr result
+        (BeginFails (IsUnder N.plan S.is_of B.store (stripe_of work.now)) work.now) }
 {
-    lock.read(rt).begin(store, work)
+    let stripe = lock.read(rt);
+    stripe.known();
+    stripe.begin(store, work)
 }
 
 /// Ends a job under the write lock.
@@ -43,8 +53,16 @@ pub(crate) fn finish_under<N: PlanTag, B: TableTag, S: FarTickets, const I: usiz
     requires here { IsJobAt S.is_of B.store job.now }
     ensures carried { OnOk result (begun_kind job.now.work ≡ None) }
     ensures refused { RefusedBy (end_refusals (job_kind job.now)) result }
+    ensures ended { OnOk result
+        (Ends S.number_of S.content (IsUnder N.plan S.is_of B.store stripe) job.now) }
+    ensures why { IfErr result
+        (EndFails S.number_of S.content (IsUnder N.plan S.is_of B.store stripe) job.now) }
 {
-    lock.write(rt).finish(store, job)
+    let mut stripe = lock.write(rt);
+    stripe.known();
+    let ended = stripe.finish(store, job);
+    stripe.known();
+    ended
 }
 
 /// Begins to build a pending row group, under the read lock.
@@ -57,8 +75,14 @@ fn building_under<N: PlanTag, B: TableTag, S: FarTickets, const I: usize, R: Wai
     ensures begun { IfOk result IsBuildOf }
     ensures here { IfOk result (IsBuildingAt S.is_of B.store) }
     ensures refused { RefusedBy (14 ∷ 20 ∷ 1 ∷ []) result }
+    ensures begins { IfOk result
+        (λ build. Found (IsUnder N.plan S.is_of B.store I) (λ s. BeginsBuild s build)) }
+    ensures why { IfErr result
+        (λ e. Found (IsUnder N.plan S.is_of B.store I) (λ s. BuildRefusal s e)) }
 {
-    lock.read(rt).building(store)
+    let stripe = lock.read(rt);
+    stripe.known();
+    stripe.building(store)
 }
 
 /// Builds a row group into an aggregate by a scan, under the write lock.
@@ -69,8 +93,16 @@ fn scan_under<N: PlanTag, B: TableTag, S: FarTickets, const I: usize, R: Wait>(
     group: u32,
 ) -> Result<(), Refusal>
     ensures refused { RefusedBy (12 ∷ 14 ∷ 20 ∷ 16 ∷ 1 ∷ []) result }
+    ensures scanned { OnOk result (Changed (IsUnder N.plan S.is_of B.store I)
+        (λ old new. Accepts S.content old (step.ScanGroup aggregate group) reply.Done new)) }
+    ensures why { IfErr result (λ e. Found (IsUnder N.plan S.is_of B.store I)
+        (λ s. WhyRefused s (step.ScanGroup aggregate group) e)) }
 {
-    lock.write(rt).scan(aggregate, group)
+    let mut stripe = lock.write(rt);
+    stripe.known();
+    let scanned = stripe.scan(aggregate, group);
+    stripe.known();
+    scanned
 }
 
 /// Returns why a job came back, and drops the job.
@@ -98,6 +130,10 @@ fn complete_under<N: PlanTag, B: TableTag, S: FarStore, const I: usize, R: Wait>
     requires here { IsJobAt S.is_of B.store job }
     ensures faults { meter.new ≡ meter.old + faults_in result }
     ensures refused { RefusedBy (job_refusals (job_kind job)) result }
+    ensures completed { OnOk result
+        (Completes S.number_of S.content (IsUnder N.plan S.is_of B.store stripe) job) }
+    ensures why { IfErr result
+        (CompleteFails S.number_of S.content (IsUnder N.plan S.is_of B.store stripe) job) }
 {
     match job.carry(alloc, store, meter) {
         Ok(carried) => {
@@ -124,6 +160,10 @@ pub(crate) fn evacuate_under<N: PlanTag, B: TableTag, S: FarStore, const I: usiz
     requires store { S.store_id store.now ≡ B.store }
     ensures faults { meter.new ≡ meter.old + faults_in result }
     ensures refused { RefusedBy (21 ∷ 22 ∷ 20 ∷ 19 ∷ 1 ∷ []) result }
+    ensures evacuated { IfOk result
+        (Evacuates S.number_of S.content (IsUnder N.plan S.is_of B.store stripe)) }
+    ensures why { IfErr result
+        (EvacuationFails S.number_of S.content (IsUnder N.plan S.is_of B.store stripe)) }
 {
     let Some(job) = begin_under(rt, lock, store, &Work::Evacuate(stripe))? else {
         return Ok(None);
@@ -149,6 +189,10 @@ pub(crate) fn fetch_under<N: PlanTag, B: TableTag, S: FarStore, const I: usize, 
     requires store { S.store_id store.now ≡ B.store }
     ensures faults { meter.new ≡ meter.old + faults_in result }
     ensures refused { RefusedBy (14 ∷ 20 ∷ 21 ∷ 17 ∷ 1 ∷ []) result }
+    ensures fetched { OnOk result
+        (Fetches S.number_of S.content (IsUnder N.plan S.is_of B.store stripe) name) }
+    ensures why { IfErr result
+        (FetchFails S.number_of S.content (IsUnder N.plan S.is_of B.store stripe) name) }
 {
     let Some(job) = begin_under(rt, lock, store, &Work::Fetch(stripe, name))? else {
         unreachable!()
@@ -170,6 +214,10 @@ pub(crate) fn build_under<N: PlanTag, B: TableTag, S: FarStore, const I: usize, 
     requires store { S.store_id store.now ≡ B.store }
     ensures faults { meter.new ≡ meter.old + faults_in result }
     ensures refused { RefusedBy (14 ∷ 12 ∷ 20 ∷ 16 ∷ 21 ∷ 1 ∷ []) result }
+    ensures built { IfOk result
+        (Builds S.number_of S.content (IsUnder N.plan S.is_of B.store stripe)) }
+    ensures why { IfErr result
+        (BuildFails S.number_of S.content (IsUnder N.plan S.is_of B.store stripe)) }
 {
     match building_under(rt, lock, store)? {
         Building::Nothing => Ok(false),

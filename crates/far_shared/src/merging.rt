@@ -20,7 +20,8 @@ use std::collections::BTreeMap;
 /// Returns the count and the sum of a key with another count and sum added. Refused with `NoMemory` (1) if one of them does not
 /// fit, which takes far more rows than tables have.
 fn with_more(before: Option<CountSum>, more: CountSum) -> Result<CountSum, Refusal>
-    ensures ok { IfOk result (λ count_sum. count_sum ≡ option_map_or (λ there. add_count_sums there more) before more) }
+    ensures ok { IfOk result
+        (λ count_sum. count_sum ≡ option_map_or (λ there. add_count_sums there more) before more) }
     ensures memory { IfErr result (λ e. e ≡ Refusal.NoMemory) }
 {
     let Some(count_sum) = before else {
@@ -37,7 +38,10 @@ fn with_more(before: Option<CountSum>, more: CountSum) -> Result<CountSum, Refus
 
 /// Adds a count and a sum to a key. Refused with `NoMemory` (1) alone.
 fn add(count_sums: &mut CountSums, key: Option<Key>, more: CountSum) -> Result<(), Refusal>
-    ensures ok { OnOk result (totals_of count_sums.new.entries ≡ fin.insert (totals_of count_sums.old.entries) key (option_map_or (λ there. add_count_sums there more) (fin.get (totals_of count_sums.old.entries) key) more)) }
+    ensures ok { OnOk result (totals_of count_sums.new.entries
+        ≡ fin.insert (totals_of count_sums.old.entries) key
+        (option_map_or (λ there. add_count_sums there more)
+        (fin.get (totals_of count_sums.old.entries) key) more)) }
     ensures memory { IfErr result (λ e. e ≡ Refusal.NoMemory) }
 {
     let count_sum = with_more(count_sums.get(&key).copied(), more)?;
@@ -47,7 +51,10 @@ fn add(count_sums: &mut CountSums, key: Option<Key>, more: CountSum) -> Result<(
 
 /// Adds the rows of one answer. Refused with `NoMemory` (1) alone.
 fn add_totals(count_sums: &mut CountSums, lines: TotalLines) -> Result<(), Refusal>
-    ensures ok { OnOk result ((key : Option ℕ) → (some : List Pair) → (others : List Pair) → totals_of count_sums.old.entries ≡ totals some → lines ≡ or_zero key (total_lines (totals others)) → totals_of count_sums.new.entries ≡ totals (some ++ others)) }
+    ensures ok { OnOk result ((key : Option ℕ) → (some : List Pair) → (others : List Pair)
+        → totals_of count_sums.old.entries ≡ totals some
+        → lines ≡ or_zero key (total_lines (totals others))
+        → totals_of count_sums.new.entries ≡ totals (some ++ others)) }
     ensures memory { IfErr result (λ e. e ≡ Refusal.NoMemory) }
 {
     for (key, count, sum) in lines.into_lines() {
@@ -61,7 +68,9 @@ fn add_totals(count_sums: &mut CountSums, lines: TotalLines) -> Result<(), Refus
 
 /// Returns the lines of the counts and sums, by their keys. Refused with `NoMemory` (1) alone.
 fn lines_of(alloc: Global, count_sums: &CountSums) -> Result<TotalLines, Refusal>
-    ensures ok { IfOk result (λ lines. lines ≡ map (λ (entry : Option Key × (ℕ × ℤ)). (entry.0, entry.1.0, entry.1.1)) count_sums.now.entries) }
+    ensures ok { IfOk result (λ lines. lines
+        ≡ map (λ (entry : Option Key × (ℕ × ℤ)). (entry.0, entry.1.0, entry.1.1))
+        count_sums.now.entries) }
     ensures ordered { IsOrdered line_cmp count_sums.now }
     ensures memory { IfErr result (λ e. e ≡ Refusal.NoMemory) }
 {
@@ -81,7 +90,13 @@ pub(crate) fn merge_totals(
     three: TotalLines,
     four: TotalLines,
 ) -> Result<Answer, Refusal>
-    ensures ok { IfOk result (λ answer. (a : List Pair) → (b : List Pair) → (c : List Pair) → (d : List Pair) → one ≡ or_zero key (total_lines (totals a)) → two ≡ or_zero key (total_lines (totals b)) → three ≡ or_zero key (total_lines (totals c)) → four ≡ or_zero key (total_lines (totals d)) → answer ≡ answer_of fold.Totals key (a ++ (b ++ (c ++ d)))) }
+    ensures ok { IfOk result (λ answer. (a : List Pair) → (b : List Pair) → (c : List Pair)
+        → (d : List Pair)
+        → one ≡ or_zero key (total_lines (totals a))
+        → two ≡ or_zero key (total_lines (totals b))
+        → three ≡ or_zero key (total_lines (totals c))
+        → four ≡ or_zero key (total_lines (totals d))
+        → answer ≡ answer_of fold.Totals key (a ++ (b ++ (c ++ d)))) }
     ensures memory { IfErr result (λ e. e ≡ Refusal.NoMemory) }
 {
     let mut count_sums = BTreeMap::new(alloc);
@@ -95,7 +110,10 @@ pub(crate) fn merge_totals(
 
 /// Joins a min-max to that under a key. Refused with `NoMemory` (1) alone.
 fn observe(min_maxes: &mut GroupExtrema, key: Option<Key>, min_max: MinMax) -> Result<(), Refusal>
-    ensures ok { OnOk result (min_maxes.new ≡ fin.insert min_maxes.old key (option_map_or (λ there. join_min_maxes there min_max) (fin.get min_maxes.old key) min_max)) }
+    ensures ok { OnOk result (min_maxes.new
+        ≡ fin.insert min_maxes.old key
+        (option_map_or (λ there. join_min_maxes there min_max)
+        (fin.get min_maxes.old key) min_max)) }
     ensures memory { IfErr result (λ e. e ≡ Refusal.NoMemory) }
 {
     min_maxes.observe_rows(key, min_max)
@@ -103,7 +121,9 @@ fn observe(min_maxes: &mut GroupExtrema, key: Option<Key>, min_max: MinMax) -> R
 
 /// Takes in the rows of one answer. Refused with `NoMemory` (1) alone.
 fn add_extrema(min_maxes: &mut GroupExtrema, lines: ExtremaLines) -> Result<(), Refusal>
-    ensures ok { OnOk result ((some : List Pair) → (others : List Pair) → min_maxes.old ≡ extrema some → lines ≡ extrema_lines (extrema others) → min_maxes.new ≡ extrema (some ++ others)) }
+    ensures ok { OnOk result ((some : List Pair) → (others : List Pair)
+        → min_maxes.old ≡ extrema some → lines ≡ extrema_lines (extrema others)
+        → min_maxes.new ≡ extrema (some ++ others)) }
     ensures memory { IfErr result (λ e. e ≡ Refusal.NoMemory) }
 {
     for (key, min, max) in lines.into_lines() {
@@ -120,7 +140,13 @@ pub(crate) fn merge_extrema(
     three: ExtremaLines,
     four: ExtremaLines,
 ) -> Result<Answer, Refusal>
-    ensures ok { IfOk result (λ answer. (key : Option ℕ) → (a : List Pair) → (b : List Pair) → (c : List Pair) → (d : List Pair) → one ≡ extrema_lines (extrema a) → two ≡ extrema_lines (extrema b) → three ≡ extrema_lines (extrema c) → four ≡ extrema_lines (extrema d) → answer ≡ answer_of fold.Extrema key (a ++ (b ++ (c ++ d)))) }
+    ensures ok { IfOk result (λ answer. (key : Option ℕ) → (a : List Pair) → (b : List Pair)
+        → (c : List Pair) → (d : List Pair)
+        → one ≡ extrema_lines (extrema a)
+        → two ≡ extrema_lines (extrema b)
+        → three ≡ extrema_lines (extrema c)
+        → four ≡ extrema_lines (extrema d)
+        → answer ≡ answer_of fold.Extrema key (a ++ (b ++ (c ++ d)))) }
     ensures memory { IfErr result (λ e. e ≡ Refusal.NoMemory) }
 {
     let mut min_maxes = GroupExtrema::new(alloc);

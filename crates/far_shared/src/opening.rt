@@ -10,8 +10,7 @@ use crate::shared::{Count, Shared};
 use crate::stripe::{Stripe, TableTag};
 use crossbeam_utils::CachePadded;
 use far_frame::Frame;
-use far_history::PlanTag;
-use far_sessions::{Keeper, Opened, Session};
+use far_sessions::{Keeper, Opened, PlanTag, Session};
 use far_store::FarTickets;
 use far_types::Refusal;
 use std::alloc::{AllocError, Global};
@@ -45,7 +44,8 @@ fn all_four<T: Drop>(
     ensures one { IfOk result (λ four. IsOkAnd one (λ x. x ≡ four.one)) }
     ensures two { IfOk result (λ four. IsOkAnd two (λ x. x ≡ four.two)) }
     ensures three { IfOk result (λ four. IsOkAnd three (λ x. x ≡ four.three)) }
-    ensures refused { IfErr result (λ e. IsErrOf zero e ⊎ IsErrOf one e ⊎ IsErrOf two e ⊎ IsErrOf three e) }
+    ensures refused { IfErr result
+        (λ e. IsErrOf zero e ⊎ IsErrOf one e ⊎ IsErrOf two e ⊎ IsErrOf three e) }
 {
     Ok(Four {
         zero: zero?,
@@ -71,8 +71,10 @@ fn both<A: Drop, B: Drop>(
 ) -> Result<Together<A, B>, Refusal>
     ensures one { IfOk result (λ both. IsOkAnd one (λ x. x ≡ both.one)) }
     ensures other { IfOk result (λ both. IsOkAnd other (λ y. y ≡ both.other)) }
-    ensures memory { IfErr one (λ e. e ≡ Refusal.NoMemory) → IfErr result (λ e. e ≡ Refusal.NoMemory) }
-    ensures refused { IfErr result (λ e. IsErrOf one e ⊎ (IsOk one × IsErr other × (e ≡ Refusal.NoMemory))) }
+    ensures memory { IfErr one (λ e. e ≡ Refusal.NoMemory)
+        → IfErr result (λ e. e ≡ Refusal.NoMemory) }
+    ensures refused { IfErr result
+        (λ e. IsErrOf one e ⊎ (IsOk one × IsErr other × (e ≡ Refusal.NoMemory))) }
 {
     match (one, other) {
         (Ok(one), Ok(other)) => Ok(Together { one, other }),
@@ -122,9 +124,19 @@ impl<N: PlanTag, S: FarTickets> Model for Made<N, S> {
 
     ghost Value = { CellIds };
 
-    ghost view = { λ m. record { zeroth = m.cells.zero; first = m.cells.one; second = m.cells.two; third = m.cells.three } };
+    ghost view = { λ m. record {
+      zeroth = m.cells.zero;
+      first = m.cells.one;
+      second = m.cells.two;
+      third = m.cells.three;
+    } };
 
-    ghost invariant = { λ m. (m.sessions ≡ N.plan.sessions) × (m.columns ≡ length N.plan.schema) × IsEmpty S.is_of N.plan 0 m.frames.zero × IsEmpty S.is_of N.plan 1 m.frames.one × IsEmpty S.is_of N.plan 2 m.frames.two × IsEmpty S.is_of N.plan 3 m.frames.three };
+    ghost invariant = { λ m. (m.sessions ≡ N.plan.sessions)
+        × (m.columns ≡ length N.plan.schema)
+        × IsEmpty S.is_of N.plan 0 m.frames.zero
+        × IsEmpty S.is_of N.plan 1 m.frames.one
+        × IsEmpty S.is_of N.plan 2 m.frames.two
+        × IsEmpty S.is_of N.plan 3 m.frames.three };
 }
 
 /// Registers the gauge of a plan in an empty table. Refused with `NoMemory` (1) alone.

@@ -39,14 +39,24 @@ pub struct Plan {
 }
 
 impl Model for Plan {
-    ghost use Rattle.far_history.specs.Histories.{Planned};
+    ghost use Rattle.far_sessions.specs.Histories.{Planned};
     ghost use Rattle.far_shared.specs.Plans.{IsPlan};
 
     ghost Value = { Planned };
 
-    ghost view = { λ plan. record { schema = plan.schema; limits = plan.limits; gauge = plan.gauge; sessions = plan.sessions } };
+    ghost view = { λ plan. record {
+      schema = plan.schema;
+      limits = plan.limits;
+      gauge = plan.gauge;
+      sessions = plan.sessions;
+    } };
 
-    ghost invariant = { λ plan. IsPlan record { schema = plan.schema; limits = plan.limits; gauge = plan.gauge; sessions = plan.sessions } };
+    ghost invariant = { λ plan. IsPlan record {
+      schema = plan.schema;
+      limits = plan.limits;
+      gauge = plan.gauge;
+      sessions = plan.sessions;
+    } };
 }
 
 /// Returns whether the aggregate has one count and one sum.
@@ -81,10 +91,12 @@ impl Plan {
     /// - `NoColumn` (4) or `WrongKind` (5): the gauge cannot be had over the schema.
     /// - `OutOfRange` (14): there are not 1 to 64 sessions.
     pub fn new(schema: Schema, limits: Limits, gauge: Spec, sessions: u64) -> Result<Plan, Refusal>
-        ensures plan { IfOk result (λ plan. plan ≡ record { schema = schema; limits = limits; gauge = gauge; sessions = sessions }) }
+        ensures plan { IfOk result (λ plan. plan
+            ≡ record { schema = schema; limits = limits; gauge = gauge; sessions = sessions }) }
         ensures limits { OnOk result (AreLimits limits) }
         ensures ok { OnOk result (plan_refusal schema gauge sessions ≡ None) }
-        ensures refused { IfErr result (λ e. ((e ≡ Refusal.BadSchema) × ¬ (AreLimits limits)) ⊎ (AreLimits limits × (plan_refusal schema gauge sessions ≡ Some e))) }
+        ensures refused { IfErr result (λ e. ((e ≡ Refusal.BadSchema) × ¬ (AreLimits limits))
+            ⊎ (AreLimits limits × (plan_refusal schema gauge sessions ≡ Some e))) }
     {
         limits.check()?;
         check_gauge(&schema, &gauge)?;

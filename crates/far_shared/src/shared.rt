@@ -5,8 +5,7 @@ ghost use Rattle.far_shared.specs.Applying.{Extends, IsRefused};
 
 use crate::stripe::{Applied, Stripe, TableTag};
 use crossbeam_utils::CachePadded;
-use far_history::PlanTag;
-use far_sessions::{Cells, Session, SessionAt, StripeCell};
+use far_sessions::{Cells, PlanTag, Session, SessionAt, StripeCell};
 use far_store::FarTickets;
 use far_types::{Edit, Refusal};
 use std::alloc::Global;
@@ -102,8 +101,10 @@ impl<N: PlanTag, B: TableTag, S: FarTickets> Shared<N, B, S> {
     ) -> Result<Applied, Refusal>
         ensures stripe { OnOk result (stripe < 4) }
         ensures ok { IfOk result (Extends N.plan (at me.old stripe) edit (at me.new stripe)) }
-        ensures refused { IfErr result (λ e. stripe < 4 → IsRefused N.plan (at me.old stripe) edit (at me.new stripe) e) }
-        ensures unknown { IfErr result (λ e. 4 ≤ stripe → (e ≡ Refusal.OutOfRange) × (me.new ≡ me.old)) }
+        ensures refused { IfErr result
+            (λ e. stripe < 4 → IsRefused N.plan (at me.old stripe) edit (at me.new stripe) e) }
+        ensures unknown { IfErr result
+            (λ e. 4 ≤ stripe → (e ≡ Refusal.OutOfRange) × (me.new ≡ me.old)) }
         ensures others { (k : ℕ) → k < 4 → k ≢ stripe → at me.new k ≡ at me.old k }
     {
         let cells = &self.cells;

@@ -1,7 +1,8 @@
 // Work in the background of a shared table.
-ghost use Rattle.std.specs.Prelude.{◌≡◌, ◌+◌, ◌<◌, ◌^◌, [], ◌∷◌, None, length, IfOk, IfSome, OnOk};
+ghost use Rattle.std.specs.Prelude.{◌≡◌, ◌+◌, ◌<◌, ◌≤◌, ◌^◌, [], ◌∷◌, None, length, IfOk, IfErr, IfSome, OnOk};
 ghost use Rattle.far_store.specs.Faults.{faults_in};
 ghost use Rattle.far_frame.specs.Jobs.{IsJobAt, job_kind};
+ghost use Rattle.far_shared.specs.UnderLock.{BeginFails, Begins, BuildFails, Builds, EndFails, Ends, EvacuationFails, Evacuates, FetchFails, Fetches, IsUnder};
 ghost use Rattle.far_shared.specs.Works.{IsJobOf, RefusedAt, RefusedFor, stripe_of, columns_for, begin_refusals, begun_kind, end_refusals};
 
 use crate::locked::{begin_under, build_under, evacuate_under, fetch_under, finish_under};
@@ -9,7 +10,7 @@ use crate::shared::Shared;
 use crate::stripe::TableTag;
 use crate::work::Work;
 use far_frame::Job;
-use far_history::PlanTag;
+use far_sessions::PlanTag;
 use far_store::{FarStore, FarTickets, Meter};
 use far_types::{Name, Refusal};
 use std::sync::Wait;
@@ -26,7 +27,13 @@ impl<N: PlanTag, B: TableTag, S: FarTickets> Shared<N, B, S> {
         requires store { S.store_id store.now ≡ B.store }
         ensures begun { IfOk result (IsJobOf work.now) }
         ensures here { IfOk result (λ job. IfSome job (IsJobAt S.is_of B.store)) }
-        ensures refused { RefusedFor (length N.plan.schema) (columns_for work.now) (stripe_of work.now) (begin_refusals work.now) result }
+        ensures refused { RefusedFor (length N.plan.schema) (columns_for work.now)
+            (stripe_of work.now) (begin_refusals work.now) result }
+        ensures begins { IfOk result
+            (Begins (IsUnder N.plan S.is_of B.store (stripe_of work.now)) work.now) }
+        ensures why { IfErr result
+            (λ e. columns_for work.now ≤ length N.plan.schema → stripe_of work.now < 4
+            → BeginFails (IsUnder N.plan S.is_of B.store (stripe_of work.now)) work.now e) }
     {
         if self.count.columns < work.columns() {
             return Err(Refusal::NoColumn);
@@ -54,6 +61,10 @@ impl<N: PlanTag, B: TableTag, S: FarTickets> Shared<N, B, S> {
         requires here { IsJobAt S.is_of B.store job.now }
         ensures carried { OnOk result (begun_kind job.now.work ≡ None) }
         ensures refused { RefusedAt stripe (end_refusals (job_kind job.now)) result }
+        ensures ended { OnOk result
+            (Ends S.number_of S.content (IsUnder N.plan S.is_of B.store stripe) job.now) }
+        ensures why { IfErr result (λ e. stripe < 4
+            → EndFails S.number_of S.content (IsUnder N.plan S.is_of B.store stripe) job.now e) }
     {
         match stripe {
             0 => finish_under(rt, &self.zero, stripe, store, job),
@@ -86,6 +97,10 @@ impl<N: PlanTag, B: TableTag, S: FarStore> Shared<N, B, S> {
         requires store { S.store_id store.now ≡ B.store }
         ensures faults { meter.new ≡ meter.old + faults_in result }
         ensures refused { RefusedAt stripe (21 ∷ 22 ∷ 20 ∷ 19 ∷ 1 ∷ []) result }
+        ensures evacuated { IfOk result
+            (Evacuates S.number_of S.content (IsUnder N.plan S.is_of B.store stripe)) }
+        ensures why { IfErr result (λ e. stripe < 4
+            → EvacuationFails S.number_of S.content (IsUnder N.plan S.is_of B.store stripe) e) }
     {
         let alloc = self.alloc;
         match stripe {
@@ -119,7 +134,14 @@ impl<N: PlanTag, B: TableTag, S: FarStore> Shared<N, B, S> {
         requires few { meter.old < 2 ^ 63 }
         requires store { S.store_id store.now ≡ B.store }
         ensures faults { meter.new ≡ meter.old + faults_in result }
-        ensures refused { RefusedFor (length N.plan.schema) (column + 1) stripe (14 ∷ 20 ∷ 21 ∷ 17 ∷ 1 ∷ []) result }
+        ensures refused { RefusedFor (length N.plan.schema) (column + 1) stripe
+            (14 ∷ 20 ∷ 21 ∷ 17 ∷ 1 ∷ []) result }
+        ensures fetched { OnOk result
+            (Fetches S.number_of S.content (IsUnder N.plan S.is_of B.store stripe)
+            record { column = column; group = group }) }
+        ensures why { IfErr result (λ e. column < length N.plan.schema → stripe < 4
+            → FetchFails S.number_of S.content (IsUnder N.plan S.is_of B.store stripe)
+            record { column = column; group = group } e) }
     {
         if self.count.columns <= u64::from(column) {
             return Err(Refusal::NoColumn);
@@ -154,6 +176,10 @@ impl<N: PlanTag, B: TableTag, S: FarStore> Shared<N, B, S> {
         requires store { S.store_id store.now ≡ B.store }
         ensures faults { meter.new ≡ meter.old + faults_in result }
         ensures refused { RefusedAt stripe (14 ∷ 12 ∷ 20 ∷ 16 ∷ 21 ∷ 1 ∷ []) result }
+        ensures built { IfOk result
+            (Builds S.number_of S.content (IsUnder N.plan S.is_of B.store stripe)) }
+        ensures why { IfErr result (λ e. stripe < 4
+            → BuildFails S.number_of S.content (IsUnder N.plan S.is_of B.store stripe) e) }
     {
         let alloc = self.alloc;
         match stripe {

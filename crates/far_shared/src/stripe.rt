@@ -3,14 +3,14 @@ ghost use Rattle.std.specs.Prelude.{◌≡◌, ◌++◌, ◌∷◌, [], length, 
 ghost use mathlib.Core.List.{IsPrefix};
 ghost use Rattle.far_frame.specs.Effects.{Accepts, WhyRefused, edit_reply};
 ghost use Rattle.far_frame.specs.declared.step.Step.TheVariants as step;
-ghost use Rattle.far_history.specs.Histories.{replay, by_session, IsLegal};
-ghost use Rattle.far_history.specs.Rule.{entry};
+ghost use Rattle.far_sessions.specs.Histories.{replay, by_session, IsLegal};
+ghost use Rattle.far_sessions.specs.Rule.{entry};
 ghost use Rattle.far_shared.specs.Applying.{place_of, WhyNot, Extends, IsRefused};
+ghost use Rattle.far_shared.specs.UnderLock.{IsUnder};
 
 use crate::editing::change;
 use far_frame::Frame;
-use far_history::PlanTag;
-use far_sessions::{CellsTag, Keeper, SessionAt, StripeCell};
+use far_sessions::{CellsTag, Keeper, PlanTag, SessionAt, StripeCell};
 use far_store::FarTickets;
 use far_types::{Edit, Refusal};
 use std::marker::{Brand, Model};
@@ -58,7 +58,9 @@ impl<N: PlanTag, B: TableTag, S: FarTickets, const I: usize> Model for Stripe<N,
 
     ghost view = { λ s. record { log = s.keeper; state = s.frame } };
 
-    ghost invariant = { λ s. IsStripe N.plan s.keeper s.frame.table × AreAt S.is_of B.store s.frame.rows × AreRowsOf N.plan.schema I s.frame.rows };
+    ghost invariant = { λ s. IsStripe N.plan s.keeper s.frame.table
+        × AreAt S.is_of B.store s.frame.rows
+        × AreRowsOf N.plan.schema I s.frame.rows };
 }
 
 impl<N: PlanTag, B: TableTag, S: FarTickets, const I: usize> Stripe<N, B, S, I> {
@@ -76,10 +78,13 @@ impl<N: PlanTag, B: TableTag, S: FarTickets, const I: usize> Stripe<N, B, S, I> 
         ensures own { by_session me.new.by me.new.seen ≡ me.new.mine }
         ensures legal { IsLegal N.plan me.new.seen }
         ensures whole { me.new.seen ≡ self.new.log }
-        ensures ok { OnOk result ((self.new.log ≡ self.old.log ++ entry me.old.by edit ∷ []) × (me.new.mine ≡ me.old.mine ++ entry me.old.by edit ∷ [])) }
-        ensures accepted { OnOk result (Accepts S.content self.old.state (step.Edit edit) (edit_reply self.old.state.table edit) self.new.state) }
+        ensures ok { OnOk result ((self.new.log ≡ self.old.log ++ entry me.old.by edit ∷ [])
+            × (me.new.mine ≡ me.old.mine ++ entry me.old.by edit ∷ [])) }
+        ensures accepted { OnOk result (Accepts S.content self.old.state (step.Edit edit)
+            (edit_reply self.old.state.table edit) self.new.state) }
         ensures number { IfOk result (λ applied. applied.number ≡ length self.new.log) }
-        ensures place { IfOk result (λ applied. applied.place ≡ place_of (replay N.plan self.old.log) edit) }
+        ensures place { IfOk result
+            (λ applied. applied.place ≡ place_of (replay N.plan self.old.log) edit) }
         ensures refused { OnErr result ((self.new ≡ self.old) × (me.new.mine ≡ me.old.mine)) }
         ensures why { IfErr result (WhyNot (replay N.plan self.old.log) edit) }
         ensures due { IfErr result (WhyRefused self.old.state (step.Edit edit)) }
@@ -92,5 +97,13 @@ impl<N: PlanTag, B: TableTag, S: FarTickets, const I: usize> Stripe<N, B, S, I> 
             number: changed.after.edits,
             place: changed.place,
         })
+    }
+
+    /// For the proof: shows what is known of a stripe under its lock.
+    #[inline(always)]
+    pub(crate) fn known(&self)
+        ensures { IsUnder N.plan S.is_of B.store I self.now }
+    {
+        self.keeper.known();
     }
 }

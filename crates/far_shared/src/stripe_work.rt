@@ -11,7 +11,7 @@ use crate::stripe::{Stripe, TableTag};
 use crate::work::{Building, Work};
 use crate::working::{begin_on, building_on, finish_on, scan_on};
 use far_frame::Job;
-use far_history::PlanTag;
+use far_sessions::PlanTag;
 use far_store::FarTickets;
 use far_types::Refusal;
 
@@ -28,8 +28,10 @@ impl<N: PlanTag, B: TableTag, S: FarTickets, const I: usize> Stripe<N, B, S, I> 
         ensures begun { IfOk result (IsJobOf work.now) }
         ensures here { IfOk result (λ job. IfSome job (IsJobAt S.is_of B.store)) }
         ensures why { IfErr result (BeginRefusal self.now.state work.now) }
-        ensures column { length N.plan.schema < columns_for work.now → IsErrOf result Refusal.NoColumn }
-        ensures refused { columns_for work.now ≤ length N.plan.schema → RefusedBy (begin_refusals work.now) result }
+        ensures column { length N.plan.schema < columns_for work.now
+            → IsErrOf result Refusal.NoColumn }
+        ensures refused { columns_for work.now ≤ length N.plan.schema
+            → RefusedBy (begin_refusals work.now) result }
     {
         begin_on(&self.frame, store, work)
     }
@@ -42,8 +44,10 @@ impl<N: PlanTag, B: TableTag, S: FarTickets, const I: usize> Stripe<N, B, S, I> 
         requires store { S.store_id store.now ≡ B.store }
         requires here { IsJobAt S.is_of B.store job.now }
         ensures same { self.new.log ≡ self.old.log }
-        ensures ended { OnOk result (EndsWork S.number_of S.content self.old.state (job_kind job.now) job.now.work self.new.state) }
-        ensures why { IfErr result (EndRefusal S.number_of S.content self.old.state (job_kind job.now) job.now.work) }
+        ensures ended { OnOk result (EndsWork S.number_of S.content self.old.state
+            (job_kind job.now) job.now.work self.new.state) }
+        ensures why { IfErr result
+            (EndRefusal S.number_of S.content self.old.state (job_kind job.now) job.now.work) }
         ensures err { OnErr result (self.new ≡ self.old) }
         ensures carried { OnOk result (begun_kind job.now.work ≡ None) }
         ensures refused { RefusedBy (end_refusals (job_kind job.now)) result }
@@ -71,8 +75,10 @@ impl<N: PlanTag, B: TableTag, S: FarTickets, const I: usize> Stripe<N, B, S, I> 
     /// Refused as `Frame::scan_group` is. A refused call changes nothing.
     pub fn scan(&mut self, aggregate: u32, group: u32) -> Result<(), Refusal>
         ensures same { self.new.log ≡ self.old.log }
-        ensures scanned { OnOk result (Accepts S.content self.old.state (step.ScanGroup aggregate group) reply.Done self.new.state) }
-        ensures why { IfErr result (λ e. Refuses self.old.state (step.ScanGroup aggregate group) e self.new.state) }
+        ensures scanned { OnOk result (Accepts S.content self.old.state
+            (step.ScanGroup aggregate group) reply.Done self.new.state) }
+        ensures why { IfErr result
+            (λ e. Refuses self.old.state (step.ScanGroup aggregate group) e self.new.state) }
         ensures err { OnErr result (self.new ≡ self.old) }
         ensures refused { RefusedBy (12 ∷ 14 ∷ 20 ∷ 16 ∷ 1 ∷ []) result }
     {

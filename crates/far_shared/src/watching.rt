@@ -1,13 +1,14 @@
 // Aggregates that are registered in all four stripes.
-ghost use Rattle.std.specs.Prelude.{◌≡◌, ◌≢◌, ◌<◌, length, is_none, Some, None, IfOk, IfErr, IfSome, IsTrue, OnOk, OnErr};
+ghost use Rattle.std.specs.Prelude.{◌≡◌, ◌≢◌, ◌<◌, ℕ, length, is_none, Some, None, IfOk, IfErr, IfSome, IsTrue, OnOk, OnErr};
 ghost use Rattle.far_types.specs.Bounds.{spec_refusal};
 ghost use Rattle.far_table.specs.Watching.{aggregate_at, lowest_free};
+ghost use Rattle.far_shared.specs.UnderLock.{IsUnder, Registers};
 ghost use Rattle.far_shared.specs.Watching.{IsAsBefore, WatchRefusal, after_register, after_unregister};
 
 use crate::shared::Shared;
 use crate::stripe::{Stripe, TableTag};
 use far_frame::Frame;
-use far_history::PlanTag;
+use far_sessions::PlanTag;
 use far_store::FarTickets;
 use far_types::{Refusal, Spec};
 use std::sync::Wait;
@@ -61,9 +62,12 @@ impl<N: PlanTag, B: TableTag, S: FarTickets, const I: usize> Stripe<N, B, S, I> 
 
     /// Registers an aggregate under the next number. A refused call changes nothing.
     fn watch(&mut self, spec: Spec) -> Result<u32, Refusal>
-        ensures ok { IfOk result (λ a. (lowest_free self.old.state.table ≡ Some a) × (self.new ≡ after_register a spec self.old)) }
+        ensures ok { IfOk result (λ a. (lowest_free self.old.state.table ≡ Some a)
+            × (self.new ≡ after_register a spec self.old)) }
         ensures err { OnErr result (self.new ≡ self.old) }
         ensures refused { IfErr result (WatchRefusal N.plan.schema spec) }
+        ensures under { IfOk result
+            (λ a. Registers (IsUnder N.plan S.is_of B.store I) a spec) }
     {
         // For the proof: gives that a legal history leaves few places, so few row groups are pending.
         self.keeper.known();
@@ -90,7 +94,10 @@ fn watch_two<N: PlanTag, B: TableTag, S: FarTickets, const I: usize, const J: us
     requires allowed { spec_refusal N.plan.schema spec.now ≡ None }
     requires one { lowest_free one.old.state.table ≡ Some a }
     requires other { lowest_free other.old.state.table ≡ Some a }
-    ensures both { OnOk result ((one.new ≡ after_register a spec.now one.old) × (other.new ≡ after_register a spec.now other.old)) }
+    ensures both { OnOk result ((one.new ≡ after_register a spec.now one.old)
+        × (other.new ≡ after_register a spec.now other.old)) }
+    ensures under { OnOk result (Registers (IsUnder N.plan S.is_of B.store I) a spec.now
+        × Registers (IsUnder N.plan S.is_of B.store J) a spec.now) }
     ensures none { OnErr result (IsAsBefore one.old one.new × (other.new ≡ other.old)) }
     ensures refused { IfErr result (WatchRefusal N.plan.schema spec.now) }
 {
@@ -146,8 +153,16 @@ pub fn watch_four<N: PlanTag, B: TableTag, S: FarTickets>(
 ) -> Result<u32, Refusal>
     ensures number { IfOk result (λ a. (a ≢ 0) × (a < 32)) }
     ensures allowed { OnOk result (spec_refusal N.plan.schema spec.now ≡ None) }
-    ensures all { IfOk result (λ a. (zero.new ≡ after_register a spec.now zero.old) × (one.new ≡ after_register a spec.now one.old) × (two.new ≡ after_register a spec.now two.old) × (three.new ≡ after_register a spec.now three.old)) }
-    ensures none { OnErr result (IsAsBefore zero.old zero.new × IsAsBefore one.old one.new × IsAsBefore two.old two.new × (three.new ≡ three.old)) }
+    ensures all { IfOk result (λ a. (zero.new ≡ after_register a spec.now zero.old)
+        × (one.new ≡ after_register a spec.now one.old)
+        × (two.new ≡ after_register a spec.now two.old)
+        × (three.new ≡ after_register a spec.now three.old)) }
+    ensures under { IfOk result
+        (λ a. (n : ℕ) → n < 4 → Registers (IsUnder N.plan S.is_of B.store n) a spec.now) }
+    ensures none { OnErr result (IsAsBefore zero.old zero.new
+        × IsAsBefore one.old one.new
+        × IsAsBefore two.old two.new
+        × (three.new ≡ three.old)) }
     ensures refused { IfErr result (WatchRefusal N.plan.schema spec.now) }
 {
     // Both come before any allocation, so that a failed one hides neither.
@@ -174,6 +189,8 @@ impl<N: PlanTag, B: TableTag, S: FarTickets> Shared<N, B, S> {
     pub fn watch_all<R: Wait>(&self, rt: &R, spec: Spec) -> Result<u32, Refusal>
         ensures number { IfOk result (λ a. (a ≢ 0) × (a < 32)) }
         ensures allowed { OnOk result (spec_refusal N.plan.schema spec ≡ None) }
+        ensures all { IfOk result
+            (λ a. (n : ℕ) → n < 4 → Registers (IsUnder N.plan S.is_of B.store n) a spec) }
         ensures refused { IfErr result (WatchRefusal N.plan.schema spec) }
     {
         let mut zero = self.zero.write(rt);

@@ -44,9 +44,12 @@ fn fetch_on<S: FarTickets>(frame: &Frame<S>, store: &S, name: Name) -> Result<Jo
     requires here { AreAt S.is_of (S.store_id store.now) frame.now.rows }
     ensures begun { IfOk result (IsFetchJob frame.now.rows name.column name.group) }
     ensures here { IfOk result (IsJobAt S.is_of (S.store_id store.now)) }
-    ensures refused { IfErr result (λ e. fetch_refusal frame.now.rows name.column name.group ≡ Some e) }
-    ensures column { length frame.now.rows.column_indexes ≤ name.column → IsErrOf result Refusal.NoColumn }
-    ensures numbers { name.column < length frame.now.rows.column_indexes → RefusedBy (14 ∷ 20 ∷ []) result }
+    ensures refused { IfErr result
+        (λ e. fetch_refusal frame.now.rows name.column name.group ≡ Some e) }
+    ensures column { length frame.now.rows.column_indexes ≤ name.column
+        → IsErrOf result Refusal.NoColumn }
+    ensures numbers { name.column < length frame.now.rows.column_indexes
+        → RefusedBy (14 ∷ 20 ∷ []) result }
 {
     frame.begin_fetch(store, name.column, name.group)
 }
@@ -66,8 +69,10 @@ pub(crate) fn begin_on<S: FarTickets>(
     ensures begun { IfOk result (BeginsWork frame.now work.now) }
     ensures here { IfOk result (λ job. IfSome job (IsJobAt S.is_of (S.store_id store.now))) }
     ensures refused { IfErr result (BeginRefusal frame.now work.now) }
-    ensures column { length frame.now.rows.column_indexes < columns_for work.now → IsErrOf result Refusal.NoColumn }
-    ensures numbers { columns_for work.now ≤ length frame.now.rows.column_indexes → RefusedBy (begin_refusals work.now) result }
+    ensures column { length frame.now.rows.column_indexes < columns_for work.now
+        → IsErrOf result Refusal.NoColumn }
+    ensures numbers { columns_for work.now ≤ length frame.now.rows.column_indexes
+        → RefusedBy (begin_refusals work.now) result }
 {
     match work {
         Work::Evacuate(_) => frame.begin_coldest(store),
@@ -90,8 +95,10 @@ pub(crate) fn finish_on<S: FarTickets>(
 ) -> Result<(), Refusal>
     requires here { AreAt S.is_of (S.store_id store.now) frame.old.rows }
     requires job_here { IsJobAt S.is_of (S.store_id store.now) job.now }
-    ensures ended { OnOk result (EndsWork S.number_of S.content frame.old (job_kind job.now) job.now.work frame.new) }
-    ensures refused { IfErr result (EndRefusal S.number_of S.content frame.old (job_kind job.now) job.now.work) }
+    ensures ended { OnOk result
+        (EndsWork S.number_of S.content frame.old (job_kind job.now) job.now.work frame.new) }
+    ensures refused { IfErr result
+        (EndRefusal S.number_of S.content frame.old (job_kind job.now) job.now.work) }
     ensures err { OnErr result (frame.new ≡ frame.old) }
     ensures carried { OnOk result (begun_kind job.now.work ≡ None) }
     ensures numbers { RefusedBy (end_refusals (job_kind job.now)) result }
@@ -138,8 +145,10 @@ pub(crate) fn scan_on<S: FarTickets>(
     aggregate: u32,
     group: u32,
 ) -> Result<(), Refusal>
-    ensures scanned { OnOk result (Accepts S.content frame.old (step.ScanGroup aggregate group) reply.Done frame.new) }
-    ensures refused { IfErr result (λ e. Refuses frame.old (step.ScanGroup aggregate group) e frame.new) }
+    ensures scanned { OnOk result
+        (Accepts S.content frame.old (step.ScanGroup aggregate group) reply.Done frame.new) }
+    ensures refused { IfErr result
+        (λ e. Refuses frame.old (step.ScanGroup aggregate group) e frame.new) }
     ensures err { OnErr result (frame.new ≡ frame.old) }
     ensures numbers { RefusedBy (12 ∷ 14 ∷ 20 ∷ 16 ∷ 1 ∷ []) result }
     ensures keeps { KeepsRows frame.old.table frame.new.table }

@@ -1,7 +1,6 @@
 // Edits that are drawn, beside a plain list of what they leave.
 use crate::scenes::{Left, Replied, Reply, Step};
 use crate::signals::Signals;
-use far_random::Draws;
 use far_types::Refusal;
 use std::alloc::Global;
 
@@ -28,17 +27,17 @@ fn places_in(numbers: &[Option<i64>]) -> u32 {
     u32::try_from(numbers.len()).unwrap_or(u32::MAX)
 }
 
-// Returns the next edit of a list of so many places.
-fn draw(draws: &mut Draws, places: u32) -> Call {
-    let kind = draws.below(8);
-    let number = i64::from(draws.below(2_000_001)).wrapping_sub(1_000_000);
-    let place = draws.below(places);
+// Returns the edit of this turn on a list of so many places. The multiples of such a number are spread evenly (Knuth).
+fn draw(turn: u32, places: u32) -> Call {
+    let drawn = turn.wrapping_mul(2_654_435_761);
+    let kind = drawn >> 29;
+    let number = i64::from(drawn % 2_000_001).wrapping_sub(1_000_000);
     if kind < 5 || places == 0 {
         Call::Insert(number)
     } else if kind < 7 {
-        Call::Set(place, number)
+        Call::Set(drawn % places, number)
     } else {
-        Call::Remove(place)
+        Call::Remove(drawn % places)
     }
 }
 
@@ -145,14 +144,17 @@ fn edit_both<M, F: Fn(&mut M, Step) -> Replied>(
     call: &F,
     me: &mut M,
     home: u32,
-    draws: &mut Draws,
     rows: &mut Rows,
     edits: u32,
 ) -> Result<(), Refusal>
     requires { F.IsAlwaysCallable call.now }
 {
-    for _ in 0..edits {
-        let edit = draw(draws, places_in(&rows.numbers));
+    for turn in 0..edits {
+        // (the home stripes of the sessions differ, and so do their turns)
+        let edit = draw(
+            turn.wrapping_mul(4).wrapping_add(home),
+            places_in(&rows.numbers),
+        );
         let reply = edit_at_last(call, me, home, step_of(home, edit));
         if let Err(refusal) = follow(rows, edit, reply) {
             return Err(refusal);
@@ -182,8 +184,7 @@ fn edit_all<M, F: Fn(&mut M, Step) -> Replied>(
     requires { F.IsAlwaysCallable call.now }
 {
     let home = (number % 4) as u32;
-    let mut draws = Draws::new(number);
-    match edit_both(call, me, home, &mut draws, rows, edits) {
+    match edit_both(call, me, home, rows, edits) {
         Ok(()) => as_gauged(rows, call(me, Step::Gauge(home))),
         Err(refusal) => Err(refusal),
     }
@@ -191,7 +192,7 @@ fn edit_all<M, F: Fn(&mut M, Step) -> Replied>(
 
 // Makes so many edits on the home stripe of the session of this number, which no other session edits, and sends a signal when it has
 // ended. Returns what the accepted ones leave by a plain list, which is what the gauge reads.
-pub fn edit_at_random<M, F: Fn(&mut M, Step) -> Replied>(
+pub fn edit_by_turns<M, F: Fn(&mut M, Step) -> Replied>(
     alloc: Global,
     call: &F,
     me: &mut M,

@@ -2,8 +2,7 @@
 use crate::playing::Played;
 use crate::scenes::{End, Left, NO_ROW};
 use far_frame::Frame;
-use far_history::PlanTag;
-use far_sessions::Session;
+use far_sessions::{PlanTag, Session};
 use far_shared::{Four, Shared, TableTag, close};
 use far_store::FarTickets;
 use far_types::Refusal;

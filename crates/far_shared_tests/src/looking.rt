@@ -3,7 +3,7 @@ use crate::replies::waited;
 use crate::scenes::{Replied, Reply};
 use crate::signals::Signals;
 use far_frame::View;
-use far_history::PlanTag;
+use far_sessions::PlanTag;
 use far_shared::{Shared, TableTag};
 use far_store::FarTickets;
 use std::sync::Wait;

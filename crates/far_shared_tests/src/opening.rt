@@ -7,7 +7,7 @@ use crate::gates::{Gated, gate_of};
 use crate::plans::{capacity_of, plan_of};
 use crate::playing::play_to_end;
 use crate::scenes::Scene;
-use far_history::PlanTag;
+use far_sessions::PlanTag;
 use far_shared::{Made, Plan, TableTag};
 use far_store::{AgentStore, FarStore};
 use far_types::Refusal;

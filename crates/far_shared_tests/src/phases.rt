@@ -5,7 +5,7 @@ ghost use Rattle.far_frame.specs.Jobs.{IsJobAt};
 use crate::replies::done;
 use crate::scenes::{Replied, Reply};
 use far_frame::Job;
-use far_history::PlanTag;
+use far_sessions::PlanTag;
 use far_shared::{Shared, TableTag, Work};
 use far_store::{FarStore, Meter};
 use far_types::Refusal;

@@ -1,6 +1,6 @@
 // Replies of a shared table, as data. No function here knows the table, so each function that does has one return.
 use crate::scenes::{Letter, Replied, Reply};
-use far_history::Reading;
+use far_sessions::Reading;
 use far_shared::{Applied, Report};
 use far_types::{Answer, Key, Name, Refusal};
 

@@ -1,5 +1,5 @@
 // What a session does while others do theirs. What plays it knows the session by the replies to its calls.
-use crate::editing::edit_at_random;
+use crate::editing::edit_by_turns;
 use crate::keyed::{ask_pairs, insert_pairs};
 use crate::scenes::{Duty, Left, NO_ROW, Replied, Step};
 use crate::signals::Signals;
@@ -28,7 +28,7 @@ pub fn do_duty<M, F: Fn(&mut M, Step) -> Replied>(
     requires { F.IsAlwaysCallable call.now }
 {
     match duty {
-        Duty::Edits(edits) => edit_at_random(alloc, call, me, signals, number, edits),
+        Duty::Edits(edits) => edit_by_turns(alloc, call, me, signals, number, edits),
         Duty::Works(until) => left_if(work_beside(call, me, signals, until)),
         Duty::Reads(until) => left_if(read_beside(call, me, signals, until)),
         Duty::InsertsPairs(pairs) => left_if(insert_pairs(call, me, signals, pairs)),

@@ -11,8 +11,7 @@ use crate::replies::{
 use crate::scenes::{Replied, Reply, Step};
 use crate::signals::Signals;
 use crate::workers::run;
-use far_history::PlanTag;
-use far_sessions::Session;
+use far_sessions::{PlanTag, Session};
 use far_shared::{Shared, TableTag};
 use far_store::{FarStore, FarTickets, Meter};
 use far_types::{Cell, Edit, Fold, Refusal, Spec};

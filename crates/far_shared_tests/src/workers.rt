@@ -7,7 +7,7 @@ use crate::scenes::{
     AWAY, End, FIRST, Gate, NO_ROW, ROW_OF_5, Replied, Reply, Role, SECOND, Scene, Step, TEXTS,
     Table, Works,
 };
-use far_history::PlanTag;
+use far_sessions::PlanTag;
 use far_shared::{Background, Shared, TableTag, Work};
 use far_store::FarStore;
 use far_types::Refusal;

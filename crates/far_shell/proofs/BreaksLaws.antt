@@ -7,16 +7,16 @@ use Rattle.far_store.specs.declared.store.FarTickets.{Ghosts as Tickets}
 use Rattle.far_script.specs.declared.fault.ShellFault.{ShellFault}
 use Rattle.far_script.specs.declared.fault.ShellFault.TheVariants as fault
 use Rattle.far_script.specs.declared.input.Input.{Input}
-use Rattle.far_scripts.specs.Breaks.{BreaksLater, BreaksServing, HasNotBegun, IsRefused}
+use Rattle.far_shell.specs.LineFaults.{BreaksLater, BreaksServing, HasNotBegun, IsRefused}
 use Rattle.far_shell.specs.Breaks.{Breaks, EndsBy, IsBroken, IsSplit, IsUnfinished}
 use Rattle.far_script.specs.Faults.{IfInput, IsCut}
 use Rattle.far_script.specs.Flow.{Counts, Gives, IsOver, IsAtEnd, IsUnseen, Prints, Reads, unread}
 use Rattle.far_script.specs.Openings.{Opened, Schema, start_in}
-use Rattle.far_scripts.specs.Scripts.{Begins}
+use Rattle.far_shell.specs.Scripts.{Begins}
 use Rattle.far_shell.specs.Sessions.{IsAnswered}
 use Rattle.far_script.proofs.FlowLaws.{no-rest, prints-nothing-then, prints-then-nothing}
-use Rattle.far_scripts.proofs.ScriptsLaws.{begins-then}
-use Rattle.far_scripts.proofs.BreaksLaws.{Starting, first-or-later, not-begun}
+use Rattle.far_shell.proofs.ScriptsLaws.{begins-then}
+use Rattle.far_shell.proofs.LineFaultsLaws.{Starting, first-or-later, not-begun}
 use Rattle.far_script.proofs.FlowStops.{gives-then}
 
 -- a script of which nothing is printed

@@ -1,3 +1,12 @@
 pub mod SessionsScripts
 pub mod BreaksLaws
 pub mod SessionsLaws
+pub mod SaidLaws
+pub mod ScriptsLaws
+pub mod LineFaultsLaws
+mod WorkingInserts
+mod WorkingReadings
+mod HistoriesOneSession
+mod RunsGauge
+mod RunsLaws
+mod RunsTotals

@@ -3,7 +3,7 @@ use Rattle.std.proofs.Common.{◌≡◌, ◌+◌, ◌<◌, ◌≤◌, ℕ, ◌�
 use Rattle.std.specs.Io.KnownBytes.{Appends}
 use Rattle.std.proofs.lemmas.List.{drop_more}
 use Rattle.std.specs.declared.io.traits.Read.{Ghosts}
-use Rattle.far_history.specs.declared.reading.Reading.{Reading}
+use Rattle.far_sessions.specs.declared.reading.Reading.{Reading}
 use Rattle.far_store.specs.declared.store.FarTickets.{Ghosts as Tickets}
 use Rattle.far_script.specs.declared.fault.ShellFault.{ShellFault}
 use Rattle.far_script.specs.declared.fault.ShellFault.TheVariants as fault
@@ -13,13 +13,13 @@ use Rattle.far_script.specs.Openings.{Threads, start_in}
 use Rattle.far_script.specs.Printing.{answer_text}
 use Rattle.far_script.proofs.FlowLaws.{prints, prints-nothing-then}
 use Rattle.far_script.proofs.FlowStops.{coming, spent-rest, starts}
-use Rattle.far_threads.specs.declared.outcome.Outcome.{Outcome}
-use Rattle.far_threads.specs.Runs.{IsOutcome}
-use Rattle.far_scripts.specs.Scripts.{Begins}
+use Rattle.far_shell.specs.declared.sessions.outcome.Outcome.{Outcome}
+use Rattle.far_shell.specs.Runs.{IsOutcome}
+use Rattle.far_shell.specs.Scripts.{Begins}
 use Rattle.far_shell.specs.Sessions.{CutOutcome, IsAnswered, IsThreads, IsOutcomeText, gauges_text, session_line, outcome_text}
 use Rattle.far_shell.proofs.BreaksLaws.{Breaking}
 use Rattle.far_commands.proofs.ListingsFields.{drop-past}
-use Rattle.far_scripts.proofs.ScriptsLaws.{begins-then, either}
+use Rattle.far_shell.proofs.ScriptsLaws.{begins-then, either}
 
 -- a gauge line more
 pub gauges-more : (readings : List Reading) (i : ℕ) (reading : Reading) (page after whole : List ℕ) → i < length readings → after ≡ page ++ session_line i (get_or readings i reading)

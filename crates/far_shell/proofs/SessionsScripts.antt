@@ -6,8 +6,8 @@ use Rattle.far_script.specs.declared.input.Input.{Input}
 use Rattle.far_script.specs.Flow.{Prints, Reads, IsAtEnd}
 use Rattle.far_script.specs.Openings.{Opened, Schema, start_in}
 use Rattle.far_shell.specs.Sessions.{IsAnswered}
-use Rattle.far_scripts.specs.Scripts.{Begins, IsServed}
-use Rattle.far_scripts.proofs.ScriptsLaws.{begins-then}
+use Rattle.far_shell.specs.Scripts.{Begins, IsServed}
+use Rattle.far_shell.proofs.ScriptsLaws.{begins-then}
 use Rattle.far_script.proofs.FlowLaws.{prints-nothing-then, reads-then, spent-nothing}
 
 module _ {R : Type 0} (read : Ghosts R) {S K : Type 0} (tickets : Tickets S K) where

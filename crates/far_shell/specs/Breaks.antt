@@ -4,7 +4,7 @@ use Rattle.std.specs.Io.KnownBytes.{Appends}
 use Rattle.far_store.specs.declared.store.FarTickets.{Ghosts as Tickets}
 use Rattle.far_script.specs.declared.fault.ShellFault.{ShellFault}
 use Rattle.far_script.specs.declared.fault.ShellFault.TheVariants as fault
-use Rattle.far_scripts.specs.Breaks.{BreaksLater, HasNotBegun}
+use Rattle.far_shell.specs.LineFaults.{BreaksLater, HasNotBegun}
 use Rattle.far_shell.specs.Sessions.{AsksSessions, IsAnswered}
 
 -- in what follows, `unseen` says for the bytes that came why no more did, and `spent` says for the rest that it is empty

@@ -1,16 +1,16 @@
 -- The replies to a script of sessions on threads.
 use Rattle.std.specs.Prelude.{◌≡◌, ◌⊎◌, ℕ, ◌+◌, ◌*◌, Bool, IsTrue, List, [], ◌∷◌, ◌++◌, Some, replicate}
-use Rattle.far_history.specs.declared.reading.Reading.{Reading}
+use Rattle.far_sessions.specs.declared.reading.Reading.{Reading}
 use Rattle.far_store.specs.declared.store.FarTickets.{Ghosts as Tickets}
-use Rattle.far_threads.specs.declared.outcome.Outcome.{Outcome}
-use Rattle.far_threads.specs.declared.outcome.Stop.{Stop}
-use Rattle.far_threads.specs.declared.outcome.Stop.TheVariants as stop
-use Rattle.far_threads.specs.Runs.{all_of, total_of}
+use Rattle.far_shell.specs.declared.sessions.outcome.Outcome.{Outcome}
+use Rattle.far_shell.specs.declared.sessions.outcome.Stop.{Stop}
+use Rattle.far_shell.specs.declared.sessions.outcome.Stop.TheVariants as stop
+use Rattle.far_shell.specs.Runs.{all_of, total_of}
 use Rattle.far_script.specs.declared.fault.ShellFault.{ShellFault}
 use Rattle.far_script.specs.declared.fault.ShellFault.TheVariants as fault
 use Rattle.far_script.specs.Openings.{Threads, start_in}
 use Rattle.far_script.specs.Printing.{answer_text, gauge_text}
-use Rattle.far_scripts.specs.Scripts.{Begins, IsScript}
+use Rattle.far_shell.specs.Scripts.{Begins, IsScript}
 
 -- the gauge line of a session
 abbrev pub session_line : ℕ → Reading → List ℕ

@@ -5,10 +5,11 @@ ghost use Rattle.far_script.specs.Flow.{Gives, IsFrontOf, IsOver, IsAtEnd, IsUns
 ghost use Rattle.far_shell.specs.Breaks.{Breaks, IsBroken, IsUnfinished};
 ghost use Rattle.far_shell.specs.Sessions.{IsAnswered};
 
+use super::first_line::first_command;
+use super::serving::serve_table;
 use super::threads::print_sessions;
 use far_commands::{Agents, Resources};
 use far_script::{FirstLine, Input, Output, ShellFault, Sink, Source};
-use far_scripts::{first_command, serve_table};
 use far_store::{AgentStore, FarStore, FarTickets};
 use std::sync::Wait;
 use std::thread::Threads;

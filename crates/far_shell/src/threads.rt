@@ -3,10 +3,10 @@ ghost use Rattle.std.specs.Prelude.{◌≡◌, ◌⊎◌, ◌≤◌, ℕ, List, 
 ghost use Rattle.std.specs.Io.KnownBytes.{Appends};
 ghost use Rattle.far_shell.specs.Sessions.{CutOutcome, IsOutcomeText, fault_of, gauges_text, session_line, outcome_text};
 
-use far_history::Reading;
+use super::sessions::{Outcome, Stop, run_sessions};
 use far_script::print::{answer, gauge};
 use far_script::{Output, Page, ShellFault, Sink};
-use far_threads::{Outcome, Stop, run_sessions};
+use far_sessions::Reading;
 use far_types::Refusal;
 use std::sync::Wait;
 use std::thread::Threads;

@@ -1,7 +1,7 @@
 use Rattle.std.proofs.Common.{◌≡◌, ◌++◌, ◌+◌, ◌*◌, ◌/◌, ℕ, min, map, ap, subst, sym, ◌∙◌}
 use Rattle.std.specs.Prelude.{slice_range}
 use Rattle.far_types.specs.Table.{part}
-use Rattle.far_vector.specs.Pieces.{pieces_of}
+use Rattle.far_columns.specs.Pieces.{pieces_of}
 use Rattle.far_frame.specs.Lending.{Piece, flags_of, lent_part, piece_of}
 use Rattle.far_frame.proofs.LendingLaws.{lent-step}
 use Rattle.far_commands.specs.Pieces.{piece_text}

@@ -1,5 +1,5 @@
 use Rattle.std.proofs.Common.{◌≡◌, ◌++◌, ◌-◌, map}
-use Rattle.far_vector.specs.Pieces.{pieces_of}
+use Rattle.far_columns.specs.Pieces.{pieces_of}
 use Rattle.far_frame.specs.Lending.{lent_part, piece_of}
 use Rattle.far_commands.specs.Pieces.{piece_text}
 use Rattle.far_script.specs.Printing.{texts_of}

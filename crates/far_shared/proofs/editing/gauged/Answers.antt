@@ -4,7 +4,7 @@ use mir.Val.{SFits}
 use mir.Syntax.{w128}
 use Rattle.std.proofs.lemmas.Int.{to_z-of_z}
 use Rattle.far_aggregates.specs.Readings.{plain_in}
-use Rattle.far_history.specs.Histories.{folded}
+use Rattle.far_sessions.specs.Histories.{folded}
 use Rattle.far_shared.proofs.StripesLaws.{plan-plain, plain-read, same-read, reading, reads-as}
 use Rattle.far_shared.proofs.editing.gauged.Goals as goal
 

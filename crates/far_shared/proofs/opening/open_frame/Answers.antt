@@ -1,5 +1,5 @@
 use Rattle.std.proofs.Common.{◌≡◌}
-use Rattle.far_history.specs.Histories.{Planned}
+use Rattle.far_sessions.specs.Histories.{Planned}
 use Rattle.far_types.specs.declared.refusal.Refusal.TheVariants as refusal
 use Rattle.far_shared.specs.Opening.{IsEmpty}
 use Rattle.far_shared.proofs.OpenLaws.{value-done, why-done}

@@ -1,4 +1,4 @@
-use Rattle.far_history.specs.Histories.{Planned}
+use Rattle.far_sessions.specs.Histories.{Planned}
 use Rattle.far_shared.proofs.WatchingLaws.{gauge-watched, gauge-refused}
 use Rattle.far_shared.proofs.opening.watch_gauge.Goals as goal
 

@@ -1,4 +1,6 @@
-use Rattle.std.proofs.Common.{refl}
+use Rattle.std.proofs.Common.{ℕ, refl}
+use Rattle.far_shared.specs.UnderLock.{IsUnder, Registers}
+use Rattle.far_shared.proofs.UnderLockLaws.{below-four}
 use Rattle.far_shared.proofs.WatchingUndo.{at-err, register-undone, unchanged}
 use Rattle.far_shared.proofs.watching.watch_four.Goals as goal
 
@@ -17,3 +19,8 @@ returns-in-Err-clause-none g c =
       back.0,
       back.1,
     )
+
+pub returns-in-Ok-clause-under : goal.returns-in-Ok-clause-under
+returns-in-Ok-clause-under g c =
+    below-four (λ (n : ℕ). Registers (IsUnder g.N.PlanTag.plan g.S.FarTickets.is_of g.B.TableTag.store n) c.in-Some.a c.args.spec.now)
+    c.in_ok-watch_two.ensures.under.0 c.in_ok-watch_two.ensures.under.1 c.in-Ok.ensures.under.0 c.in-Ok.ensures.under.1

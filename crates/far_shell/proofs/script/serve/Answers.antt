@@ -1,7 +1,7 @@
 use Rattle.std.proofs.Common.{arith}
 use Rattle.far_script.specs.Flow.{IsOver, IsUnseen}
 use Rattle.far_script.proofs.FlowStops.{handed-on, unseen-later}
-use Rattle.far_scripts.proofs.BreaksLaws.{breaks-serving-as}
+use Rattle.far_shell.proofs.LineFaultsLaws.{breaks-serving-as}
 use Rattle.far_shell.proofs.BreaksLaws.{always, breaks-start, breaks-table}
 use Rattle.far_shell.proofs.SessionsScripts.{script-whole}
 use Rattle.far_shell.proofs.SessionsLaws.{sessions-stopped, sessions-whole, stopped-unwritten}

@@ -1,5 +1,5 @@
 use Rattle.std.proofs.Common.{length, ap, ◌∙◌, subst}
-use Rattle.far_history.specs.Histories.{Planned}
+use Rattle.far_sessions.specs.Histories.{Planned}
 use Rattle.far_shared.specs.Opening.{IsEmpty}
 use Rattle.far_shared.proofs.OpenLaws.{of-ok}
 use Rattle.far_shared.proofs.plan.Plan.make.Goals as goal

@@ -1,6 +1,6 @@
 use Rattle.std.proofs.Common.{◌<◌, ◌^◌, length, sym, ap, subst, ◌∙◌, arith, rules}
-use Rattle.far_history.specs.Histories.{IsLegal}
-use Rattle.far_history.specs.declared.reading.Reading.{Reading}
+use Rattle.far_sessions.specs.Histories.{IsLegal}
+use Rattle.far_sessions.specs.declared.reading.Reading.{Reading}
 use Rattle.far_shared.proofs.ApplyingEdits.{made-refused}
 use Rattle.far_shared.proofs.StripesColumns.{still-of}
 use Rattle.far_shared.proofs.StripesLaws.{few, reads-edited, same-refusal, same-why, stripe-made}

@@ -1,4 +1,0 @@
-pub mod Histories
-pub mod HistoriesLegality
-pub mod Lists
-pub mod RuleLaws

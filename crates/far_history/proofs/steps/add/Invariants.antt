@@ -1,4 +1,0 @@
-use Rattle.far_history.proofs.steps.add.Given as goal
-
-abbrev pub ghosts-add_named : goal.ghosts-add_named
-ghosts-add_named g a = record { edit = a.edit.value }

@@ -1,6 +1,0 @@
-use Rattle.std.proofs.Common.{rules, [], ◌∷◌, refl}
-use Rattle.far_history.proofs.RuleLaws.{begins}
-use Rattle.far_history.proofs.steps.begin.Goals as goal
-
-pub ruled-requires : goal.ruled-requires
-ruled-requires g c = (search rules, (search rules, begins _ (0 ∷ 0 ∷ 0 ∷ 0 ∷ []) refl))

@@ -1,6 +1,0 @@
-use Rattle.std.proofs.Common.{rules}
-use Rattle.far_history.proofs.RuleLaws.{gives}
-use Rattle.far_history.proofs.steps.give.Goals as goal
-
-pub split_pass-requires : goal.split_pass-requires
-split_pass-requires g c = (search rules, (search rules, (c.requires.cell, gives _ _ _ c.requires.keeps)))

@@ -1,6 +1,0 @@
-use Rattle.std.proofs.Common.{rules}
-use Rattle.far_history.proofs.RuleLaws.{splits}
-use Rattle.far_history.proofs.steps.split_session.Goals as goal
-
-pub split_pass-requires : goal.split_pass-requires
-split_pass-requires g c = (search rules, (search rules, (c.requires, splits _ _ _)))

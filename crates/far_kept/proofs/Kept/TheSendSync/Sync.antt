@@ -1,7 +1,0 @@
-use denote.RattleType.{RattleType}
-use denote.Param.Send.{IsSend, IsSync}
-use Rattle.far_kept.specs.contracts.Kept.{the_row}
-use Rattle.far_kept.proofs.Sent as sent
-
-pub sync : (S V : RattleType) → IsSend S → IsSync (the_row S V)
-sync = sent.kept_sync

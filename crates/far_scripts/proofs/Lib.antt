@@ -1,3 +1,0 @@
-pub mod SaidLaws
-pub mod ScriptsLaws
-pub mod BreaksLaws

@@ -1,0 +1,68 @@
+// Makes the edits of a session.
+ghost use Rattle.std.specs.Prelude.{◌≡◌, ℕ, ◌<◌, IfOk, OnOk};
+ghost use Rattle.far_shell.specs.Runs.{row_of_one};
+ghost use Rattle.far_shell.specs.Working.{Makes};
+
+use super::clearing::clear_way;
+use super::outcome::Stop;
+use far_sessions::{PlanTag, Session};
+use far_shared::{Shared, TableTag};
+use far_store::FarStore;
+use far_types::{Cell, Edit, Row};
+use std::alloc::Global;
+use std::sync::Wait;
+
+/// The most tries for one edit.
+const MOST_TRIES: u32 = 10_000;
+
+/// Returns the row that each session inserts: the number 1.
+fn row_of_one(alloc: Global) -> Result<Row, Stop>
+    ensures { IfOk result (λ row. row ≡ row_of_one) }
+{
+    let mut cells = Vec::new(alloc);
+    cells.push(Cell::Int(1))?;
+    Ok(Row::new(cells))
+}
+
+/// Inserts a row on a stripe, with up to `MOST_TRIES` tries. Does nothing on other stripes.
+fn insert_one<N: PlanTag, B: TableTag, S: FarStore, R: Wait>(
+    rt: &R,
+    alloc: Global,
+    shared: &Shared<N, B, S>,
+    store: &S,
+    me: &mut Session<B>,
+    stripe: u32,
+) -> Result<(), Stop>
+    requires store { S.store_id store.now ≡ B.store }
+    requires stripe { stripe < 4 }
+    ensures ok { OnOk result (Makes stripe 1 me.old me.new) }
+{
+    for turn in 0..MOST_TRIES {
+        let edit = Edit::Insert(row_of_one(alloc)?);
+        match shared.apply(rt, me, stripe, edit) {
+            Ok(_) => return Ok(()),
+            Err(refusal) => clear_way(rt, shared, store, stripe, refusal)?,
+        }
+    }
+    Err(Stop::Turns)
+}
+
+/// Inserts `edits` rows on a stripe. Does nothing on other stripes.
+pub(crate) fn insert_all<N: PlanTag, B: TableTag, S: FarStore, R: Wait>(
+    rt: &R,
+    alloc: Global,
+    shared: &Shared<N, B, S>,
+    store: &S,
+    me: &mut Session<B>,
+    stripe: u32,
+    edits: u32,
+) -> Result<(), Stop>
+    requires store { S.store_id store.now ≡ B.store }
+    requires stripe { stripe < 4 }
+    ensures ok { OnOk result (Makes stripe edits me.old me.new) }
+{
+    for made in 0..edits {
+        insert_one(rt, alloc, shared, store, me, stripe)?;
+    }
+    Ok(())
+}

@@ -1,6 +1,0 @@
-mod WorkingInserts
-mod WorkingReadings
-mod HistoriesOneSession
-mod RunsGauge
-mod RunsLaws
-mod RunsTotals

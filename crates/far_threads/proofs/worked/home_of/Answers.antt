@@ -1,5 +1,0 @@
-use Rattle.std.proofs.Common.{rules}
-use Rattle.far_threads.proofs.worked.home_of.Goals as goal
-
-pub returns : goal.returns
-returns g c = let e = c.number.ensures 0 in search rules

@@ -1,9 +1,0 @@
--- The sentences for a run of sessions that ended early, without a full stop.
-use Rattle.std.specs.Prelude.{List, ℕ, codes}
-use Rattle.far_threads.specs.declared.outcome.Stop.{Stop}
-use Rattle.far_threads.specs.declared.outcome.Stop.TheVariants.{Memory, Turns}
-
--- the sentence that says why a run ended early
-abbrev pub sentence_of : Stop → List ℕ
-sentence_of Memory = codes "memory ran out"
-sentence_of Turns = codes "an edit could not be made"
