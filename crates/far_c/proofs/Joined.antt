@@ -8,8 +8,8 @@ use Rattle.far_types.specs.declared.refusal.Refusal.{Refusal}
 use Rattle.far_types.specs.Cells.{cell_at}
 use Rattle.far_types.specs.Lent.{int_cell}
 use Rattle.far_types.specs.Table.{Table, Place, column as column_of, part}
-use Rattle.far_vector.specs.Pieces.{pieces_of}
-use Rattle.far_vector.proofs.PiecesLaws.{joined-pieces}
+use Rattle.far_columns.specs.Pieces.{pieces_of}
+use Rattle.far_columns.proofs.PiecesLaws.{joined-pieces}
 use Rattle.far_rows.specs.Refusing.{ints_refusal}
 use Rattle.far_scopes.specs.Refusing.{refusal_in}
 use Rattle.far_table.specs.State.{LiveState}

@@ -14,7 +14,7 @@ use Rattle.far_types.specs.declared.cell.Kind.{Kind}
 use Rattle.far_types.specs.declared.refusal.Refusal.{Refusal}
 use Rattle.far_types.specs.declared.refusal.Refusal.TheVariants as refusal
 use Rattle.far_types.specs.FirstOf.{first_of}
-use Rattle.far_vector.specs.Pieces.{overlapped_groups}
+use Rattle.far_columns.specs.Pieces.{overlapped_groups}
 use Rattle.far_rows.specs.Refusing.{absent_in, ints_refusal, no_column, no_range, of_numbers, of_texts, texts_refusal}
 use Rattle.far_rows.specs.Rows.{Rows}
 use Rattle.far_scopes.specs.Refusing.{refusal_in}

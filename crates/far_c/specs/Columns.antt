@@ -34,9 +34,10 @@ offset_at offsets row = unwrap_or (slice_get offsets row) 0
 -- the cell of a column in a row
 abbrev pub column_cell : FcColumn → ℕ → Cell
 column_cell c row = cond (has_value c.valid.now row)
-    (cond (c.kind == 1) (cell.Int (unwrap_or (slice_get c.numbers.now row) (pos 0)))
-    (cell.Text
-    (slice_range c.bytes.now (offset_at c.offsets.now row)
+    (cond (c.kind == 1)
+    (cell.Int (unwrap_or (slice_get c.numbers.now row) (pos 0)))
+    (cell.Text (slice_range c.bytes.now
+    (offset_at c.offsets.now row)
     (offset_at c.offsets.now (row + 1)))))
     cell.Missing
 

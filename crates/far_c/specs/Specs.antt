@@ -17,7 +17,10 @@ fold_of n = cond (n == 0) fold.Totals fold.Extrema
 -- a comparison of numbers
 abbrev pub op_of : ℕ → Op
 op_of n = cond (n == 0) op.Eq
-    (cond (n == 1) op.Ne (cond (n == 2) op.Lt (cond (n == 3) op.Le (cond (n == 4) op.Gt op.Ge))))
+    (cond (n == 1) op.Ne
+    (cond (n == 2) op.Lt
+    (cond (n == 3) op.Le
+    (cond (n == 4) op.Gt op.Ge))))
 
 -- a test: of a text by 6 and 7, and else of a number
 abbrev pub test_of : FcTest → Test
@@ -35,6 +38,5 @@ spec_of s = record {
   fold = fold_of s.fold;
   value = s.value;
   key = key_of s.has_key s.key;
-  filter = map test_of
-      s.tests.now;
+  filter = map test_of s.tests.now;
 }

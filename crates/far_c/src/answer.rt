@@ -93,7 +93,16 @@ pub extern "C" fn fc_line_at<'a>(handle: &'a mut Handle, index: usize, line: &mu
     let Some(table) = handle.table() else {
         return CLOSED;
     };
-    let table: &'a Table = table;
+    lend_line(table, index, line)
+}
+
+// Writes a line of the answer that stays, whose text is lent.
+fn lend_line<'a>(table: &'a Table, index: usize, line: &mut FcLine<'a>) -> u32
+    ensures line { result ≡ 0
+        → IsSomeAnd table.now.answer (λ answer. IsLineAt answer index line.new) }
+    ensures past { result ≡ 104 → IfSome table.now.answer (λ answer. IsPast answer index) }
+    ensures codes { IsOneOf (0 ∷ 104 ∷ []) result }
+{
     let Some(answer) = table.answer() else {
         return NOTHING;
     };

@@ -1,5 +1,5 @@
 // Contents that go out to the calling program, and come back.
-ghost use Rattle.std.specs.Prelude.{◌≡◌, ◌≢◌, ◌≤◌, IfSome, IsSomeAnd};
+ghost use Rattle.std.specs.Prelude.{◌≡◌, ◌≢◌, ◌≤◌, IfSome, IsSome, IsSomeAnd};
 ghost use Rattle.std.specs.Option.{MatchOption};
 ghost use Rattle.far_rows.specs.Copies.{copy_of};
 ghost use Rattle.far_frame.specs.Delivering.{HasNoCollision, wanted_by};
@@ -38,7 +38,16 @@ pub extern "C" fn fc_outgoing<'a>(
     if table.world().job(job).is_none() {
         return table.refuse(Refusal::StaleJob);
     }
-    let table: &'a Table = table;
+    lend_outgoing(table, job, number, bytes)
+}
+
+// Lends the bytes that go out for a job, and writes their number.
+fn lend_outgoing<'a>(table: &'a Table, job: u64, number: &mut u64, bytes: &mut &'a [u8]) -> u32
+    requires { IsSome (job_at table.now.world.jobs job) }
+    ensures outgoing { result ≡ 0
+        → IsOutgoing (job_at table.now.world.jobs job) number.new bytes.new.now }
+    ensures nothing { result ≢ 0 → HasNothingOut job table.now result }
+{
     let Some(found) = table.world().job(job) else {
         return NOTHING;
     };

@@ -31,6 +31,9 @@ impl Handle {
     ghost use Rattle.far_c.specs.Lending.{LendsTable};
 
     /// Lends the table, if the handle is open.
+    ///
+    /// An export that lends to its caller then has a function `lend_..` that takes the table by `&`, and so leaves it as it is. No
+    /// clause of the export says this: what the handle is while the loan lasts can be named only in a proof by hand of each.
     pub fn table(&mut self) -> Option<&mut Table>
         ensures* writes_back { sem 𝓛 (LendsTable self.entry result) }
         ensures value { MatchOption result (self.old.table ≡ None)

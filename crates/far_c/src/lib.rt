@@ -3,7 +3,6 @@
 
 mod aggregates;
 mod answer;
-mod bounded_store;
 mod cell;
 mod code;
 mod columns;

@@ -33,7 +33,20 @@ pub extern "C" fn fc_lines<'a>(
     let Some(table) = handle.table() else {
         return CLOSED;
     };
-    let table: &'a Table = table;
+    lend_lines(table, from, lines, count)
+}
+
+// Writes lines of the answer that stays, whose texts are lent, and how many these are.
+fn lend_lines<'a>(table: &'a Table, from: usize, lines: &mut [FcLine<'a>], count: &mut usize) -> u32
+    ensures lines { result ≡ 0
+        → IsSomeAnd table.now.answer (λ answer. AreLinesAt answer from count.new lines.new) }
+    ensures count { result ≡ 0
+        → IsSomeAnd table.now.answer
+        (λ answer. count.new ≡ lines_from answer from (length lines.old)) }
+    ensures rest { result ≡ 0 → drop count.new lines.new ≡ drop count.new lines.old }
+    ensures codes { MatchOption table.now.answer (result ≡ 104) (λ _. result ≡ 0) }
+    ensures unwritten { result ≢ 0 → (lines.new ≡ lines.old) × (count.new ≡ count.old) }
+{
     let Some(answer) = table.answer() else {
         return NOTHING;
     };

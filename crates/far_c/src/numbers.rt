@@ -8,11 +8,11 @@ ghost use Rattle.far_c.specs.TableState.{places_of};
 ghost use Rattle.far_c.specs.Outcomes.{Behind, IsDue, IsRefusal, IsRejectedFor, IsUnfit};
 ghost use Rattle.far_c.specs.Parts.{FitNumbers, IsPartLent, alive_of, flags_in, numbers_in, or_zero, valid_of, values_of};
 
-use crate::bounded_store::BoundedStore;
 use crate::code::{BAD_ARGUMENT, CLOSED};
 use crate::handle::Handle;
 use crate::table::Table;
 use far_columns::Lents;
+use far_host::HostStore;
 use far_types::Refusal;
 
 /// Copies the numbers of the places `from` up to `to` of a column, whether each has a value, and whether each place is alive.
@@ -86,7 +86,7 @@ fn lent_numbers<'a>(
     column: u32,
     from: u32,
     to: u32,
-) -> Result<Lents<'a, BoundedStore>, Refusal>
+) -> Result<Lents<'a, HostStore>, Refusal>
     ensures cells { IfOk result
         (λ lents. map int_cell (numbers_in lents) ≡ part column from to (places_of table.now)) }
     ensures flags { IfOk result (λ lents. flags_in lents ≡ alive_of (places_of table.now) from to) }
@@ -102,7 +102,7 @@ fn lent_numbers<'a>(
 
 // Copies lent pieces, one after another. What they do not fill of the buffers stays.
 fn copy_pieces(
-    lents: Lents<'_, BoundedStore>,
+    lents: Lents<'_, HostStore>,
     values: &mut [i64],
     valid: &mut [bool],
     alive: &mut [bool],
@@ -133,10 +133,11 @@ fn copy_numbers(numbers: &[Option<i64>], values: &mut [i64], valid: &mut [bool],
     requires values { at + length numbers.now ≤ length values.old }
     requires valid { at + length numbers.now ≤ length valid.old }
     ensures values { values.new
-        ≡ take at values.old ++ map or_zero numbers.now ++ drop
-        (at + length numbers.now) values.old }
+        ≡ take at values.old ++ map or_zero numbers.now
+        ++ drop (at + length numbers.now) values.old }
     ensures valid { valid.new
-        ≡ take at valid.old ++ map is_some numbers.now ++ drop (at + length numbers.now) valid.old }
+        ≡ take at valid.old ++ map is_some numbers.now
+        ++ drop (at + length numbers.now) valid.old }
 {
     let end = at + numbers.len();
     write_numbers(numbers, &mut values[at..end], &mut valid[at..end]);

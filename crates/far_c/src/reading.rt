@@ -61,7 +61,19 @@ pub extern "C" fn fc_row<'a>(handle: &'a mut Handle, place: u32, cells: &mut [Fc
     if let Err(refusal) = lent_row(table, place) {
         return table.refuse(refusal);
     }
-    let table: &'a Table = table;
+    lend_row(table, place, cells)
+}
+
+// Writes the cells of a place, whose texts are lent. Its row can be lent: the caller has tried.
+fn lend_row<'a>(table: &'a Table, place: u32, cells: &mut [FcCell<'a>]) -> u32
+    requires { row_refusal table.now.world.state place ≡ None }
+    ensures row { result ≡ 0
+        → option_map (λ p. p.cells) (slice_get (places_of table.now) place)
+        ≡ Some (row_of cells.new) }
+    ensures width { result ≢ 0
+        → (result ≡ 104) × IsSomeAnd (slice_get (places_of table.now) place)
+        (λ found. length found.cells ≢ length cells.old) }
+{
     match lent_row(table, place) {
         Ok(row) => {
             // For the proof: a row has a cell for each column.
@@ -148,7 +160,25 @@ pub extern "C" fn fc_text<'a>(
     if let Err(refusal) = table.world().frame().scope().text(column, place) {
         return table.refuse(refusal);
     }
-    let table: &'a Table = table;
+    lend_text(table, column, place, text, valid)
+}
+
+// Lends the text of a place. It can be lent: the caller has tried.
+fn lend_text<'a>(
+    table: &'a Table,
+    column: u32,
+    place: u32,
+    text: &mut &'a [u8],
+    valid: &mut bool,
+) -> u32
+    requires { text_refusal table.now.world.state.rows column place ≡ None }
+    ensures ok { result ≡ 0 }
+    ensures text { IsTrue valid.new
+        → slice_get (column_of column (places_of table.now)) place
+        ≡ Some (text_cell (Some text.new.now)) }
+    ensures missing { IsFalse valid.new
+        → slice_get (column_of column (places_of table.now)) place ≡ Some (text_cell None) }
+{
     match table.world().frame().scope().text(column, place) {
         Ok(Some(found)) => {
             *text = found.as_bytes();

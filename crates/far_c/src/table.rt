@@ -7,11 +7,11 @@ ghost use Rattle.far_c.specs.Contents.{content, number_of};
 
 mod carrying;
 
-use crate::bounded_store::BoundedStore;
 use crate::code::{BAD_ARGUMENT, NO_UTF8, OK};
 use crate::sorted_answer::SortedAnswer;
 use crate::unread::Unread;
 use far_frame::{Frame, Reply, Step, World};
+use far_host::HostStore;
 use far_types::{Answer, Cell, Edit, Limits, Refusal, Schema};
 use std::alloc::Global;
 use std::marker::Model;
@@ -24,7 +24,7 @@ const MAX_FAULTS: u64 = 1 << 62;
 #[derive(Drop)]
 pub struct Table {
     alloc: Global,
-    world: World<BoundedStore>,
+    world: World<HostStore>,
     answer: Option<SortedAnswer>,
     refusal: Option<Refusal>,
 }
@@ -57,7 +57,7 @@ impl Table {
         ensures { IfOk result (IsNew schema limits capacity) }
     {
         let frame = Frame::open(alloc, schema, limits, 0)?;
-        let store = BoundedStore::new(alloc, capacity)?;
+        let store = HostStore::new(alloc, capacity)?;
         match World::new(alloc, frame, store) {
             Ok(world) => Ok(Table {
                 alloc,
@@ -70,7 +70,7 @@ impl Table {
     }
 
     /// Borrows the table with its jobs.
-    pub fn world(&self) -> &World<BoundedStore>
+    pub fn world(&self) -> &World<HostStore>
         ensures { result.now ≡ self.now.world }
     {
         &self.world

@@ -9,10 +9,10 @@ ghost use Rattle.far_c.specs.TableState.{places_of};
 ghost use Rattle.far_c.specs.Outcomes.{Behind, IsDue, IsRefusal, IsRejected, IsRejectedFor};
 ghost use Rattle.far_c.specs.Parts.{AreTextsOf, FitTexts, HasNoSpace, IsNotCopied, IsPartLent, alive_of, bytes_of, cells_in, has_value, texts_of};
 
-use crate::bounded_store::BoundedStore;
 use crate::code::{BAD_ARGUMENT, CLOSED, OK, SHORT_BUFFER};
 use crate::handle::Handle;
 use crate::table::Table;
+use far_host::HostStore;
 use far_texts::TextCells;
 use far_types::Refusal;
 
@@ -54,7 +54,7 @@ fn lent_texts<'a>(
     column: u32,
     from: u32,
     to: u32,
-) -> Result<TextCells<'a, BoundedStore>, Refusal>
+) -> Result<TextCells<'a, HostStore>, Refusal>
     ensures cells { IfOk result
         (λ texts. cells_in texts ≡ part column from to (places_of table.now)) }
     ensures flags { IfOk result
@@ -67,7 +67,7 @@ fn lent_texts<'a>(
 }
 
 // How many bytes texts have: 2^64 - 1 if they have more.
-fn size_of_texts(texts: TextCells<'_, BoundedStore>) -> usize
+fn size_of_texts(texts: TextCells<'_, HostStore>) -> usize
     ensures { result ≡ min (length (texts_of (cells_in texts.entry))) (2 ^ 64 - 1) }
 {
     let mut texts = texts;
@@ -106,8 +106,9 @@ pub extern "C" fn fc_texts(
     ensures rejected { 100 ≤ result
         → IsRejectedFor
         (IsNotCopied
-        (FitTexts from to (length offsets.old) (length valid.old) (length alive.old)) column
-        from to (length bytes.old)) result handle.old.table handle.new.table }
+        (FitTexts from to (length offsets.old) (length valid.old) (length alive.old))
+        column from to (length bytes.old))
+        result handle.old.table handle.new.table }
     ensures lengths { result < 100
         → FitTexts from to (length offsets.old) (length valid.old) (length alive.old) }
 {
@@ -164,7 +165,7 @@ fn read_texts(
 
 // Copies texts. Returns whether the buffer of their bytes has the space.
 fn copy_texts(
-    texts: TextCells<'_, BoundedStore>,
+    texts: TextCells<'_, HostStore>,
     offsets: &mut [u64],
     bytes: &mut [u8],
     valid: &mut [bool],

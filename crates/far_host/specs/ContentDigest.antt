@@ -21,8 +21,13 @@ rest content = drop (4 * part_len content) content
 -- the digests of the four parts one after another, and the rest
 abbrev pub part_digests : List ℕ → List ℕ
 part_digests content =
-    sha256 (part content 0) ++ (sha256 (part content 1) ++ (sha256 (part content 2) ++ (sha256 (part content 3) ++ rest content)))
+    sha256 (part content 0)
+    ++ (sha256 (part content 1)
+    ++ (sha256 (part content 2)
+    ++ (sha256 (part content 3) ++ rest content)))
 
 -- the digest of a content; from 1,024 bytes on it is made from the parts
 abbrev pub content_digest : List ℕ → List ℕ
-content_digest content = cond (ltb (length content) 1024) (sha256 content) (sha256 (part_digests content))
+content_digest content = cond (ltb (length content) 1024)
+    (sha256 content)
+    (sha256 (part_digests content))

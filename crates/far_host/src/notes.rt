@@ -1,6 +1,6 @@
 // The notes of a store, by number.
 ghost use Rattle.std.specs.Prelude.{◌≡◌, IfSome};
-ghost use Rattle.far_host.specs.HostTickets.{IsOf};
+ghost use Rattle.far_host.specs.HostTickets.{IsNoted};
 
 use crate::note::Note;
 use crate::spot::{CHUNK, GROUPS, Spot};
@@ -66,7 +66,7 @@ impl Notes {
 
     /// Writes the note of a number. Returns `None` if there is no memory for its chunk, or another thread is making it right now.
     pub(crate) fn write(&self, alloc: Global, number: u64, note: Note) -> Option<HostTicket>
-        ensures here { IfSome result (λ ticket. IsOf ticket self.now) }
+        ensures noted { IfSome result (λ ticket. IsNoted ticket self.now) }
         ensures number { IfSome result (λ ticket. ticket.number ≡ number) }
         ensures content { IfSome result (λ ticket. ticket.content ≡ note.content.numbers) }
     {
@@ -87,7 +87,7 @@ impl Notes {
 
     /// Returns the note of a ticket's content.
     pub(crate) fn note(&self, ticket: &HostTicket) -> &Note
-        requires { IsOf ticket.now self.now }
+        requires { IsNoted ticket.now self.now }
         ensures { result.now.content.numbers ≡ ticket.now.content }
     {
         let spot = Spot::of(ticket.number);

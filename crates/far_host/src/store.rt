@@ -1,7 +1,7 @@
 // The far store of a host.
 ghost use Rattle.std.specs.Prelude.{◌≡◌, ◌<◌, ◌≤◌, [], ◌∷◌, IfOk, IfErr, IfSome};
 ghost use Rattle.far_store.specs.Faults.{RefusedBy};
-ghost use Rattle.far_host.specs.HostTickets.{IsOf};
+ghost use Rattle.far_host.specs.HostTickets.{HasDigestOf, IsNoted, IsOf, id_of};
 
 use crate::contents::Contents;
 use crate::note::Note;
@@ -14,8 +14,8 @@ use std::collections::BTreeMap;
 use std::marker::Model;
 use std::sync::atomic::{AtomicU64, Ordering};
 
-/// A far store whose contents the calling program keeps: in files, on a server, wherever it likes. Contracts see its id and its
-/// capacity.
+/// A far store whose contents the calling program keeps: in files, on a server, wherever it likes. Contracts see its capacity
+/// and its notes, which together are its id.
 ///
 /// - A put draws a number, and notes the length and the digest of the bytes. It keeps no byte: the caller of the put gives them to the
 ///   program, with the ticket's number.
@@ -56,19 +56,18 @@ impl Model for HostStore {
     ghost use Rattle.std.specs.Prelude.{◌≡◌, ℕ, IfSome};
     ghost use Rattle.std.specs.Ordering.{nat_cmp};
     ghost use Rattle.std.specs.BTreeMap.{get};
-    ghost use Rattle.far_store.specs.StoreState.{StoreState, store_coded};
-    ghost use Rattle.far_host.specs.HostTickets.{IsOf};
+    ghost use Rattle.far_host.specs.HostTickets.{HostState, IsNoted, host_coded};
 
-    ghost Value = { StoreState };
+    ghost Value = { HostState };
 
-    ghost coded = { store_coded };
+    ghost coded = { host_coded };
 
-    ghost view = { λ s. record { id = s.notes; capacity = s.capacity } };
+    ghost view = { λ s. record { capacity = s.capacity; notes = s.notes } };
 
     // The content that is stored under a number was delivered for a ticket with that number.
     ghost invariant = { λ s. (n : ℕ) →
         IfSome (get nat_cmp s.delivered n) (λ contents.
-        (contents.ticket.number ≡ n) × IsOf contents.ticket s.notes) };
+        (contents.ticket.number ≡ n) × IsNoted contents.ticket s.notes) };
 }
 
 impl HostStore {
@@ -94,7 +93,7 @@ impl HostStore {
 
     // Returns the bytes that were delivered for a ticket.
     fn delivered(&self, ticket: &HostTicket) -> Option<&[u8]>
-        requires { IsOf ticket.now self.now.id }
+        requires { IsNoted ticket.now self.now.notes }
         ensures { IfSome result (λ bytes. bytes.now ≡ ticket.now.content) }
     {
         let contents = self.delivered.get(&ticket.number)?;
@@ -110,7 +109,7 @@ impl FarTickets for HostStore {
 
     ghost number_of = { λ t. t.number };
 
-    ghost store_id = { λ s. s.id };
+    ghost store_id = { id_of };
 
     ghost is_of = { IsOf };
 
@@ -153,7 +152,7 @@ impl FarRead for HostStore {
 
 impl FarStore for HostStore {
     fn put(&self, alloc: Global, meter: &mut Meter, bytes: &[u8]) -> Result<HostTicket, Refusal>
-        ensures here { IfOk result (λ ticket. IsOf ticket self.now.id) }
+        ensures here { IfOk result (λ ticket. IsOf ticket (id_of self.now)) }
         ensures content { IfOk result (λ ticket. ticket.content ≡ bytes.now) }
         ensures number { IfOk result (λ ticket. ticket.number < self.now.capacity) }
         ensures faultless { meter.new ≡ meter.old }
@@ -180,8 +179,6 @@ impl FarStore for HostStore {
 }
 
 impl FarDelivery for HostStore {
-    ghost use Rattle.far_host.specs.HostTickets.{HasDigestOf};
-
     ghost matches = { λ t bytes. HasDigestOf t.content bytes };
 
     fn deliver(

@@ -2,7 +2,7 @@
 // that were put are refused.
 ghost use Rattle.std.specs.Prelude.{◌≡◌, IfOk, length};
 ghost use Rattle.far_host.specs.ContentDigest.{content_digest};
-ghost use Rattle.far_host.specs.HostTickets.{IsOf, HasNoCollision};
+ghost use Rattle.far_host.specs.HostTickets.{IsOf, HasNoCollision, id_of};
 
 use crate::digest::digest_of;
 use crate::{HostStore, HostTicket};
@@ -32,7 +32,7 @@ fn copy(alloc: Global, bytes: &[u8]) -> Result<Vec<u8>, Refusal>
 }
 
 fn put(store: &HostStore, alloc: Global, bytes: &[u8]) -> Result<HostTicket, Refusal>
-    ensures here { IfOk result (λ ticket. IsOf ticket store.now.id) }
+    ensures here { IfOk result (λ ticket. IsOf ticket (id_of store.now)) }
     ensures content { IfOk result (λ ticket. ticket.content ≡ bytes.now) }
 {
     match store.put(alloc, &mut Meter::new(), bytes) {
@@ -42,7 +42,7 @@ fn put(store: &HostStore, alloc: Global, bytes: &[u8]) -> Result<HostTicket, Ref
 }
 
 fn get(store: &HostStore, alloc: Global, ticket: &HostTicket) -> Result<Vec<u8>, Refusal>
-    requires { IsOf ticket.now store.now.id }
+    requires { IsOf ticket.now (id_of store.now) }
 {
     let mut bytes = Vec::new(alloc);
     match store.get(alloc, &mut Meter::new(), ticket, &mut bytes) {
@@ -54,7 +54,7 @@ fn get(store: &HostStore, alloc: Global, ticket: &HostTicket) -> Result<Vec<u8>,
 
 // Returns whether the store has no content for the ticket, and counts that as a fault.
 fn misses(store: &HostStore, alloc: Global, ticket: &HostTicket) -> bool
-    requires { IsOf ticket.now store.now.id }
+    requires { IsOf ticket.now (id_of store.now) }
 {
     let mut meter = Meter::new();
     let mut bytes = Vec::new(alloc);
@@ -64,7 +64,7 @@ fn misses(store: &HostStore, alloc: Global, ticket: &HostTicket) -> bool
 
 // Returns whether the store refuses the bytes, and counts that as a fault.
 fn refuses(store: &mut HostStore, alloc: Global, ticket: &HostTicket, bytes: &[u8]) -> bool
-    requires here { IsOf ticket.now store.old.id }
+    requires here { IsOf ticket.now (id_of store.old) }
     requires no_collision { HasNoCollision ticket.now bytes.now }
     ensures { store.new ≡ store.old }
 {
@@ -80,7 +80,7 @@ fn deliver(
     ticket: &HostTicket,
     content: &[u8],
 ) -> Result<(), Refusal>
-    requires here { IsOf ticket.now store.old.id }
+    requires here { IsOf ticket.now (id_of store.old) }
     requires content { ticket.now.content ≡ content.now }
     ensures { store.new ≡ store.old }
 {
@@ -97,7 +97,7 @@ fn takes(
     ticket: &HostTicket,
     content: &[u8],
 ) -> Result<bool, Refusal>
-    requires here { IsOf ticket.now store.old.id }
+    requires here { IsOf ticket.now (id_of store.old) }
     requires content { ticket.now.content ≡ content.now }
     ensures { store.new ≡ store.old }
 {

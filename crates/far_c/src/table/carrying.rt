@@ -13,8 +13,8 @@ ghost use Rattle.far_c.specs.Contents.{content, matches, number_of};
 ghost use Rattle.far_c.specs.Numbering.{IsRenumbered};
 
 use super::Table;
-use crate::bounded_store::BoundedStore;
 use far_frame::{Frame, Reply, Step, World};
+use far_host::HostStore;
 use far_types::{Answer, Kind, Limits, Refusal, Schema};
 use std::alloc::Global;
 use std::mem;
@@ -48,9 +48,8 @@ impl Table {
     /// Gives up the job of a number, as [`World::give_up_delivered`] does.
     pub fn give_up(&mut self, job: u64) -> Result<(), Refusal>
         ensures given_up { OnOk result
-            (OnWorld
-            (λ old new. new ≡ record old { jobs = without_job old.jobs job }) self.old
-            self.new) }
+            (OnWorld (λ old new. new ≡ record old { jobs = without_job old.jobs job })
+            self.old self.new) }
         ensures refused { IfErr result (λ why. why ≡ Refusal.StaleJob) }
         ensures err { OnErr result (self.new ≡ self.old) }
     {
@@ -61,8 +60,8 @@ impl Table {
     pub fn fault(&mut self, job: u64) -> Refusal
         requires { self.old.world.faults < 2 ^ 62 }
         ensures counted { OnWorld
-            (λ old new. new ≡ record old { faults = old.faults + faults_of result }) self.old
-            self.new }
+            (λ old new. new ≡ record old { faults = old.faults + faults_of result })
+            self.old self.new }
     {
         self.world.fault(job)
     }
@@ -77,8 +76,8 @@ impl Table {
         ensures refused { IfErr result
             (WhyNotTaken (wanted_by number_of self.old.world job number) bytes.now) }
         ensures counted { OnWorld
-            (λ old new. new ≡ record old { faults = old.faults + faults_in result }) self.old
-            self.new }
+            (λ old new. new ≡ record old { faults = old.faults + faults_in result })
+            self.old self.new }
     {
         self.world.deliver(job, number, bytes)
     }
@@ -93,8 +92,8 @@ impl Table {
         ensures refused { IfErr result
             (WhyNoCopy self.old.world.state.rows column group bytes.now) }
         ensures counted { OnWorld
-            (λ old new. new ≡ record old { faults = old.faults + faults_in result }) self.old
-            self.new }
+            (λ old new. new ≡ record old { faults = old.faults + faults_in result })
+            self.old self.new }
     {
         self.world.deliver_copy(column, group, bytes)
     }
@@ -141,10 +140,10 @@ impl Table {
         ensures migrated { OnOk result (OnWorld (IsRenumbered capacity) self.old self.new) }
         ensures back { IfErr result
             (λ why. OnWorld
-            (λ old new. new ≡ record old { faults = old.faults + faults_of why }) self.old
-            self.new) }
+            (λ old new. new ≡ record old { faults = old.faults + faults_of why })
+            self.old self.new) }
     {
-        let store = BoundedStore::new(self.alloc, capacity)?;
+        let store = HostStore::new(self.alloc, capacity)?;
         let old = mem::replace(&mut self.world, stand_in(self.alloc)?);
         match old.migrate(store) {
             Ok(new) => {
@@ -160,7 +159,7 @@ impl Table {
 }
 
 // An empty table, which stands where another one is taken out to be changed.
-fn stand_in(alloc: Global) -> Result<World<BoundedStore>, Refusal>
+fn stand_in(alloc: Global) -> Result<World<HostStore>, Refusal>
     ensures faults { IfOk result (λ world. world.faults ≡ 0) }
     ensures memory { IfErr result (λ why. why ≡ Refusal.NoMemory) }
 {
@@ -175,7 +174,7 @@ fn stand_in(alloc: Global) -> Result<World<BoundedStore>, Refusal>
         text_size: 64,
     };
     let frame = Frame::open(alloc, schema, limits, 0)?;
-    match World::new(alloc, frame, BoundedStore::new(alloc, 0)?) {
+    match World::new(alloc, frame, HostStore::new(alloc, 0)?) {
         Ok(world) => Ok(world),
         Err((refusal, _, _)) => Err(refusal),
     }
