@@ -20,7 +20,7 @@ use std::{env, thread};
 
 mod log;
 mod movers;
-#[path = "../simulator/random.rs"]
+#[path = "../../plain/random.rs"]
 mod random;
 mod sessions;
 mod setup;

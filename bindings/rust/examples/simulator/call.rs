@@ -1,6 +1,8 @@
 //! What a seed draws: a table, and the calls that it is given.
 
-use fullercoral::{Cell, Constant, Kind, Limits, Op, Policy, Schema, Spec, extrema, totals};
+use fullercoral::{Constant, Kind, Limits, Op, Policy, Schema, Spec, extrema, totals};
+
+pub use crate::owned::Owned;
 
 /// The table of a seed, and how often it tries a call of the far side.
 #[derive(Debug, Clone)]
@@ -48,32 +50,6 @@ impl Setup {
 /// The name of a column.
 pub fn name(column: usize) -> String {
     format!("c{column}")
-}
-
-/// A cell that owns its text.
-#[derive(Debug, Clone, PartialEq)]
-pub enum Owned {
-    Missing,
-    Int(i64),
-    Text(String),
-}
-
-impl Owned {
-    pub fn cell(&self) -> Cell<'_> {
-        match self {
-            Owned::Missing => Cell::Missing,
-            Owned::Int(number) => Cell::Int(*number),
-            Owned::Text(text) => Cell::Text(text),
-        }
-    }
-
-    pub fn int(&self) -> Option<i64> {
-        self.cell().int()
-    }
-
-    pub fn text(&self) -> Option<&str> {
-        self.cell().text()
-    }
 }
 
 /// What an aggregate is, by the columns' indices.

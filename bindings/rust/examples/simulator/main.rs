@@ -20,7 +20,10 @@ use std::{env, io, panic, thread};
 mod call;
 mod draw;
 mod model;
+#[path = "../../plain/owned.rs"]
+mod owned;
 mod program;
+#[path = "../../plain/random.rs"]
 mod random;
 // (some of it is for programs that repeat a seed alone)
 #[allow(dead_code)]

@@ -1,35 +1,23 @@
 //! What tests share.
 #![allow(dead_code)]
 
-use fullercoral::{Cell, Constant, Extrema, Op, Schema, Spec, Totals, extrema, totals};
+use fullercoral::{Constant, Extrema, Op, Schema, Spec, Totals, extrema, totals};
 
 #[path = "../../plain/mod.rs"]
 pub mod plain;
 
+#[path = "../../plain/random.rs"]
+mod random;
+
+#[path = "../../plain/owned.rs"]
+mod owned;
+
+pub use owned::Owned;
+pub use random::Random;
+
 use plain::{PlainSpec, Test, What};
 
-/// Random numbers by splitmix64.
-#[derive(Debug, Clone)]
-pub struct Random(pub u64);
-
 impl Random {
-    pub fn next(&mut self) -> u64 {
-        self.0 = self.0.wrapping_add(0x9e37_79b9_7f4a_7c15);
-        let mut z = self.0;
-        z = (z ^ (z >> 30)).wrapping_mul(0xbf58_476d_1ce4_e5b9);
-        z = (z ^ (z >> 27)).wrapping_mul(0x94d0_49bb_1331_11eb);
-        z ^ (z >> 31)
-    }
-
-    /// A number below `end`, which is not 0.
-    pub fn below(&mut self, end: u32) -> u32 {
-        (self.next() % u64::from(end)) as u32
-    }
-
-    pub fn one_in(&mut self, times: u32) -> bool {
-        self.below(times) == 0
-    }
-
     pub fn value(&mut self) -> i64 {
         if self.one_in(50) {
             self.next() as i64
@@ -42,24 +30,6 @@ impl Random {
         const WORDS: [&str; 6] = ["north", "south", "ea\u{df}t", "", "upper ", "lower"];
         let word = WORDS[self.below(6) as usize];
         format!("{word}{}", self.below(8))
-    }
-}
-
-/// A cell that owns its text.
-#[derive(Debug, Clone, PartialEq)]
-pub enum Owned {
-    Missing,
-    Int(i64),
-    Text(String),
-}
-
-impl Owned {
-    pub fn cell(&self) -> Cell<'_> {
-        match self {
-            Owned::Missing => Cell::Missing,
-            Owned::Int(number) => Cell::Int(*number),
-            Owned::Text(text) => Cell::Text(text),
-        }
     }
 }
 

@@ -1,3 +1,6 @@
+//! Random numbers, for tests and examples.
+#![allow(dead_code)]
+
 /// Random numbers by splitmix64.
 #[derive(Debug, Clone)]
 pub struct Random(pub u64);
