@@ -111,8 +111,8 @@ impl<'a> Cell<'a> {
 /// # Safety
 /// A call wrote `bytes` as a text, and by rule 3 no other call with that handle is made within `'a`.
 pub(crate) unsafe fn text_of<'a>(bytes: fc_bytes) -> &'a str {
-    // SAFETY: the caller keeps to rule 3; a text of a table is UTF-8, since fc_insert, fc_set,
-    // fc_insert_columns and fc_set_column refuse all else.
+    // fc_insert, fc_set, fc_insert_columns and fc_set_column refuse all that is not UTF-8.
+    // SAFETY: so a text of a table is UTF-8, and the caller keeps to rule 3.
     unsafe { std::str::from_utf8_unchecked(bytes.get()) }
 }
 
