@@ -14,7 +14,7 @@ class Client:
 
     def replies(self, *commands):
         """Sends a batch of commands, and returns the lines of their replies."""
-        # The line "end" is no command. Its reply has its number, so it marks the end, however many lines come before it.
+        # The line "end" is not a command. Its reply has its number, so it marks the end, however many lines come before it.
         text = "".join(f"{it}\n" for it in (*commands, "end"))
         assert len(text.encode()) < BATCH
         self.commands += len(commands) + 1

@@ -1,5 +1,5 @@
 /* A fuzzer of the calls: a string of bytes is a program of calls, over a plain table that says what they should do. Compiled with
- * libFuzzer it is driven by that (tools/fuzz); with -DREPLAY it has a main() that runs one input, or those of fuzz.corpus (tools/c-tests).
+ * libFuzzer it is driven by that (tests/fuzz); with -DREPLAY it has a main() that runs one input, or those of fuzz.corpus (tests/c-tests).
  *
  * The first byte says which allocation is refused, if one is. Two bytes say what the table is. Then each byte is a call, with its arguments
  * behind it. The heap is this file's own: it refuses one allocation, and looks whether bytes beside a block were written. */

@@ -5,7 +5,7 @@
 //! what one more is and what it is refused with, by its number and name, the seconds of processor time,
 //! and the most memory in MB. Far contents lie in files, so that memory is the table's. --only takes
 //! names with commas between them. --record writes the lines into a file, over those of the same name;
-//! `tools/reliability` makes a table of it.
+//! `tools/documents` makes a table of it.
 
 use std::collections::BTreeMap;
 use std::error::Error;

@@ -9,7 +9,7 @@
 //! What is printed is the history: a line of fields with tabs between them for each call that a session
 //! made, in the order in which they had the lock. It is the session, three readings of one clock (before
 //! the lock, with it, behind it), the call and its reply, as a script of `farframe` has them. A clock
-//! that is read in the lock says in which order the calls are to be explained; `tools/random-threads`
+//! that is read in the lock says in which order the calls are to be explained; `tests/random-threads`
 //! does it, by a plain table. Lines `moved WHAT REPLY COUNT` follow, and say what the movers got.
 
 use std::collections::BTreeMap;

@@ -61,7 +61,7 @@ class Drawer:
         self.trips = iter(())
 
     def command(self):
-        """The next command: a verb, and what stands behind it. Now and then others come between those of a trip."""
+        """The next command: a verb, and its arguments. Now and then others come between those of a trip."""
         if not self.draws.one_in(4):
             for it in self.trips:
                 return it
@@ -73,7 +73,7 @@ class Drawer:
         return HIGHEST if self.draws.one_in(60) else self.draws.below(len(self.table.rows) + 1)
 
     def column(self):
-        """A column, or now and then the one behind the last."""
+        """A column, or now and then the one after the last."""
         return self.draws.below(8 * self.width + 1) // 8
 
     def group(self):
@@ -97,7 +97,7 @@ class Drawer:
         last = range(max(self.table.begun - 6, 0), self.table.begun)
         due = [n for n in last if n in jobs and jobs[n].carried == is_carried]
         n = self.table.begun - self.draws.below(7)
-        # (before the first job stand the highest numbers that a word may be)
+        # (before the first job come the highest numbers that a word may be)
         return self.draws.pick(due) if due and not self.draws.one_in(5) else n % 2**64
 
     def cell(self, column, texts=TEXTS):

@@ -1,6 +1,6 @@
-"""Histories that are wrong: each is one that was printed, with something in it that no table replies. tools/random-threads has each found.
+"""Histories that are wrong: each is one that was printed, with something in it that no table replies. tests/random-threads has each found.
 
-What is spoiled stands in the middle of all that could be.
+What is spoiled is in the middle of all that could be.
 """
 # A number that no session writes.
 NOWHERE = "41"
@@ -67,7 +67,7 @@ def stale_answer(history):
 
 
 def other_order(history):
-    """Two sessions that inserted one behind the other have each other's reply."""
+    """Two sessions that inserted one after the other have each other's reply."""
     lines = parts(history)
     inserted = [it for it in lines if is_done(it, "insert")]
     one, other = middle([two for two in zip(inserted, inserted[1:]) if two[0][0] != two[1][0]])
@@ -76,7 +76,7 @@ def other_order(history):
 
 
 def clock_back(history):
-    """Two calls one behind the other stand the other way round."""
+    """Two calls in the wrong order."""
     lines = parts(history)
     at = len(lines) // 2
     lines[at], lines[at + 1] = lines[at + 1], lines[at]

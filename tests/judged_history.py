@@ -39,18 +39,18 @@ class Wrong(Exception):
     """What is wrong with a history."""
 
 
-# A row as a history has it, and the cells that a record stands for. There are few different rows, so each is worked out once.
+# A row as a history has it, and the cells of a record. There are few different rows, so each is worked out once.
 row_told = functools.cache(record)
 
 
 def cell(text, column):
-    """The cell that a text stands for."""
+    """The cell that a text is of."""
     return None if text == "\\N" else KINDS[column](text)
 
 
 @functools.cache
 def cells_of(text):
-    """The cells that a record stands for."""
+    """The cells of a record."""
     return tuple(cell(it, column) for column, it in enumerate(text.split(",")))
 
 
@@ -75,7 +75,7 @@ def parts_of(*about):
 
 
 class Answer:
-    """An aggregate, with how often each value stands under each key."""
+    """An aggregate, with how often each value is under each key."""
 
     def __init__(self, *about):
         self.parts = parts_of(*about)

@@ -9,7 +9,7 @@ REFUSALS = {
 
 
 class Refused(Exception):
-    """Why a command is refused: a name, and the numbers that stand behind it."""
+    """Why a command is refused: a name, and the numbers that it names."""
 
     def __init__(self, name, *carried):
         super().__init__(name)
@@ -49,7 +49,7 @@ class Region:
         self.segments = [[] for _ in range(count)]
 
     def place(self, length):
-        """Makes a part in the lowest segment that has space behind its last part."""
+        """Makes a part in the lowest segment that has space after its last part."""
         for number in range(len(self.segments)):
             if self.end(number) + length <= self.size:
                 return self.append(number, length)
@@ -61,13 +61,13 @@ class Region:
         return parts[-1].offset + parts[-1].length if parts else 0
 
     def append(self, number, length):
-        """Makes a part behind the last one of a segment."""
+        """Makes a part after the last one of a segment."""
         part = Part(number, self.end(number), length)
         self.segments[number].append(part)
         return part
 
     def drop(self, part):
-        """Takes a part away. What lies behind it stays where it is."""
+        """Takes a part away. What lies after it stays where it is."""
         self.segments[part.segment].remove(part)
 
     def free_beside(self, number):
