@@ -1,27 +1,35 @@
 """A count and a sum by key, kept while rows are edited: beside sqlite3 with triggers, and pandas.
 
-Both tables have the same rows, of a text with one of 1,000 values and a number, and get the same
-edits of numbers at places drawn at random. A question is for one key, or for all of them.
+    python3 benchmarks/group_by.py [ROWS]
+
+All have the same rows, of a key with one of 1,000 values and a number, and get the same edits of
+numbers at places drawn at random, before the clock starts. A question is for one key, or for all.
+After each case the answers of ours and of SQLite are compared.
 
 - Of ours, the answer is watched. Edits are made by ``set``, or as many by one ``set_column``, with
   an ``array`` of places and one of values.
+- "the library's calls alone" are the same calls by ctypes, with arguments made before, on a table
+  of their own: what the package cannot go below.
 - SQLite is in memory, in one transaction that is never committed, without a journal. A trigger
-  keeps the totals in a table whose primary key is the text. Edits are made by ``execute``, or as
-  many by one ``executemany``, with tuples that lie ready.
+  keeps the totals in a table whose primary key is the key. Edits are made by ``execute``, or as
+  many by one ``executemany``, with tuples made before.
 - pandas has a categorical column of keys. It puts all values by one assignment, and groups and sums
   all rows at each question.
 
-Each figure is for the edits with one question behind them: the least of some rounds, which the
-three take in turn.
+Each figure is for the edits and one question after them: the least of some rounds, which all take
+in turn.
 """
 
 from __future__ import annotations
 
 import random
 import sqlite3
+import sys
 import time
 from array import array
-from typing import Any, Callable, NamedTuple
+from typing import Any, Callable, NamedTuple, Union
+
+from printed import begin, say
 
 import fullercoral as fc
 
@@ -30,10 +38,10 @@ try:
 except ImportError:
     pandas = None
 
+LOCAL = "512MB"
 KEYS = 1000
-EDITS = 1, 10, 1000
 ROUNDS = 40
-CELLS_A_ROUND = 1000  # how many edits a round has, with as many questions as come behind them
+CELLS_A_ROUND = 1000  # how many edits a round has, with as many questions as come after them
 MOST_QUESTIONS = 100
 
 _SQLITE = """
@@ -41,8 +49,8 @@ _SQLITE = """
     pragma synchronous = off;
     pragma locking_mode = exclusive;
     pragma temp_store = memory;
-    create table orders (place integer primary key, sku text, quantity integer);
-    create table sold (sku text primary key, count integer, sum integer) without rowid;
+    create table orders (place integer primary key, sku {kind}, quantity integer);
+    create table sold (sku {kind} primary key, count integer, sum integer) without rowid;
     begin;
 """
 _ON_UPDATE = """
@@ -58,9 +66,12 @@ _ON_INSERT = """
 """
 _SET = "update orders set quantity = ? where place = ?"
 
+Key = Union[int, str]
+Say = Callable[..., None]
+
 
 class Edits(NamedTuple):
-    """Some edits, as each of the three takes them."""
+    """Some edits, as each of them takes them."""
 
     places: array[int]
     values: array[int]
@@ -68,28 +79,37 @@ class Edits(NamedTuple):
 
 
 class Drawn(NamedTuple):
-    """The rows that all have."""
+    """The rows that all have, and the kind of their keys."""
 
-    skus: list[str]
+    skus: list[Any]
     quantities: list[int]
+    kind: type = str
+
+    def key(self, number: int) -> Key:
+        """Returns one of the keys."""
+        return f"sku{number}" if self.kind is str else number
+
+    def sqlite(self) -> str:
+        """Returns the tables for SQLite."""
+        return _SQLITE.format(kind="text" if self.kind is str else "integer")
 
 
-def draw_rows(rows: int) -> Drawn:
+def draw_rows(rows: int, kind: type = str) -> Drawn:
     """Draws rows, the same each time."""
-    draw = random.Random(2)
-    skus = [f"sku{draw.randrange(KEYS)}" for _ in range(rows)]
-    return Drawn(skus, [draw.randrange(1, 10) for _ in range(rows)])
+    draw, key = random.Random(2), Drawn([], [], kind).key
+    skus = [key(draw.randrange(KEYS)) for _ in range(rows)]
+    return Drawn(skus, [draw.randrange(1, 10) for _ in range(rows)], kind)
 
 
 class Ours:
     """The package's own table."""
 
     def __init__(self, drawn: Drawn, local: str) -> None:
-        self.table = fc.Table({"sku": str, "quantity": int}, local=local)
+        self.table = fc.Table({"sku": drawn.kind, "quantity": int}, local=local)
         self.table.extend_columns(sku=drawn.skus, quantity=drawn.quantities)
         self.sold = self.table.watch(fc.totals("quantity", by="sku"))
         self.table.build(self.sold)
-        self.one: Callable[[str], Any] = self.sold.get
+        self.one: Callable[[Key], Any] = self.sold.get
         self.all: Callable[[], Any] = self.sold.items
 
     def lone(self, edits: Edits) -> None:
@@ -101,19 +121,45 @@ class Ours:
         self.table.set_column("quantity", edits.places, edits.values)
 
 
+class CallsAlone(Ours):
+    """The library's calls with arguments made before."""
+
+    def __init__(self, drawn: Drawn, local: str) -> None:
+        super().__init__(drawn, local)
+        self._index = self.table.schema.index("quantity")
+        slots = self.sold._slots
+        self._slots = {key: slots.take(key) for key in map(drawn.key, range(KEYS))}
+        self.all = self.sold._ask
+
+    def one(self, key: Key) -> Any:  # type: ignore[override]
+        cell_at, line_at, *_ = self._slots[key]
+        return self.sold._slots.fc_ask_key(self.table._at, self.sold.number, cell_at, line_at)
+
+    def lone(self, edits: Edits) -> None:
+        table, index = self.table, self._index
+        fc_set, at, cell = table._fc_set, table._at, table._number_at
+        for place in edits.places:
+            fc_set(at, index, place, cell)
+        table._answer = None
+
+    def many(self, edits: Edits) -> None:
+        self.table._arrays.set(self._index, edits.places, edits.values)
+        self.table._answer = None
+
+
 class Sqlite:
     """SQLite with a trigger."""
 
     def __init__(self, drawn: Drawn) -> None:
         self.base = sqlite3.connect(":memory:", isolation_level=None)
-        self.base.executescript(_SQLITE)
+        self.base.executescript(drawn.sqlite())
         rows = zip(range(len(drawn.skus)), drawn.skus, drawn.quantities)
         self.base.executemany("insert into orders values (?, ?, ?)", rows)
         folds = "count(quantity), sum(quantity)"
         self.base.execute(f"insert into sold select sku, {folds} from orders group by sku")
         self.base.executescript(_ON_UPDATE)
 
-    def one(self, key: str) -> Any:
+    def one(self, key: Key) -> Any:
         return self.base.execute("select count, sum from sold where sku = ?", (key,)).fetchone()
 
     def all(self) -> Any:
@@ -139,11 +185,13 @@ class Pandas:
     def all(self) -> Any:
         return self.frame.groupby("sku", observed=True)["quantity"].agg(["count", "sum"])
 
-    def one(self, key: str) -> Any:
+    def one(self, key: Key) -> Any:
         return self.all().loc[key]
 
     def many(self, edits: Edits) -> None:
         self.frame.iloc[edits.places.tolist(), 1] = edits.values.tolist()
+
+    lone = many
 
 
 class Case(NamedTuple):
@@ -159,19 +207,24 @@ class Case(NamedTuple):
         return f"{self.edits:,} edit{'s' * (self.edits > 1)} by {how}, then {asked}"
 
 
-def _draw(rows: int, case: Case, draw: random.Random) -> tuple[list[Edits], list[str]]:
-    """Draws what a round has: edits, and a key for the question behind each of them."""
-    questions = max(1, min(MOST_QUESTIONS, CELLS_A_ROUND // case.edits))
+MAIN = [Case(1000, "many", "one"), Case(1, "lone", "one"), Case(10_000, "many", "all")]
+MORE = [Case(1, "many", "one"), Case(10, "many", "one"), Case(10, "lone", "one")]
+MORE += [Case(1, "lone", "all"), Case(1000, "lone", "all")]
+
+
+def _draw(drawn: Drawn, case: Case, draw: random.Random) -> tuple[list[Edits], list[Key]]:
+    """Draws what a round has: edits, and a key for the question after each of them."""
+    questions, rows = max(1, min(MOST_QUESTIONS, CELLS_A_ROUND // case.edits)), len(drawn.skus)
     edits = []
     for _ in range(questions):
         places = array("I", (draw.randrange(rows) for _ in range(case.edits)))
         values = array("q", (draw.randrange(1, 10) for _ in range(case.edits)))
         edits.append(Edits(places, values, list(zip(values, places))))
-    return edits, [f"sku{draw.randrange(KEYS)}" for _ in edits]
+    return edits, [drawn.key(draw.randrange(KEYS)) for _ in edits]
 
 
-def _round(of: Any, case: Case, edits: list[Edits], keys: list[str]) -> float:
-    """Returns the seconds of some edits with a question behind them."""
+def _round(of: Any, case: Case, edits: list[Edits], keys: list[Key]) -> float:
+    """Returns the seconds of some edits and a question after them."""
     edit, ask_one, ask_all = getattr(of, case.way), of.one, of.all
     is_one = case.question == "one"
     began = time.perf_counter()
@@ -181,30 +234,50 @@ def _round(of: Any, case: Case, edits: list[Edits], keys: list[str]) -> float:
     return (time.perf_counter() - began) / len(keys)
 
 
-def measure(drawn: Drawn, local: str, say: Callable[..., None]) -> None:
+class Measured:
+    """The tables of all, and what is measured with them."""
+
+    def __init__(self, drawn: Drawn, local: str, say: Say) -> None:
+        self._drawn, self._say = drawn, say
+        self._draw = random.Random(5)
+        self._ours, self._sqlite = Ours(drawn, local), Sqlite(drawn)
+        self._alone = CallsAlone(drawn, local)
+        self._frame = Pandas(drawn) if pandas is not None else None
+
+    def case(self, case: Case) -> None:
+        """Measures a case, and compares the answers."""
+        ours, sqlite, alone = self._ours, self._sqlite, self._alone
+        times: dict[Any, list[float]] = {ours: [], sqlite: [], alone: []}
+        for _ in range(ROUNDS if case.edits <= 1000 else ROUNDS // 4):
+            edits, keys = _draw(self._drawn, case, self._draw)
+            for of, seconds in times.items():
+                seconds.append(_round(of, case, edits, keys))
+        assert {key: tuple(line) for key, *line in sqlite.all()} == ours.sold.to_dict()
+        least, keys_are = min(times[ours]), "" if self._drawn.kind is str else " (of numbers)"
+        self._say(f"{case}{keys_are}", least, "SQLite with a trigger", min(times[sqlite]))
+        self._say("", least, "the library's calls alone", min(times[alone]))
+        if self._frame is not None and case in MAIN:
+            edits, keys = _draw(self._drawn, case, self._draw)
+            taken = min(_round(self._frame, case, edits[:3], keys[:3]) for _ in range(2))
+            self._say("", least, "pandas, recomputing", taken)
+
+    def close(self) -> None:
+        """Closes the tables."""
+        self._ours.table.close()
+        self._alone.table.close()
+        self._sqlite.base.close()
+
+
+def measure(rows: int, local: str, say: Say) -> None:
     """Measures all cases; ``say`` gets what it was, our seconds, the other's name and seconds."""
-    rows, draw = len(drawn.skus), random.Random(5)
-    ours, sqlite = Ours(drawn, local), Sqlite(drawn)
-    frame = Pandas(drawn) if pandas is not None else None
-    for way, question in (("many", "one"), ("many", "all"), ("lone", "one"), ("lone", "all")):
-        for count in EDITS:
-            case = Case(count, way, question)
-            times: dict[Any, list[float]] = {ours: [], sqlite: []}
-            for _ in range(ROUNDS):
-                edits, keys = _draw(rows, case, draw)
-                for of, seconds in times.items():
-                    seconds.append(_round(of, case, edits, keys))
-            assert dict((key, tuple(line)) for key, *line in sqlite.all()) == ours.sold.to_dict()
-            say(str(case), min(times[ours]), "SQLite with a trigger", min(times[sqlite]))
-            if frame is not None and way == "many":
-                edits, keys = _draw(rows, case, draw)
-                taken = min(_round(frame, case, edits[:3], keys[:3]) for _ in range(2))
-                say("", min(times[ours]), "pandas, recomputing", taken)
-    ours.table.close()
-    sqlite.base.close()
+    for kind, cases in ((str, MAIN + MORE), (int, MAIN)):
+        measured = Measured(draw_rows(rows, kind), local, say)
+        for case in cases:
+            measured.case(case)
+        measured.close()
 
 
-def inserts(drawn: Drawn, local: str, say: Callable[..., None]) -> None:
+def inserts(drawn: Drawn, local: str, say: Say) -> None:
     """Measures inserts of all rows while count and sum by key are kept."""
     rows = len(drawn.skus)
     with fc.Table({"sku": str, "quantity": int}, local=local) as table:
@@ -213,10 +286,20 @@ def inserts(drawn: Drawn, local: str, say: Callable[..., None]) -> None:
         table.extend_columns(sku=drawn.skus, quantity=drawn.quantities)
         ours = time.perf_counter() - began
     base = sqlite3.connect(":memory:", isolation_level=None)
-    base.executescript(_SQLITE + _ON_INSERT)
+    base.executescript(drawn.sqlite() + _ON_INSERT)
     given = list(zip(range(rows), drawn.skus, drawn.quantities))
     began = time.perf_counter()
     base.executemany("insert into orders values (?, ?, ?)", given)
     theirs = time.perf_counter() - began
     base.close()
     say(f"{rows:,} inserts under the count and sum", ours, "SQLite with a trigger", theirs)
+
+
+def main() -> None:
+    rows = int(sys.argv[1]) if len(sys.argv) > 1 else 1_000_000
+    begin()
+    measure(rows, LOCAL, say)
+
+
+if __name__ == "__main__":
+    main()

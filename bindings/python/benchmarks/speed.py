@@ -15,56 +15,23 @@ import tempfile
 import time
 from array import array
 from pathlib import Path
-from typing import Any, Callable
+from typing import Any
 
-sys.path.insert(0, str(Path(__file__).resolve().parents[1]))
+import group_by
+from printed import begin, best, say
 
-import group_by  # noqa: E402
-
-import fullercoral as fc  # noqa: E402
-from fullercoral import _header as header  # noqa: E402
-from fullercoral._buffers import address_of  # noqa: E402
-from fullercoral._handle import EMPTY_AT, Handle  # noqa: E402
+import fullercoral as fc
+from fullercoral import _header as header
+from fullercoral._buffers import address_of
+from fullercoral._handle import EMPTY_AT, Handle
 
 try:
     import numpy
 except ImportError:
     numpy = None  # type: ignore[assignment]
 
-LOCAL = "512MB"
+LOCAL = group_by.LOCAL
 COUNT = 20_000  # edits of a round, one by one
-
-
-def best(work: Callable[[], Any], rounds: int = 5) -> float:
-    """Returns the least seconds of some rounds."""
-    times = []
-    for _ in range(rounds):
-        began = time.perf_counter()
-        work()
-        times.append(time.perf_counter() - began)
-    return min(times)
-
-
-def shown(seconds: float) -> str:
-    """Returns a time in the unit that suits it."""
-    for unit, size in (("s ", 1.0), ("ms", 1e-3), ("µs", 1e-6)):
-        if seconds >= size:
-            return f"{seconds / size:,.2f} {unit}"
-    return f"{seconds * 1e9:,.0f} ns"
-
-
-def say(what: str, ours: float, beside: str = "", theirs: float = 0.0) -> None:
-    """Prints a line of the table."""
-    times = f"{theirs / ours:,.2f}" if theirs else ""
-    takes = shown(theirs) if theirs else ""
-    line = f"| {what:<49} | {shown(ours):>10} | {beside:<24} | {takes:>10} | {times:>8} |"
-    print(line, flush=True)
-
-
-def begin() -> None:
-    """Prints the head of the table."""
-    print(f"| {'what':<49} | {'takes':>10} | {'beside':<24} | {'takes':>10} | {'times':>8} |")
-    print(f"|{'-' * 51}|{'-' * 11}:|{'-' * 26}|{'-' * 11}:|{'-' * 9}:|")
 
 
 # Many rows
@@ -230,7 +197,7 @@ def main() -> None:
         reading(table, rows)
         lone_edits(table, rows)
         floors(table)
-    group_by.measure(drawn, LOCAL, say)
+    group_by.measure(rows, LOCAL, say)
     group_by.inserts(drawn, LOCAL, say)
 
 

@@ -18,8 +18,9 @@ from typing import Any, Callable, Iterable, Mapping, Sequence, Union
 from . import _header as header
 from . import _setting
 from ._buffers import BYTES_AT, ColumnBuffer, check, column_buffer
-from ._handle import EMPTY_AT, Handle
-from .errors import BadArgument, Closed, NoColumn, NoRow, Refused, RowWidth
+from ._handle import EMPTY_AT, Handle, leave
+from ._pages import MANY
+from .errors import BadArgument, Closed, NoRow, Refused, RowWidth
 from .movement import Mover
 from .policy import Helper, Policy
 from .schema import NA, Schema
@@ -56,10 +57,6 @@ class Editing:
         """Makes what every edit uses again."""
         kinds = self.schema.codes()
         self._width = len(kinds)
-        self._by_name = {
-            name: (index, kind == header.TEXT)
-            for index, (name, kind) in enumerate(zip(self.schema.names, kinds))
-        }
         self._row = (header.Cell * self._width)()
         self._row_words = memoryview(self._row).cast("B").cast("q")
         self._row_plan = [(_WORDS * index, kind == header.TEXT) for index, kind in enumerate(kinds)]
@@ -73,6 +70,17 @@ class Editing:
         lib = self._handle.lib
         self._fc_insert, self._fc_set = lib.short("fc_insert"), lib.short("fc_set")
         self._fc_remove = lib.short("fc_remove")
+        self._for_set = self._parts_of_set()
+        self._arrays = _setting.Arrays(self._handle)
+
+    def _parts_of_set(self) -> tuple[Any, ...]:
+        """Returns what `set` uses: of each column its index, and where its cell is written."""
+        number, text = (self._number_words, self._number_at), (None, self._text_at)
+        by_name = {
+            name: (index, *(text if kind is str else number))
+            for index, (name, kind) in enumerate(zip(self.schema.names, self.schema.kinds))
+        }
+        return self._lock.acquire, self._lock.release, by_name, self._fc_set, self._at
 
     # One row
 
@@ -135,6 +143,8 @@ class Editing:
             arguments = self._at, self._row_at, self._width, self._place_at
             self._go_on(code, self._fc_insert, *arguments)
         place = self._place.value
+        if place == MANY:
+            self._handle.use_large_pages()
         self._places = place + 1
         self._live += 1
         self._answer = None
@@ -157,29 +167,33 @@ class Editing:
         >>> table[place]
         Row(sku='bread', quantity=7)
         """
-        with self._lock:
+        acquire, release, by_name, fc_set, at = self._for_set
+        try:
+            acquire()
             if not 0 <= place < self._places:
                 place = self._place_of(place)
             try:
-                index, is_text = self._by_name[column]
+                index, words, cell = by_name[column]
                 if value is None:
                     cell = self._missing_at
-                elif is_text:
+                elif words is not None:
+                    words[0] = value
+                else:
                     text = _encode(value)
                     words = self._text_words
                     words[1] = id(text) + BYTES_AT
                     words[2] = len(text)
-                    cell = self._text_at
-                else:
-                    self._number_words[0] = value
-                    cell = self._number_at
-                code = self._fc_set(self._at, index, place, cell)
+                code = fc_set(at, index, place, cell)
             except (KeyError, TypeError, ValueError, ArgumentError):
                 index, place, cell = self._odd_cell(place, column, value)
-                code = self._fc_set(self._at, index, place, cell)
+                code = fc_set(at, index, place, cell)
             if code:
-                self._go_on(code, self._fc_set, self._at, index, place, cell)
+                self._go_on(code, fc_set, at, index, place, cell)
             self._answer = None
+        except BaseException:
+            leave(self._lock)
+            raise
+        release()
 
     def _odd_cell(self, place: int, column: str, value: Any) -> tuple[int, int, Any]:
         """Returns an index, a place and a cell of other kinds than most; refuses what is none."""
@@ -214,8 +228,13 @@ class Editing:
         with self._lock:
             if not self._handle.is_open:
                 raise Closed()
+            index, code, done = self.schema.index(column), 0, 0
             try:
-                _setting.Cells(self, column, places, values).set()
+                if _setting.are_plain(self.schema.kinds[index], places, values, self._places):
+                    code, done = self._arrays.set(index, places, values)
+                    if not code:
+                        return
+                _setting.Cells(self, column, places, values).set(code, done)
             finally:
                 self._answer = None
 
@@ -305,6 +324,8 @@ class Editing:
         rows = buffers[0].length
         with self._lock:
             first = self._places
+            if first + rows >= MANY:
+                self._handle.use_large_pages()
             for start in range(0, rows, _ROWS_AT_ONCE):
                 stop = min(start + _ROWS_AT_ONCE, rows)
                 self._insert_part(buffers, start, stop, first)

@@ -1,20 +1,18 @@
-"""Reads the lines of the answer that stays in a table's handle, and the line of one key.
+"""Reads the lines of the answer that stays in a table's handle.
 
 One call writes some hundred lines into a buffer that all readers of a handle share. From there they
 are taken column by column; the texts of their keys, which lie elsewhere, are copied by one call
-more. The line of one key is asked for by one call, which makes no other line.
+more.
 """
 
 from __future__ import annotations
 
 from array import array
 from ctypes import addressof, byref, c_size_t, c_void_p, sizeof
-from functools import partial
-from struct import Struct
+from itertools import repeat
 from typing import Any, Iterable, Iterator
 
 from . import _header as header
-from ._buffers import BYTES_AT
 from ._handle import EMPTY_AT, Handle
 from ._lent import LentTexts
 from .errors import Nothing
@@ -23,8 +21,6 @@ LINES = 256  # how many lines one call writes
 _STEP = sizeof(header.LineStruct) // 8  # words of a line
 
 _KEY_AT, _KEY_LEN, _KEY_NUMBER, _COUNT, _LOW, _HIGH, _MIN, _MAX = range(8)  # words of a line
-_TOTALS = Struct(f"{header.LineStruct.count.offset}xQQq")  # count, and the sum in two halves
-_EXTREMA = Struct(f"{header.LineStruct.min.offset}xqq")
 
 _MASK = (1 << 64) - 1
 
@@ -86,48 +82,8 @@ class LineReader:
         self._handle = handle
         self._at = handle.at
         self._fold = fold
-        self._make = partial(_new, fold)
         self._has_totals = "count" in fold._fields
-        self._unpack = (_TOTALS if self._has_totals else _EXTREMA).unpack_from
         self._key = key
-        line = header.LineStruct()
-        self._line_at = byref(line)
-        self._bytes = memoryview(line).cast("B")
-        self._words = self._bytes.cast("q")
-        wanted = header.Cell(0, b"", 0, header.TEXT if key is str else header.INT)
-        self._wanted_at = byref(wanted)
-        self._wanted_words = memoryview(wanted).cast("B").cast("q")
-        self._missing_at = byref(header.Cell(0, b"", 0, header.MISSING))
-        self._fc_ask_key = handle.lib.short("fc_ask_key")
-
-    def ask(self, number: int, key: Any) -> int:
-        """Asks an aggregate for the line of a key of its kind, and returns the code of the call.
-
-        None is the key of an aggregate without key column.
-        """
-        words, wanted_at = self._wanted_words, self._wanted_at
-        try:
-            if self._key is str:
-                text = str.encode(key)
-                words[1], words[2] = id(text) + BYTES_AT, len(text)
-            elif self._key is int:
-                words[0] = key
-            else:
-                wanted_at = self._missing_at
-        except ValueError:
-            wanted_at = self._missing_at  # no column holds such a value, and no line has this key
-        line = self._words
-        line[_KEY_AT] = EMPTY_AT
-        line[_KEY_LEN] = 0
-        code: int = self._fc_ask_key(self._at, number, wanted_at, self._line_at)
-        return code
-
-    def asked(self) -> Any:
-        """Returns the line that the last ask for a key wrote."""
-        if not self._has_totals:
-            return _new(self._fold, self._unpack(self._bytes))
-        count, low, high = self._unpack(self._bytes)
-        return _new(self._fold, (count, (high << 64) + low if high else low))
 
     def first(self, count: int) -> list[tuple[Any, Any]]:
         """Returns the first lines of the answer, each with its key; None if it has no key column.
@@ -197,5 +153,7 @@ class LineReader:
 
     def _values_in(self, lines: LineBuffer, length: int) -> Iterable[Any]:
         if self._has_totals:
-            return map(self._make, zip(lines.numbers(_COUNT, length), lines.sums(length)))
-        return map(self._make, zip(lines.numbers(_MIN, length), lines.numbers(_MAX, length)))
+            pairs = zip(lines.numbers(_COUNT, length), lines.sums(length))
+        else:
+            pairs = zip(lines.numbers(_MIN, length), lines.numbers(_MAX, length))
+        return map(_new, repeat(self._fold), pairs)

@@ -6,6 +6,7 @@ for each place. A negative place counts from the end.
 
 from __future__ import annotations
 
+import sys
 from array import array
 from itertools import compress
 from typing import Any, Iterable, Sequence
@@ -13,6 +14,7 @@ from typing import Any, Iterable, Sequence
 from .errors import BadArgument, NoRow
 
 _FORMATS = ("I", "@I", "=I", "<I")
+_MANY = 256  # places, from which a call of numpy is worth while
 
 
 def place_buffer(places: Any, count: int) -> Any:
@@ -28,9 +30,17 @@ def place_buffer(places: Any, count: int) -> Any:
         if places and isinstance(places[0], bool):
             places = array("I", compress(range(count), _mask(places, count)))
         places = _as_uint32(places, count)
-    if len(places) and max(places) >= count:
+    if len(places) and greatest(places) >= count:
         raise _no_row(places, count)
     return places
+
+
+def greatest(places: Any) -> int:
+    """Returns the greatest of a buffer of 32-bit numbers, by numpy if the program has it loaded."""
+    numpy = sys.modules.get("numpy") if len(places) >= _MANY else None
+    if hasattr(numpy, "frombuffer"):
+        return int(numpy.frombuffer(places, "uint32").max())
+    return max(places)
 
 
 def _is_plain(places: Any) -> bool:

@@ -2,12 +2,14 @@
 
 from __future__ import annotations
 
-from ctypes import byref, c_size_t
+from array import array
+from ctypes import byref, c_size_t, c_void_p
 from typing import TYPE_CHECKING, Any, Mapping
 
 from . import _header as header
 from ._buffers import ColumnBuffer, address_of, column_buffer, repeated
-from ._places import place_buffer
+from ._handle import EMPTY_AT, Handle
+from ._places import greatest, place_buffer
 from .errors import BadArgument, NoUtf8, Refused, WrongKind
 from .policy import Helper
 
@@ -30,6 +32,49 @@ def is_one(values: Any) -> bool:
     """Whether one value is given for all places."""
     is_many = hasattr(values, "__len__") or hasattr(values, "__iter__")
     return isinstance(values, str) or not is_many
+
+
+class Arrays:
+    """Sets cells by an ``array`` of places and one of numbers, which are lent as they are.
+
+    What the call needs besides is made once. The caller holds the table's lock.
+    """
+
+    def __init__(self, handle: Handle) -> None:
+        column = header.ColumnStruct()
+        column.offsets = column.bytes = column.valid = EMPTY_AT
+        column.kind = header.INT
+        self._words: Any = memoryview(column).cast("B").cast("Q")
+        self._column_at = byref(column)
+        self._places_at = c_void_p()
+        self._done = c_size_t()
+        self._done_at = byref(self._done)
+        self._at = handle.at
+        self._fc_set_column = handle.lib.fast("fc_set_column")
+
+    def set(self, column: int, places: array[int], values: array[int]) -> tuple[int, int]:
+        """Sets the cells in order until one is refused; returns the code, and how many were set."""
+        with memoryview(places), memoryview(values):  # so no other thread changes their lengths
+            self._places_at.value, count = places.buffer_info()
+            self._words[0], length = values.buffer_info()
+            if count != length or not count:  # as they are since another thread changed them
+                return (BadArgument.number if count != length else 0), 0
+            self._words[1], self._done.value = length, 0
+            arguments = self._places_at, count, self._column_at, self._done_at
+            code: int = self._fc_set_column(self._at, column, *arguments)
+        return code, self._done.value
+
+
+def are_plain(kind: type, places: Any, values: Any, count: int) -> bool:
+    """Whether places of a table that has so many, and values for them, go to `Arrays` as they are.
+
+    If not, `Cells` takes them, and refuses what is wrong with them.
+    """
+    if places.__class__ is not array or values.__class__ is not array or kind is not int:
+        return False
+    if places.typecode != "I" or values.typecode != "q" or len(places) != len(values):
+        return False
+    return bool(places) and greatest(places) < count
 
 
 class Cells:
@@ -61,9 +106,15 @@ class Cells:
             raise BadArgument(f"{given} of column {self._name}")
         return buffer
 
-    def set(self) -> None:
-        """Sets all of them in order; the policy helps, and what was set stays."""
+    def set(self, code: int = 0, done: int = 0) -> None:
+        """Sets all of them in order; the policy helps, and what was set stays.
+
+        The first ones may have been set before a call that was refused with a code.
+        """
+        self._done = done
         try:
+            if code:
+                self._set_one(code)
             while self._done < self._count:
                 code = self._set_some()
                 if code:

@@ -8,12 +8,17 @@ from dataclasses import dataclass
 from typing import TYPE_CHECKING, Any, Generic, Iterator, NamedTuple, Sequence, TypeVar, Union
 
 from . import _header as header
+from ._asking import Slots
+from ._handle import leave
 from ._lines import LineReader
 from .errors import BadArgument, BadSpec, NoAggregate, Nothing, WrongKind
 from .schema import Schema
 
 if TYPE_CHECKING:
     from .table import Table
+
+_NOTHING = Nothing.number
+_new = tuple.__new__  # what a named tuple's own ``_make`` calls
 
 Key = Union[int, str]
 Test = tuple[str, str, Key]
@@ -166,6 +171,10 @@ class Watched(Generic[Line]):
         self._handle = handle
         self._at = handle.at
         self._lines = LineReader(handle, self._fold, self._key_kind)
+        self._slots = slots = Slots(handle, self._fold)
+        lock, ask = table._lock, slots.fc_ask_key
+        parts = lock.acquire, lock.release, slots, slots.of_key, ask, slots.unpack, self._fold
+        self._for_get = parts
         self._fc_ask = handle.lib.fast("fc_ask")
         self._fc_plain = handle.lib.short("fc_plain")
 
@@ -244,25 +253,49 @@ class Watched(Generic[Line]):
 
     def get(self, key: Key, default: Any = None) -> Any:
         """Returns the line of a key, and the default if there is none."""
+        if key.__class__ is not self._key_kind:
+            return self._get_other(key, default)
+        acquire, release, slots, of_key, ask, unpack, fold = self._for_get
+        try:
+            acquire()
+            slot = of_key.get(key) or slots.take(key)
+            cell_at, line_at, buffer, start, _ = slot
+            code = ask(self._at, self._number, cell_at, line_at)
+            if code:
+                found = None if code == _NOTHING else self._line_of(key)
+            elif slots.has_totals:
+                count, low, high = unpack(buffer, start)
+                found = _new(fold, (count, (high << 64) + low if high else low))
+            else:
+                found = _new(fold, unpack(buffer, start))
+        except BaseException:
+            leave(self.table._lock)
+            raise
+        release()
+        return default if found is None else found
+
+    def _get_other(self, key: Any, default: Any) -> Any:
+        """Returns the line of a key whose class is not the one that most keys have."""
         if self._key_kind is None:
             raise Nothing("this aggregate has no keys: ask for its value")
         if not isinstance(key, self._key_kind):
             return default
-        with self.table._lock:
-            found = self._line_of(key)
-            return default if found is None else found
+        plain: Key = str.__str__(key) if isinstance(key, str) else int.__int__(key)
+        return self.get(plain, default)
 
     def _line_of(self, key: Key | None) -> Any:
         """Returns the line of one key, and makes no other; None if there is none."""
-        number, lines = self.number, self._lines
-        code = lines.ask(number, key)
+        slots, number = self._slots, self.number
+        slot = slots.take(key)
+        code = slots.fc_ask_key(self._at, number, *slot[:2])
         if code and code != Nothing.number:
             self.table._build_for(self, code)
-            code = lines.ask(number, key)
+            slot = slots.take(key)  # an engine may have asked meanwhile
+            code = slots.fc_ask_key(self._at, number, *slot[:2])
         if code == Nothing.number:
             return None
         self._handle.check(code)
-        return lines.asked()
+        return slots.line(slot)
 
     def _ask(self) -> int:
         """Has the answer stay in the handle, unless it is there; returns how many lines it has."""

@@ -5,6 +5,7 @@ from __future__ import annotations
 import os
 import random
 import unittest
+from array import array
 from typing import Any
 
 import fullercoral as fc
@@ -122,6 +123,13 @@ class Run:
         name, rows = self.random.choice(list(KINDS)), len(self.plain.rows)
         places = [self.place() for _ in range(self.random.randrange(30))]
         values = [self.value(name) for _ in places]
+        given: tuple[Any, Any] = (
+            [place - rows if place % 2 and place < rows else place for place in places],
+            values,
+        )
+        if KINDS[name] is int and self.random.random() < 0.5:
+            values = [value or 0 for value in values]
+            given = array("I", places), array("q", values)
         due: type[fc.Refused] | None = None
         if any(place >= rows for place in places):
             due, many = fc.errors.NoRow, 0
@@ -130,8 +138,7 @@ class Run:
             due, many = (fc.errors.RemovedRow, gone[0]) if gone else (None, len(places))
         done = 0
         try:
-            said = [place - rows if place % 2 and place < rows else place for place in places]
-            self.table.set_column(name, said, values)
+            self.table.set_column(name, *given)
             done = len(places)
         except fc.Refused as error:
             done = error.cells_set or 0

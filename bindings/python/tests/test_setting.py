@@ -201,6 +201,79 @@ class Refusals(Case):
             self.refused(errors.Closed, "closed", "quantity", places, 7)
 
 
+class Arrays(Case):
+    """Places and numbers as arrays, which go to the library as they are."""
+
+    def arrays(self, places: Any, values: Any) -> tuple[Any, Any]:
+        return array("I", places), array("q", values)
+
+    def test_all_are_set_in_order(self) -> None:
+        sold = self.table.watch(fc.totals("quantity", by="sku"))
+        for places in ([], [7], [7, 2], [3, 3, 3], [9, 0, 9, 0]):
+            values = range(70, 70 + len(places))
+            self.sets(*self.arrays(places, values), dict(zip(places, values)))
+            self.assertEqual(sold.to_dict(), self.table.recount(sold))
+
+    def test_many(self) -> None:
+        table = fc.Table(KINDS, local="16MB")
+        self.addCleanup(table.close)
+        table.extend((f"sku{n}", n) for n in range(30_000))
+        sold = table.watch(fc.totals("quantity", by="sku"))
+        draw, due = random.Random(9), list(range(30_000))
+        for _ in range(3):
+            places = [draw.randrange(30_000) for _ in range(20_001)]
+            values = [draw.randrange(-(2**63), 2**63) for _ in places]
+            table.set_column("quantity", *self.arrays(places, values))
+            for place, value in zip(places, values):
+                due[place] = value
+            self.assertEqual(table["quantity"].to_list(), due)
+            self.assertEqual(sold.to_dict(), table.recount(sold))
+
+    def test_an_answer_of_before_is_not_shown_again(self) -> None:
+        sold = self.table.watch(fc.totals("quantity", by="sku"))
+        for value in (7, 8):
+            self.table.set_column("quantity", *self.arrays([3], [value]))
+            self.assertEqual((dict(sold.items())["sku3"].sum, sold["sku3"].sum), (value, value))
+
+    def test_nothing_is_set_if_one_does_not_fit(self) -> None:
+        for place in (10, 2**24, 2**32 - 1):
+            arguments = self.arrays([1, place, 2], [5, 5, 5])
+            error = self.refused(errors.NoRow, "the last one is 9", "quantity", *arguments)
+            self.assertEqual((error.place, error.cells_set), (place, None))
+        uneven = self.arrays([1, 2], [5])
+        self.refused(errors.BadArgument, "1 values are given for 2", "quantity", *uneven)
+        self.refused(errors.WrongKind, "5 for place 1", "sku", *self.arrays([1, 2], [5, 5]))
+        self.refused(errors.NoColumn, "no column 'prize'", "prize", *self.arrays([1], [5]))
+        self.as_at_first()
+        self.table.close()
+        for places in ([], [0]):
+            self.refused(errors.Closed, "closed", "quantity", *self.arrays(places, places))
+
+    def test_those_before_a_removed_row_stay(self) -> None:
+        self.table.remove(4)
+        arguments = self.arrays([1, 2, 4, 5, 1], [71, 72, 74, 75, 76])
+        error = self.refused(errors.RemovedRow, "the row of place 4", "quantity", *arguments)
+        self.assertEqual((error.cells_set, error.place), (2, 4))
+        self.assertEqual(self.table["quantity"].to_list()[:6], [0, 71, 72, 3, None, 5])
+
+    def test_the_limit_of_edits(self) -> None:
+        limits = fc.Limits(16, 4, 16, 4, 1024, edits=12)
+        with fc.Table(KINDS, limits=limits) as table:
+            table.extend((f"sku{n}", n) for n in range(ROWS))
+            with self.assertRaises(errors.EditsUsedUp) as caught:
+                table.set_column("quantity", *self.arrays([5, 6, 7], [70, 71, 72]))
+            self.assertEqual((caught.exception.cells_set, caught.exception.place), (2, 7))
+            self.assertEqual(table["quantity"].to_list()[5:8], [70, 71, 7])
+
+    def test_they_keep_their_length_meanwhile(self) -> None:
+        places, values = self.arrays([1, 2], [71, 72])
+        self.table.set_column("quantity", places, values)
+        places.append(3)
+        values.append(73)
+        self.table.set_column("quantity", places, values)
+        self.assertEqual(self.table["quantity"].to_list()[1:5], [71, 72, 73, 4])
+
+
 class Away(unittest.TestCase):
     def filled(self, rows: int = 400, **options: Any) -> fc.Table:
         table = fc.Table(KINDS, limits=SMALL, **options)
@@ -240,6 +313,39 @@ class Away(unittest.TestCase):
         table.fetch("sku", 1)
         table.set_column("quantity", [17, 2], [72, 73])
         self.assertEqual(table["quantity"].to_list()[17], 72)
+
+    def test_chunks_that_are_away_in_the_middle_of_arrays(self) -> None:
+        engine = Faulty(1, 0.0)
+        table = self.filled(48, far=engine)
+        sold = table.watch(fc.totals("quantity", by="sku"))
+        self.assertEqual(sold["sku0"].count, 10)
+        places, values = array("I", [0, 17, 1, 33, 17, 2]), array("q", range(70, 76))
+        due = list(range(48))
+        for place, value in zip(places, values):
+            due[place] = value
+        for column, group in (("sku", 1), ("quantity", 1), ("quantity", 2)):
+            table.evict(column, group)
+        table.set_column("quantity", places, values)
+        self.assertEqual(table.stats().moved.retries, 3)
+        self.assertEqual(table["quantity"].to_list(), due)
+        self.assertEqual(sold.to_dict(), table.recount(sold))
+        table.evict("quantity", 2)
+        engine.chance = 1.0
+        with self.assertRaises(fc.FarFault) as caught:
+            table.set_column("quantity", places, array("q", [80] * 6))
+        self.assertEqual(caught.exception.cells_set, 3)
+        engine.chance = 0.0
+        due[0] = due[17] = due[1] = 80
+        self.assertEqual(table["quantity"].to_list(), due)
+        self.assertEqual(sold["sku1"].sum, sum(due[1::5]))
+
+    def test_arrays_without_policy(self) -> None:
+        table = self.filled(48, policy=None)
+        table.evict("sku", 1)
+        with self.assertRaises(errors.Absent) as caught:
+            table.set_column("quantity", array("I", [0, 1, 17, 2]), array("q", [70, 71, 72, 73]))
+        self.assertEqual((caught.exception.place, caught.exception.cells_set), (17, 2))
+        self.assertEqual(table["quantity"].to_list()[:3], [70, 71, 2])
 
     def test_an_engine_that_fails_ends_it_and_nothing_is_lost(self) -> None:
         engine = Faulty(1, 0.0)
