@@ -84,7 +84,7 @@ has-text test (d ∷ columns) [] same_length i c at is = absurd (omega (arith, s
 has-text test (d ∷ columns) (text ∷ texts) same_length zero c at is = let same = same_Some d c at in or-first (test (d, text)) (list_any test (zip columns texts)) ((λ i. test (same i, text)) ∙ is)
 has-text test (d ∷ columns) (text ∷ texts) same_length (suc i) c at is = or-later (test (d, text)) (list_any test (zip columns texts)) (has-text test columns texts (omega (arith, same_length)) i c at is)
 
--- the lengths of the next forms, if each is that of its column
+-- the lengths of the next forms, if each is the length for its column
 form-lens : (lists : Lists) (n : ℕ) (columns : List Texts) (texts : List (Option (List ℕ))) (long : Texts → ℕ) → length texts ≡ length columns → ((i : ℕ) (c : Texts) → slice_get columns i ≡ Some c → texts_length (group_with_next lists c (get_or texts i None)) ≡ long c) → map (λ form. length form.1) (next_forms lists n columns texts) ≡ map long columns
 form-lens lists n [] texts long same_length each = refl
 form-lens lists n (c ∷ columns) [] long same_length each = absurd (omega (arith, same_length))

@@ -72,7 +72,7 @@ module _ {K : Type 0} (r : Rows K) (g : ℕ) where
   of-column_index (column_index.Text i) is = or-first (list_any text_written r.texts) (list_any number_written r.numbers) (of-text i (slice_get r.texts i) refl is)
   of-column_index (column_index.Number i) is = or-later (list_any text_written r.texts) (list_any number_written r.numbers) (of-number i (slice_get r.numbers i) refl is)
 
-  -- each index is that of a column, and each column has its index
+  -- each index belongs to a column, and each column has its index
   pub by-kinds : (content : K → List ℕ) → AreRows content r → list_any (is_written_out r g) r.column_indexes ≡ (list_any text_written r.texts || list_any number_written r.numbers)
   by-kinds content are =
       both-ways (list_any (is_written_out r g) r.column_indexes) (list_any text_written r.texts || list_any number_written r.numbers)

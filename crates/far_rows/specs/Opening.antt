@@ -10,7 +10,7 @@ use Rattle.far_columns.specs.NumbersTogether.{NumberColumns}
 use Rattle.far_rows.specs.ColumnIndexes.{column_indexes_from}
 use Rattle.far_rows.specs.Rows.{Rows}
 
--- the number columns among columns of these kinds, each empty; the first of the kinds is that of column n of the table
+-- the number columns among columns of these kinds, each empty; the first kind belongs to column n of the table
 abbrev pub numbers_from : ℕ → ℕ → List Kind → NumberColumns
 numbers_from size n [] = []
 numbers_from size n (kind.Int ∷ kinds) =

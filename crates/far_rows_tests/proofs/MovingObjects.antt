@@ -28,12 +28,12 @@ module _ {K : Type 0} (r : Rows K) (column group : ℕ) (due : Object) (at : obj
   free None is = absurd (none-some due is)
   free (Some s) is = ap (λ (some : Option Object). first_of ((is_none some, refusal.OutOfRange) ∷ [])) is
 
-  -- an object that is there is returned
+  -- an object that exists is returned
   pub answered : (result : Result Object Refusal) → IfOk result (λ found. object_at r column group ≡ Some found) → refusal_in result ≡ object_refusal r column group → result ≡ Ok due
   answered (Ok found) given refused = ap Ok (same_Some found due (sym given ∙ at))
   answered (Err e) given refused = absurd (none-some e (sym (refused ∙ free (slice_get r.column_indexes column) at)))
 
--- an object is there for a row group that has a place
+-- a row group with places is below the number of objects
 there : (g size objects len alive : ℕ) → 0 < size → g * size < alive → len ≡ alive → len ≤ objects * size → g < objects
 there g size objects len alive some used all enough = subst (λ n. n < objects) (div-mul-add g size 0 some) (div_below (g * size + 0) size objects some (omega (arith, used, all, enough)))
 
@@ -57,7 +57,7 @@ module _ {K : Type 0} (content : K → List ℕ) (r : Rows K) (are : AreRows con
         let own = found-at v.objects group (there group v.size (length v.objects) v.len (length r.alive) has.some (subst (λ n. group * n < length r.alive) (sym same_length.0) used) same_length.1 has.held) in
         (own.0, ap (option_and_then (λ (w : Texts). slice_get w.objects group)) found.1 ∙ own.1)
 
-    -- each column has an object for a row group that has a place
+    -- each column has an object for a row group with places
     pub begun : (column : ℕ) → column < length r.column_indexes → (some : Object) × (object_at r column group ≡ Some some)
     begun column within =
         let found = found-at r.column_indexes column within in
@@ -71,13 +71,13 @@ module _ {K : Type 0} (content : K → List ℕ) (r : Rows K) (are : AreRows con
         let own = begun column within in
         ap is_ok (answered r column group own.0 own.1 result given refused)
 
-  -- an object of numbers is named by a column of numbers
+  -- the column of an object of numbers is an int column
   pub number-owner : (o : ℕ) (name : Name) → slice_get (names_of r.number_objects) o ≡ Some name → option_map kind_of (slice_get r.column_indexes name.column) ≡ Some kind.Int
   number-owner o name at =
       let owner = are.owned_numbers o name at in
       ap (option_map kind_of) (are.placed_numbers owner.0 name.column (slice_get-map (λ (v : Vector (Option ℤ)). v.column) r.numbers owner.0 ∙ ap (option_map (λ (v : Vector (Option ℤ)). v.column)) owner.2 ∙ ap Some owner.3))
 
-  -- an object of texts by one of texts
+  -- the column of an object of texts is a text column
   pub text-owner : (o : ℕ) (name : Name) → slice_get (names_of r.text_objects) o ≡ Some name → option_map kind_of (slice_get r.column_indexes name.column) ≡ Some kind.Text
   text-owner o name at =
       let owner = are.owned_texts o name at in

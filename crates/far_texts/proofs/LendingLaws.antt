@@ -132,7 +132,7 @@ module _ {K : Type 0} (content : K → List ℕ) (m : Movement ℕ K) (c : Texts
       let begun : place / c.size < length c.objects = div_below place c.size (length c.objects) has.some (omega (arith, here.0, has.held)) in
       (omega (arith, begun, same), subst (λ g. lend_refusal m (get_or c.objects g 0) ≡ None) (sym same) here.1)
 
--- the text at a cursor is that of its place
+-- a cursor reads the text of its place
 pub text-of-cursor : (lists : Lists) (c : Texts) (is : IsTextColumn lists c) (has : HasGroups c) (place group index : ℕ) (form : List ℕ) (text : Option (List ℕ)) → place < c.len → IsCursor lists c place group index form → index < c.size → text ≡ option_and_then (λ t. t) (slice_get (texts_meaning form) index) → slice_get (texts_in lists c) place ≡ Some text
 text-of-cursor lists c is has place group index form text below cursor inside returned =
     let parts = split-place place group index c.size inside cursor.at in

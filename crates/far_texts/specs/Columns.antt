@@ -14,7 +14,7 @@ pub record ChangesColumn (old new : Lists) (c c' : Texts) : Type 0 where
   pub others : KeepsOthers old new c
   pub disjoint : (d : Texts) → IsTextColumn old d → AreDisjoint c d → AreDisjoint c' d
 
--- a call keeps what is known of the copies of objects in a store
+-- a call keeps both facts about the copies of objects in a store
 pub record KeepsCopies {K : Type 0} (content : K → List ℕ) (is_of : K → List ℕ → Type 0)
     (old new : Movement ℕ K) : Type 0 where
   -- if each clean object was equal to its copy, it still is

@@ -1,5 +1,5 @@
 // A column of texts.
-ghost use Rattle.std.specs.Prelude.{◌≡◌, ◌<◌, ◌≤◌, ◌^◌, ◌/◌, ◌%◌, ℕ, [], length, slice_get, slice_index};
+ghost use Rattle.std.specs.Prelude.{◌≡◌, ◌<◌, ◌≤◌, ◌^◌, ◌/◌, ◌%◌, ℕ, [], length, IfOk, IsOk, slice_get, slice_index};
 ghost use Rattle.far_texts.specs.Texts.{Lists, HasGroups, IsTextColumn};
 
 mod cells;
@@ -11,7 +11,7 @@ mod setting;
 mod together;
 
 pub use cells::{TextCell, TextCells};
-use far_types::Reciprocal;
+use far_types::{Reciprocal, Refusal};
 use std::alloc::Global;
 use std::marker::Model;
 pub use together::{fill_texts, may_push_texts, push_texts};
@@ -61,24 +61,28 @@ impl Model for TextColumn {
 impl TextColumn {
     /// Makes a column without texts. `column` is its number, `size` how many places a row group has (1 to 65,536). `limit` is
     /// how many bytes the far form of a row group may have (at most 16,777,216), which is the size of a segment of local
-    /// memory. Allocates nothing.
-    pub fn new(alloc: Global, column: u32, size: usize, limit: usize) -> TextColumn
+    /// memory.
+    ///
+    /// Returns a `Result` as `IntColumn::new` does. Allocates nothing, so it is never refused.
+    pub fn new(alloc: Global, column: u32, size: u32, limit: usize) -> Result<TextColumn, Refusal>
         requires some { 0 < size }
         requires small { size ≤ 2 ^ 16 }
         requires short { limit ≤ 2 ^ 24 }
-        ensures empty { result
-            ≡ record { column = column; size = size; limit = limit; objects = []; len = 0 } }
-        ensures is { (lists : Lists) → IsTextColumn lists result }
+        ensures empty { IfOk result (λ c. c
+            ≡ record { column = column; size = size; limit = limit; objects = []; len = 0 }) }
+        ensures is { IfOk result (λ c. (lists : Lists) → IsTextColumn lists c) }
+        ensures ok { IsOk result }
     {
+        let size = size as usize;
         let reciprocal = Reciprocal::new(size);
-        TextColumn {
+        Ok(TextColumn {
             column,
             size,
             reciprocal,
             limit,
             objects: Vec::new(alloc),
             len: 0,
-        }
+        })
     }
 
     /// Returns how many texts there are. Allocates nothing.
@@ -90,10 +94,10 @@ impl TextColumn {
     }
 
     /// Returns the object of a row group, or `None` exactly if no place of it is used. Allocates nothing.
-    pub fn object(&self, group: usize) -> Option<u32>
+    pub fn object(&self, group: u32) -> Option<u32>
         ensures { result ≡ slice_get self.now.objects group }
     {
-        self.objects.get(group).copied()
+        self.objects.get(group as usize).copied()
     }
 
     // Returns the row group of a place.

@@ -62,6 +62,9 @@ impl<T: Elem> FarVector<T> {
     /// - `EditsUsedUp` (24): that object was written as often as the limits allow.
     ///
     /// A refused call changes nothing.
+    ///
+    /// It is inlined, as `fill_place` is, since nearly each push fills a place of the last row group, and a row has one for each column.
+    #[inline(always)]
     pub fn push<S: FarTickets>(&mut self, objects: &mut Objects<T, S>, x: T) -> Result<(), Refusal>
         requires is { IsVector (list_of T.meaning S.content objects.old) self.old }
         requires few { is_full self.old ≡ true → length objects.old.records < 2 ^ 28 }
@@ -84,7 +87,9 @@ impl<T: Elem> FarVector<T> {
         }
     }
 
-    // Appends an element in an object of its own. No place may be unused.
+    // Appends an element in an object of its own. No place may be unused. It is not inlined, so that a push that begins no row group
+    // saves no registers for it.
+    #[inline(never)]
     fn begin_group<S: FarTickets>(
         &mut self,
         objects: &mut Objects<T, S>,
@@ -122,6 +127,7 @@ impl<T: Elem> FarVector<T> {
     }
 
     // Appends an element in the last row group, which must have an unused place.
+    #[inline(always)]
     fn fill_place<S: FarTickets>(
         &mut self,
         objects: &mut Objects<T, S>,

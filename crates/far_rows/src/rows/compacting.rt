@@ -25,7 +25,9 @@ impl<S: FarTickets> Rows<S> {
             (IsCompacted self.old.number_objects.memory self.new.number_objects.memory segment) }
         ensures stays { self.new
             ≡ record self.old {
-              number_objects = record self.old.number_objects { memory = self.new.number_objects.memory };
+              number_objects = record self.old.number_objects {
+                memory = self.new.number_objects.memory;
+              };
             } }
         ensures kept { KeepsCells S.content S.is_of self.old self.new }
         ensures missing { IsErrOf result Refusal.OutOfRange

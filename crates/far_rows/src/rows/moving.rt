@@ -85,7 +85,7 @@ impl<S: FarTickets> Rows<S> {
         ensures in_use { IfSome result (IsInUse self.now) }
     {
         let _number = self.text_objects.number();
-        Some(Object::Text(self.texts[text].object(group as usize)?))
+        Some(Object::Text(self.texts[text].object(group)?))
     }
 
     /// Adds a pin to the object of a row group of a column. Allocates nothing.

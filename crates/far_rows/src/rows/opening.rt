@@ -107,10 +107,9 @@ impl Columns {
             Kind::Text => {
                 self.column_indexes
                     .push(ColumnIndex::Text(self.texts.len()))?;
-                let size = limits.group as usize;
                 let limit = limits.text_size as usize;
-                self.texts
-                    .push(TextColumn::new(alloc, column, size, limit))?;
+                let texts = TextColumn::new(alloc, column, limits.group, limit)?;
+                self.texts.push(texts)?;
             }
         }
         Ok(())

@@ -278,9 +278,10 @@ impl<S: FarTickets> Rows<S> {
             ∷ []) }
     {
         let column = &self.texts[text];
-        // For the proof: shows `HasGroups` of the column.
+        // For the proof: shows that there are fewer places than numbers of 32 bits, and `HasGroups` of the column.
+        let _places = self.len();
         let _len = column.len();
-        column.text(&self.text_objects, place)
+        column.text(&self.text_objects, place as u32)
     }
 }
 
@@ -316,7 +317,7 @@ fn texts_are_here<S: FarTickets>(
 {
     // For the proof: shows that an object with a list is in use.
     let _number = objects.number();
-    if let Some(o) = column.object(group as usize) {
+    if let Some(o) = column.object(group) {
         objects.here(o)?;
     }
     Ok(())

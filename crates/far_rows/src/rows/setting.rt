@@ -66,7 +66,7 @@ impl<S: FarTickets> Rows<S> {
                 i, place, group,
             ),
             (ColumnIndex::Text(i), NewCell::Text(text)) => {
-                self.texts[i].may_set(&self.text_objects, place, text)
+                self.texts[i].may_set(&self.text_objects, place as u32, text)
             }
             _ => unreachable!(),
         }
@@ -146,7 +146,7 @@ impl<S: FarTickets> Rows<S> {
         ensures memory { IfErr result (λ e. e ≡ Refusal.NoMemory) }
         ensures err { OnErr result (self.new ≡ self.old) }
     {
-        self.texts[i].set_accepted(alloc, &mut self.text_objects, place, text)
+        self.texts[i].set_accepted(alloc, &mut self.text_objects, place as u32, text)
     }
 
     /// Sets a cell to a value. The object of its row group counts as written. A text's new form is placed before the old one

@@ -59,7 +59,7 @@ fn is_piece<S: FarTickets>(
     from < to && piece.values.len() == to - from
 }
 
-// Returns whether the first piece of a whole column is that of its first row group, of two places.
+// Returns whether the first piece of a whole column is the piece of its first row group, of two places.
 fn is_lent<S: FarTickets>(
     objects: &Objects<Option<i64>, S>,
     column: &IntColumn,

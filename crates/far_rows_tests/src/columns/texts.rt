@@ -33,8 +33,7 @@ fn no_texts(alloc: Global, layout: Layout) -> Result<Vec<TextColumn>, Refusal>
     columns_stay_together();
     let mut columns = Vec::new(alloc);
     for k in 0..layout.columns {
-        let size = layout.group as usize;
-        columns.push(TextColumn::new(alloc, k, size, 64))?;
+        columns.push(TextColumn::new(alloc, k, layout.group, 64)?)?;
     }
     Ok(columns)
 }

@@ -102,7 +102,7 @@ fn turns_out<S: FarStore>(
     }
 }
 
-// Returns whether these phases are accepted, one after the other.
+// Returns whether these phases are accepted, one after another.
 fn are_done<S: FarStore>(
     fixture: &mut Fixture<'_, i64, S>,
     alloc: Global,

@@ -50,7 +50,7 @@ impl TextColumn {
     pub fn form_length_with<S: FarTickets>(
         &self,
         objects: &Objects<u8, S>,
-        place: usize,
+        place: u32,
         text: &Option<Text>,
     ) -> Result<usize, Refusal>
         requires { IsTextColumn (lists_of S.content objects.now) self.now }
@@ -58,6 +58,7 @@ impl TextColumn {
             ≡ texts_length (group_with (lists_of S.content objects.now) self.now place text.now)) }
         ensures refused { refusal_in result ≡ length_refusal S.content objects.now self.now place }
     {
+        let place = place as usize;
         if place >= self.len {
             return Err(Refusal::OutOfRange);
         }

@@ -65,7 +65,7 @@ impl TextColumn {
     pub fn text<'a, S: FarTickets>(
         &self,
         objects: &'a Objects<u8, S>,
-        place: usize,
+        place: u32,
     ) -> Result<Option<&'a str>, Refusal>
         requires { IsTextColumn (lists_of S.content objects.now) self.now }
         ensures text { IfOk result (λ text.
@@ -73,6 +73,7 @@ impl TextColumn {
             ≡ Some (option_copied text)) }
         ensures refused { refusal_in result ≡ text_refusal S.content objects.now self.now place }
     {
+        let place = place as usize;
         if place >= self.len {
             return Err(Refusal::NoRow);
         }

@@ -31,7 +31,7 @@ impl TextColumn {
     pub fn may_set<S: FarTickets>(
         &self,
         objects: &Objects<u8, S>,
-        place: usize,
+        place: u32,
         text: &Option<Text>,
     ) -> Result<(), Refusal>
         requires { IsTextColumn (lists_of S.content objects.now) self.now }
@@ -44,7 +44,7 @@ impl TextColumn {
         if len > self.limit {
             return Err(Refusal::ChunkFull);
         }
-        let o = self.object_in_use(objects, place / self.size);
+        let o = self.object_in_use(objects, place as usize / self.size);
         objects.may_replace(o, len)
     }
 
@@ -53,7 +53,7 @@ impl TextColumn {
         &self,
         alloc: Global,
         objects: &Objects<u8, S>,
-        place: usize,
+        place: u32,
         text: &Option<Text>,
     ) -> Result<Vec<u8>, Refusal>
         requires is { IsTextColumn (lists_of S.content objects.now) self.now }
@@ -65,6 +65,7 @@ impl TextColumn {
             ≡ texts_length (group_with (lists_of S.content objects.now) self.now place text.now)) }
         ensures memory { IfErr result (λ e. e ≡ Refusal.NoMemory) }
     {
+        let place = place as usize;
         let form = self.form(objects, place / self.size)?;
         form_with(alloc, form, place % self.size, text)
     }
@@ -87,7 +88,7 @@ impl TextColumn {
         &self,
         alloc: Global,
         objects: &mut Objects<u8, S>,
-        place: usize,
+        place: u32,
         text: &Option<Text>,
     ) -> Result<(), Refusal>
         requires { IsTextColumn (lists_of S.content objects.old) self.now }
@@ -116,7 +117,7 @@ impl TextColumn {
         &self,
         alloc: Global,
         objects: &mut Objects<u8, S>,
-        place: usize,
+        place: u32,
         text: &Option<Text>,
     ) -> Result<(), Refusal>
         requires is { IsTextColumn (lists_of S.content objects.old) self.now }
@@ -130,7 +131,7 @@ impl TextColumn {
         ensures err { OnErr result (objects.new ≡ objects.old) }
     {
         let form = self.form_set(alloc, objects, place, text)?;
-        let o = self.object_in_use(objects, place / self.size);
+        let o = self.object_in_use(objects, place as usize / self.size);
         objects.replace(o, &form)
     }
 }

@@ -29,12 +29,12 @@ fn push<S: FarTickets>(
     column.push(alloc, objects, text)
 }
 
-// Sets a text, and checks that `may_set` gives the same reply beforehand, unless memory runs out.
+// Sets a text, and checks that `may_set` returns the same reply before, unless memory runs out.
 fn set<S: FarTickets>(
     alloc: Global,
     objects: &mut Objects<u8, S>,
     column: &TextColumn,
-    place: usize,
+    place: u32,
     text: &Option<Text>,
 ) -> Result<(), Refusal>
     requires { IsTextColumn (lists_of S.content objects.old) column.now }
@@ -71,14 +71,14 @@ fn is_cell<S: FarTickets>(
     column: &TextColumn,
     alive: &Alive,
     cell: Option<TextCell<'_>>,
-    place: usize,
+    place: u32,
 ) -> bool
     requires { IsTextColumn (lists_of S.content objects.now) column.now }
 {
     let Some(cell) = cell else {
         return false;
     };
-    column.text(objects, place) == Ok(cell.text) && alive.get(place) == Some(cell.alive)
+    column.text(objects, place) == Ok(cell.text) && alive.get(place as usize) == Some(cell.alive)
 }
 
 // Borrows a part of a column, and compares each cell with the text of its place and its flag.
@@ -86,7 +86,7 @@ fn lend<S: FarTickets>(
     objects: &Objects<u8, S>,
     column: &TextColumn,
     alive: &Alive,
-    part: (usize, usize),
+    part: (u32, u32),
 ) -> Result<(), Refusal>
     requires { IsTextColumn (lists_of S.content objects.now) column.now }
 {
@@ -94,7 +94,7 @@ fn lend<S: FarTickets>(
     if alive.len() != column.len() {
         return Err(WRONG);
     }
-    let mut cells = column.texts(objects, alive.all(), from, to)?;
+    let mut cells = column.texts(objects, alive.all(), from as usize, to as usize)?;
     for place in from..to {
         if !is_cell(objects, column, alive, cells.next(), place) {
             return Err(WRONG);
@@ -148,6 +148,6 @@ pub fn comes_out<S: FarTickets>(
     texts: &[Option<Text>; 2],
 ) -> Result<bool, Refusal> {
     let alive = flags(alloc, 3)?;
-    let mut column = TextColumn::new(alloc, 0, 2, 64);
+    let mut column = TextColumn::new(alloc, 0, 2, 64)?;
     is_right(alloc, objects, &mut column, texts, &alive)
 }

@@ -1,4 +1,4 @@
-use Rattle.std.proofs.Common.{◌≡◌, ℕ, ◌*◌, ◌+◌, ◌<◌, ◌≤◌, arith, List, [], length, map, get_or, Option, Some, sym, ap, subst, ◌∙◌}
+use Rattle.std.proofs.Common.{◌≡◌, ℕ, ◌*◌, ◌+◌, ◌<◌, ◌≤◌, arith, List, [], length, map, get_or, Option, None, Some, sym, ap, subst, ◌∙◌}
 use Rattle.std.specs.Prelude.{All, option_map, slice_get, slice_set}
 use Rattle.std.specs.Option.{option_map_or, option_and_then}
 use Rattle.std.proofs.lemmas.Option.{slice_get-get_or, slice_get-map, get_or_from_slice_get}
@@ -8,6 +8,7 @@ use Rattle.far_scopes.specs.Movement.{Movement, AreHere, version_of}
 use Rattle.far_texts.specs.Texts.{Texts, Lists, IsTextColumn, lists_of, texts_in, object_at}
 use Rattle.far_texts.specs.Effects.{group_with, set_in as text_set_in}
 use Rattle.far_texts.specs.Refusing.{set_refusal}
+use Rattle.far_texts.proofs.EffectsSet.{set-below}
 use Rattle.far_scopes.proofs.Outcomes.{by-outcome, on-ok}
 use Rattle.far_rows.specs.declared.column_index.ColumnIndex.TheVariants as column_index
 use Rattle.far_rows.specs.declared.new_cell.NewCell.TheVariants as new
@@ -38,6 +39,22 @@ set_accepted-requires-clause-free g c κs within =
     sym (ap (option_and_then due) at)
     ∙ ap (λ r. option_and_then (λ w. set_refusal content r.text_objects w c.args.place text) (slice_get r.texts c.args.i)) c.self.view_is
     ∙ c.requires.free
+
+pub overflow_cast-place : goal.overflow_cast-place
+overflow_cast-place g c =
+    let content = g.S.FarTickets.content in
+    let columns : List Texts = c.self.inside.texts.items in
+    let m = c.self.inside.text_objects in
+    let text = c.args.text.now in
+    let none : Texts = record { column = 0; size = 0; limit = 0; objects = []; len = 0 } in
+    let v : Texts = get_or columns c.args.i none in
+    let below = subst (λ r. c.args.i < length r.texts) (sym c.self.view_is) c.requires.within in
+    let due : Texts → Option Refusal = λ w. set_refusal content m w c.args.place text in
+    let free : set_refusal content m v c.args.place text ≡ None =
+    sym (ap (option_and_then due) (slice_get-get_or columns c.args.i none below))
+    ∙ ap (λ r. option_and_then (λ w. set_refusal content r.text_objects w c.args.place text) (slice_get r.texts c.args.i)) c.self.view_is
+    ∙ c.requires.free in
+    omega (arith, set-below content m v c.args.place text (sym free), (c.self.invariant.same_length_texts c.args.i none below).1, c.self.invariant.places)
 
 pub invariant_of-self : goal.invariant_of-self
 invariant_of-self g c =

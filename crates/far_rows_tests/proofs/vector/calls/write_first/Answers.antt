@@ -9,7 +9,7 @@ use Rattle.far_columns.proofs.RefusingLaws.{within-written}
 use Rattle.far_columns.proofs.VectorLaws.{length-elements}
 use Rattle.far_rows_tests.proofs.vector.calls.write_first.Goals as goal
 
--- a part that may be written is as long as it should be
+-- the part that may be written has the length of its range
 part-long : {X K : Type 0} (lists : ℕ → Option (List X)) (v : Vector X) (from to : ℕ) (m : Movement X K) → write_part_refusal m v from to ≡ None → from < to → IsShaped v → IsVector lists v → (part : List X) → part ≡ slice_range (elements lists v) from to → length part ≡ to - from
 part-long lists v from to m free some shaped is part lent =
     let within = within-written v from to m free some in
