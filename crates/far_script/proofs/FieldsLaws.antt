@@ -1,4 +1,4 @@
--- Fields, one after the other.
+-- The fields of a text, read one by one.
 use Rattle.std.proofs.Common.{◌≡◌, ◌==◌, ℕ, suc, ◌+◌, ◌≤◌, ◌<◌, ◌∙◌, Bool, true, false, ◌&&◌, zero, List, [], ◌∷◌, ◌++◌, Option, None, Some, not, nat_lt, if◌then◌else◌, drop, take, set, length, slice_get, append_assoc, append-nil, refl, sym, ap, arith}
 use Rattle.std.specs.List.{list_any, slice_split, position_or_len, before_first, after_first}
 use Rattle.std.proofs.lemmas.Bool.{eqb-true}
@@ -13,7 +13,7 @@ use Rattle.far_script.specs.Fields.{cell_of, cells_from, only_field}
 use Rattle.far_script.proofs.PartLaws.{last-part}
 use Rattle.far_script.proofs.OneRecordPlainTexts.{one_record-plain, one_record-empty}
 
--- cells so far, and those of the fields to come
+-- one cell more: the cells so far and those of the rest are still all cells
 one-cell-more : (kinds : List Kind) (cells : List Cell) (n : ℕ) (rest : List ℕ) (whole : List Cell) → position_or_len is_comma rest < length rest
     → cells ++ cells_from kinds n (slice_split is_comma rest) ≡ whole
     → (cells ++ cell_of (slice_get kinds n) (before_first is_comma rest) ∷ []) ++ cells_from kinds (n + 1) (slice_split is_comma (after_first is_comma rest)) ≡ whole
@@ -33,7 +33,7 @@ some-same f g h = cc h
 two-more : (i : ℕ) → suc (i + 1) ≡ suc i + 1
 two-more i = omega arith
 
--- the cells of the fields that are left, if there are any
+-- the cells of the rest, if `more` says that there is one
 abbrev pub cells-left : List Kind → ℕ → Bool → List ℕ → List Cell
 cells-left kinds n more rest = if more then cells_from kinds n (slice_split is_comma rest) else []
 
@@ -56,7 +56,7 @@ next-cell false kinds cells n rest whole h e =
     ∙ ap (λ (field : List ℕ). cells ++ cell_of (slice_get kinds n) field ∷ []) (take_all (position_or_len is_comma rest) rest (omega (arith, all)))
     ∙ last-cell kinds cells n rest whole all e
 
--- the same, in the values at hand
+-- the same, in the values of a turn of the loop
 pub cells-go-on : (kinds : List Kind) (cells : List Cell) (n : ℕ) (rest behind : List ℕ) (whole : List Cell) (column : Option Kind) (after : List Cell) (m : ℕ) (more : Bool)
     → after ≡ cells ++ cell_of column (before_first is_comma rest) ∷ [] → column ≡ slice_get kinds n → m ≡ n + 1 → behind ≡ after_first is_comma rest → more ≡ nat_lt (position_or_len is_comma rest) (length rest)
     → cells ++ cells_from kinds n (slice_split is_comma rest) ≡ whole
@@ -64,7 +64,7 @@ pub cells-go-on : (kinds : List Kind) (cells : List Cell) (n : ℕ) (rest behind
 cells-go-on kinds cells n rest behind whole column after m more grown of next left goes e =
     rw (grown, of, next, left, goes) (next-cell (nat_lt (position_or_len is_comma rest) (length rest)) kinds cells n rest whole refl e)
 
--- a cell that is written behind those so far
+-- a cell is written after those so far
 pub cell-written : (old mid : List Cell) (n : ℕ) (cell : Cell) → n < length mid → take n mid ≡ take n old → take (n + 1) (set mid n cell) ≡ take n old ++ cell ∷ []
 cell-written old mid n cell within same = take_more_set mid n cell within ∙ ap (λ (cells : List Cell). cells ++ cell ∷ []) same
 

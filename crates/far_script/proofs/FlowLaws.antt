@@ -44,14 +44,14 @@ prints-then u v w held text mid more left p q = (
   sym (append_assoc held text more) ∙ ap (λ (t : List ℕ). t ++ more) p.2 ∙ append_assoc p.0 mid more ∙ ap (λ (t : List ℕ). p.0 ++ t) q.2 ∙ sym (append_assoc p.0 q.0 left),
 )
 
--- what was held before and behind nothing more
+-- a text printed after an empty one
 pub prints-nothing-then : (u v w : Option (List ℕ)) (held mid more left : List ℕ) → Prints u held [] v mid → Prints v mid more w left → Prints u held more w left
 prints-nothing-then u v w held mid more left p q = prints-then u v w held [] mid more left p q
 
 pub prints-then-nothing : (u v w : Option (List ℕ)) (held text mid left : List ℕ) → Prints u held text v mid → Prints v mid [] w left → Prints u held text w left
 prints-then-nothing u v w held text mid left p q = subst (λ (t : List ℕ). Prints u held t w left) (append-nil text) (prints-then u v w held text mid [] left p q)
 
--- what a writer took of what was held
+-- a writer took a prefix of the bytes that were held
 pub prints-front : (u v w : Option (List ℕ)) (held left : List ℕ) (n : ℕ) → Appends u v (take n held) → Keeps v w → left ≡ drop n held → Prints u held [] w left
 prints-front u v w held left n p q e = (
   take n held,
@@ -62,7 +62,7 @@ prints-front u v w held left n p q e = (
 pub one-on : (n : ℕ) → suc n ≡ n + 1
 one-on n = omega arith
 
--- a first part of a range
+-- a prefix of a range
 pub range-front : (xs : List ℕ) (from to n : ℕ) → n ≤ to - from → slice_range xs from (from + n) ≡ take n (slice_range xs from to)
 range-front xs from to n low =
     let k : from + n - from ≡ n = omega arith in
@@ -79,7 +79,7 @@ fewer left made all h = omega (arith, h)
 pub turns-past : (left made all : ℕ) → left + made ≤ all → all ≤ 1048576 → 1048577 ≤ made → ⊥
 turns-past left made all h few past = omega (arith, h, few, past)
 
--- each read gave a byte
+-- each read of two parts brought a byte or more
 pub made-then : (n a b c x y : ℕ) → a ≤ b + x → b ≤ c + y → n ≡ x + y → a ≤ c + n
 made-then n a b c x y p q r = omega (arith, p, q, r)
 
@@ -146,7 +146,7 @@ module _ {R : Type 0} (read : Ghosts R) where
       reads-then read old mid new [] (slice_range new.held from to) p (reads read mid new (slice_range new.held from to) source
       (rw (held, start, first) (drop_split mid.held mid.start to low2)))
 
-  -- and a line feed behind them
+  -- the same with the line feed after them
   pub reads-line : (old mid new : Input R read) (from to : ℕ) → Reads read old [] mid → new.source ≡ mid.source → new.held ≡ mid.held → new.start ≡ to + 1 → from ≡ mid.start → from ≤ to
       → to < length mid.held → slice_index mid.held to ≡ 10
       → Reads read old (slice_range new.held from to ++ 10 ∷ []) new

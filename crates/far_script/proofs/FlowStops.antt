@@ -1,4 +1,4 @@
--- What came of a script up to a fault.
+-- The bytes of a script that came before a fault.
 use Rattle.std.proofs.Common.{◌≡◌, ◌+◌, ◌≤◌, ◌<◌, ℕ, Bool, true, false, inl, inr, List, [], ◌++◌, length, Option, Some, None, Result, Ok, Err, IfErr, IsErrAnd, IsOk, OnOk, append_assoc, append-nil, length-append, ◌∙◌, refl, sym, ap, subst, arith}
 use Rattle.std.specs.Prelude.{IfNone, IfSome, unwrap_or}
 use Rattle.std.specs.Io.KnownBytes.{Consumes, Keeps}
@@ -11,12 +11,12 @@ use Rattle.far_script.specs.Faults.{IfInput, IfHalted, IsCut}
 use Rattle.far_script.specs.Flow.{Counts, Gives, IsFrontOf, IsShort, IsAtEnd, IsUnseen, Leaves, Reads, StartsWith, Stops, unread}
 use Rattle.far_script.proofs.FlowLaws.{few-bytes, not-before, reads-then, spent-nothing, spent-stays}
 
--- a fault that is handed on
+-- a fault is passed on
 pub handed-on : {T : Type 0} (r : Result T ShellFault) (why : ShellFault) (Q : ShellFault → Type 0) → IsErrAnd r (λ given. given ≡ why) → Q why → IfErr r Q
 handed-on (Ok x) why Q h q = tt
 handed-on (Err given) why Q h q = subst Q (sym h) q
 
--- what is known of a call that came to its end
+-- a clause for `Ok` holds of a call that returned `Ok`
 pub on-printed : {T E : Type 0} (r : Result T E) (P : Type 0) → IsOk r → OnOk r P → P
 on-printed (Ok x) P is h = h
 on-printed (Err e) P is h = cc is
@@ -25,12 +25,12 @@ pub each-fault : {T : Type 0} (r : Result T ShellFault) (P Q : ShellFault → Ty
 each-fault (Ok x) P Q f h = tt
 each-fault (Err why) P Q f h = f why h
 
--- what is said if there is none
+-- a clause for `None` holds if there is no number
 pub none-of : (o : Option ℕ) (P : Type 0) → ((x : ℕ) → o ≡ Some x → ⊥) → IfNone o P → P
 none-of None P not h = h
 none-of (Some x) P not h = absurd (not x refl)
 
--- what is said of a fault of the input
+-- a condition for the fault `Input` may be weakened
 pub if-input : (why : ShellFault) (P Q : Type 0) → (P → Q) → IfInput why P → IfInput why Q
 if-input fault.BadStart P Q f h = tt
 if-input fault.Input P Q f h = f h
@@ -38,7 +38,7 @@ if-input fault.Output P Q f h = tt
 if-input fault.Memory P Q f h = tt
 if-input fault.Turns P Q f h = tt
 
--- two things said of a fault of the input
+-- two conditions for the fault `Input` may be joined
 pub if-input-both : (why : ShellFault) (P Q S : Type 0) → (P → Q → S) → IfInput why P → IfInput why Q → IfInput why S
 if-input-both fault.BadStart P Q S f p q = tt
 if-input-both fault.Input P Q S f p q = f p q
@@ -53,7 +53,7 @@ not-input fault.Output P other = tt
 not-input fault.Memory P other = tt
 not-input fault.Turns P other = tt
 
--- what is said if memory ran out or a write failed
+-- a condition for the faults `Memory` and `Output` may be weakened
 pub if-halted : (why : ShellFault) (P Q : Type 0) → (P → Q) → IfHalted why P → IfHalted why Q
 if-halted fault.BadStart P Q f h = tt
 if-halted fault.Input P Q f h = tt
@@ -61,7 +61,7 @@ if-halted fault.Output P Q f h = f h
 if-halted fault.Memory P Q f h = f h
 if-halted fault.Turns P Q f h = tt
 
--- what holds in any case holds then
+-- a fact holds under any fault
 pub in-halted : (why : ShellFault) (P : Type 0) → P → IfHalted why P
 in-halted fault.BadStart P h = tt
 in-halted fault.Input P h = tt
@@ -89,12 +89,12 @@ leaves-unchanged known left bytes_left h = ([], keeps-consumes known left h, λ 
 pub leaves-lost : (known left : Option (List ℕ)) (lost : List ℕ) (bytes_left : ℕ) → bytes_left ≡ 0 → length lost ≤ 1 → Consumes known left lost → Leaves known left [] bytes_left
 leaves-lost known left lost bytes_left none one h = (lost, h, (λ some. absurd (omega (arith, none, some))), one)
 
--- bytes came before
+-- some bytes came first
 leaves-then : (known mid left : Option (List ℕ)) (came more : List ℕ) (bytes_left : ℕ) → Consumes known mid came → Leaves mid left more bytes_left → Leaves known left (came ++ more) bytes_left
 leaves-then known mid left came more bytes_left p l =
     (l.0, subst (λ (t : List ℕ). Consumes known left t) (sym (append_assoc came more l.0)) (Consumes-trans known mid left came (more ++ l.0) p l.1), l.2, l.3)
 
--- an end that was not found need not stay found
+-- the end was not found, so there is nothing to show if it was
 pub not-found : (a b : Bool) → a ≡ false → a ≡ true → b ≡ true
 not-found a b none some = absurd (cc (none, some))
 
@@ -118,7 +118,7 @@ starts-here (Some xs) a = refl
 longer : (n came left a b : ℕ) → n ≡ came + left → b + came ≡ a → b < left → a < n
 longer n came left a b e p q = omega (arith, e, p, q)
 
--- bytes came before a reader gave no more
+-- some bytes came before the reader went past its bound
 past-then : (known left : Option (List ℕ)) (came : List ℕ) (bytes b : ℕ) → Consumes known left came → b + length came ≡ bytes → IfSome left (λ coming. b < length coming) → IfSome known (λ coming. bytes < length coming)
 past-then None left came bytes b p k h = tt
 past-then (Some xs) None came bytes b p k h = absurd p
@@ -150,11 +150,11 @@ both-lengths : (xs ys zs ws : List ℕ) → xs ++ ys ≡ zs ++ ws → length xs 
 both-lengths xs ys zs ws e = sym (length-append xs ys) ∙ ap (λ (t : List ℕ). length t) e ∙ length-append zs ws
 
 module _ {R : Type 0} (read : Ghosts R) where
-  -- what still comes of a script
+  -- the bytes of a script that still come
   abbrev pub coming : Input R read → List ℕ
   coming input = unread read input ++ unwrap_or (read.remaining input.source.reader) []
 
-  -- nothing comes behind
+  -- at the end of a script, none
   pub spent-rest : (input : Input R read) → IsAtEnd read input → coming input ≡ []
   spent-rest input spent = ap (λ (t : List ℕ). t ++ unwrap_or (read.remaining input.source.reader) []) spent.0 ∙ input.source.end spent.1
 
@@ -199,7 +199,7 @@ module _ {R : Type 0} (read : Ghosts R) where
     if-halted why (Reads read mid bytes new) (Reads read old (first ++ bytes) new) (λ r. reads-then read old mid new first bytes p r) g.2,
   )
 
-  -- the same of an input before it read some first bytes: these stand in front
+  -- the same of the input before it read some bytes, which come first then
   pub stops-then : (old mid new : Input R read) (first : List ℕ) (P Q : List ℕ → List ℕ → Type 0) → Reads read old first mid → ((bytes rest : List ℕ) → P bytes rest → Q (first ++ bytes) rest) → Stops read P mid new
       → Stops read Q old new
   stops-then old mid new first P Q p f s = (first ++ s.0, s.1, starts-then old mid first s.0 s.1 p s.2, counts-then old mid new first s.0 p s.3, f s.0 s.1 s.4)

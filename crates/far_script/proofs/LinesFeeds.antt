@@ -29,7 +29,7 @@ first-feed bytes (Some at) found =
 one-place : (n : ℕ) → 1 + n ≡ suc n
 one-place n = omega arith
 
--- no end stands before the first
+-- there is no end before the first
 none-before : (xs : List ℕ) → list_any is_line_feed (take (position_or_len is_line_feed xs) xs) ≡ false
 none-before [] = refl
 none-before (x ∷ xs) = elim (cases_Bool (is_line_feed x)) [
@@ -37,7 +37,7 @@ none-before (x ∷ xs) = elim (cases_Bool (is_line_feed x)) [
   | inr other ↦ rw other (ap (λ (n : ℕ). list_any is_line_feed (take n (x ∷ xs))) (one-place (position_or_len is_line_feed xs)) ∙ neither (is_line_feed x) (list_any is_line_feed (take (position_or_len is_line_feed xs) xs)) other (none-before xs))
 ]
 
--- of a list whose front has none
+-- the first end of a list without one in its first bytes
 module _ (bytes : List ℕ) (from : ℕ) (within : from ≤ length bytes) (front : list_any is_line_feed (take from bytes) ≡ false) where
   pub feed-later : (at : ℕ) → at < length (drop from bytes) → at ≡ position_or_len is_line_feed (drop from bytes)
       → (from + at < length bytes) × (slice_index bytes (from + at) ≡ 10) × (list_any is_line_feed (take (from + at) bytes) ≡ false)

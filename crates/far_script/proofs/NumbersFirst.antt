@@ -1,4 +1,4 @@
--- The number that stands first in a text, up to a byte or the end.
+-- The number at the start of a text, up to a byte or the end.
 use Rattle.std.proofs.Common.{◌≡◌, ◌==◌, ◌+◌, ◌-◌, ◌*◌, ◌^◌, ◌≤◌, ◌<◌, ℕ, zero, suc, true, false, List, [], ◌∷◌, ◌++◌, length, take, drop, Option, Some, option_map, slice_index, ◌∙◌, refl, sym, ap, subst, inl, inr, arith}
 use Rattle.std.specs.Prelude.{ℤ, pos, neg_ℤ, ◌-ℤ◌}
 use Rattle.std.specs.Char.{is_ascii_digit}
@@ -20,7 +20,7 @@ same-number n m e = cc e
 one-on : (n : ℕ) → suc n ≡ n + 1
 one-on n = omega arith
 
--- digits behind digits
+-- digits after digits
 digits-then : (n m : ℕ) (xs ys : List ℕ) → digits_from n xs ≡ Some m → digits_from n (xs ++ ys) ≡ digits_from m ys
 digits-then n m [] ys e = ap (λ (k : ℕ). digits_from k ys) (same-number n m e)
 digits-then n m (c ∷ cs) ys e = elim (cases_Bool (is_ascii_digit c)) [
@@ -39,7 +39,7 @@ one-digit-more text at n low digit e =
 pub digit-small : (c : ℕ) → is_ascii_digit c ≡ true → c - 48 < 10
 digit-small c digit = grind (arith, digit)
 
--- a digit is no other byte
+-- a digit is none of the other bytes
 pub not-this : (c sign : ℕ) → is_ascii_digit c ≡ true → is_ascii_digit sign ≡ false → (c == sign) ≡ false
 not-this c sign digit foreign = elim (cases_Bool (c == sign)) [
   | inl same ↦ cc (sym (subst (λ (b : ℕ). is_ascii_digit b ≡ true) (eqb-true c sign same) digit) ∙ foreign)
@@ -101,7 +101,7 @@ with-minus (c ∷ cs) rest len n z some minus behind low ends size is =
     subst (λ (t : List ℕ). (len + 1 ≡ position_or_len is_comma t) × (signed_number_of (before_first is_comma t) ≡ Some z)) (sym whole)
     (omega (arith, ends), signed-size rest n low size ∙ ap (λ (v : ℤ). Some v) (sym (is ∙ below-zero n)))
 
--- a number is no mark of no value
+-- a number is not the mark of a missing cell
 not-mark : (field : List ℕ) (z : ℤ) → signed_number_of field ≡ Some z → is_missing_mark field ≡ false
 not-mark [] z e = cc e
 not-mark (c ∷ cs) z e = elim (cases_Bool (c == 92)) [

@@ -1,4 +1,4 @@
--- A text without quotes and ends of lines reads as what stands between its commas.
+-- A text without quotes and ends of lines reads as the parts between its commas.
 use Rattle.std.proofs.Common.{◌≡◌, ◌==◌, cond, ℕ, Bool, true, false, List, [], ◌∷◌, ◌++◌, Option, None, Some, ◌∙◌, append_assoc, refl, sym, ap, inl, inr}
 use Rattle.std.proofs.lemmas.List.{append-nil}
 use Rattle.std.proofs.lemmas.Bool.{cases_Bool}
@@ -18,13 +18,13 @@ pub or-right : (a b : Bool) → (a || b) ≡ false → b ≡ false
 or-right false b e = e
 or-right true b e = cc e
 
--- what a byte is not that is no mark
+-- a byte that is not a mark is none of the three
 no-mark : (c : ℕ) → is_mark c ≡ false → ((c == 34) ≡ false) × ((c == 13) ≡ false) × ((c == 10) ≡ false)
 no-mark c e =
     let ends = or-left ((c == 34) || (c == 13)) (c == 10) e in
     (or-left (c == 34) (c == 13) ends, or-right (c == 34) (c == 13) ends, or-right ((c == 34) || (c == 13)) (c == 10) e)
 
--- the bytes of the field at hand stand before the first part
+-- the bytes of the current field, put before the first part
 abbrev pub behind : List ℕ → List (List ℕ) → List (List ℕ)
 behind field [] = field ∷ []
 behind field (part ∷ parts) = (field ++ part) ∷ parts
@@ -58,7 +58,7 @@ pub ends-field : (fields : List (List ℕ)) (field : List ℕ) (c : ℕ) (cs : L
 unfolding next_record
 ends-field fields field c cs comma = rw comma refl
 
--- what is read behind the fields so far and the field at hand, if the rest has these parts
+-- the record read with the fields so far and the current field, if the rest has these parts
 abbrev read-behind : List (List ℕ) → List ℕ → List (List ℕ) → Option Read
 read-behind fields field parts = Some (fields ++ behind field parts, st.StartRecord, [])
 

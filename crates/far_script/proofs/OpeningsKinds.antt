@@ -7,7 +7,7 @@ use Rattle.far_script.specs.OneRecord.{is_comma}
 use Rattle.far_script.specs.Openings.{kind_named, kinds_named}
 use Rattle.far_script.proofs.PartLaws.{last-part}
 
--- a name that is no kind makes all of it none
+-- if a name is not a kind, the word names no kinds
 no-kind : (before : List Kind) (name : List ℕ) (names : List (List ℕ)) → kind_named name ≡ None → option_map (λ more. before ++ more) (kinds_named (name ∷ names)) ≡ None
 no-kind before name names h = rw h refl
 

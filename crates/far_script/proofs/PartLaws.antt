@@ -21,7 +21,7 @@ pub one-part : (p : ℕ → Bool) (xs : List ℕ) → list_any p xs ≡ false �
 one-part p [] h = refl
 one-part p (c ∷ cs) h = no-separator p c cs (left (p c) (list_any p cs) h) (one-part p cs (right (p c) (list_any p cs) h))
 
--- a first separator that stands at the end of a list is none
+-- if the first separator is at the end of a list, there is none
 past-end : (n m : ℕ) → 1 + n ≡ suc m → n ≡ m
 past-end n m h = omega (arith, h)
 
@@ -37,7 +37,7 @@ pub last-part : (p : ℕ → Bool) (xs : List ℕ) → position_or_len p xs ≡ 
 last-part p [] h = refl
 last-part p (c ∷ cs) h = last-part-at p (p c) c cs refl h (last-part p cs)
 
--- the separator behind the first part
+-- the separator after the first part
 not-false : (b : Bool) → not b ≡ false → b ≡ true
 not-false true e = refl
 not-false false e = cc e

@@ -26,7 +26,7 @@ line-more c cs other = rw other (ap (λ (n : ℕ). take n (c ∷ cs)) (one-place
 behind-more : (c : ℕ) (cs : List ℕ) → (c == 10) ≡ false → lines_behind (c ∷ cs) ≡ lines_behind cs
 behind-more c cs other = rw other (ap (λ (n : ℕ). drop n (c ∷ cs)) (place-behind (position_or_len is_line_feed cs)))
 
--- what is read behind the fields so far and the field at hand, if the rest of the line has these parts
+-- the record read with the fields so far and the current field, if the rest of the line has these parts
 abbrev line-read : List (List ℕ) → List ℕ → List (List ℕ) → List ℕ → Option Read
 line-read fields field parts rest = Some (fields ++ behind field parts, st.StartRecord, rest)
 
@@ -103,7 +103,7 @@ unfolding strip_bom
 no-order-mark [] h = refl
 no-order-mark (c ∷ cs) h = keeps-order-mark c cs h
 
--- what stands behind a line has no break either
+-- the text after a line has no break either
 pub none-behind : (n : ℕ) (xs : List ℕ) → list_any is_break xs ≡ false → list_any is_break (drop n xs) ≡ false
 none-behind zero xs e = e
 none-behind (suc n) [] e = refl
@@ -113,7 +113,7 @@ none-behind (suc n) (x ∷ xs) e = none-behind n xs (or-right (is_break x) (list
 pub less-behind : (text : List ℕ) → 0 < length text → length (lines_behind text) < length text
 less-behind text some = omega (arith, some, length-drop (position_or_len is_line_feed text + 1) text)
 
--- a test of two looks for each
+-- to look for two bytes is to look for each
 either : (a b c d : Bool) → ((a || c) || (b || d)) ≡ ((a || b) || (c || d))
 either true b c d = refl
 either false true true d = refl

@@ -12,7 +12,7 @@ pub is-some : (b : Bool) → (b ≡ true → ⊥) → b ≡ false
 is-some true h = absurd (h refl)
 is-some false h = refl
 
--- what a field shows, it shows as a record
+-- a field whose text is not empty is written alone in its record as in one of several
 shown : (field : List ℕ) → (length (field_text default_writer field) == 0) ≡ false → record_text (field ∷ []) ≡ field_text default_writer field
 unfolding is_blank fields_text
 shown field h = rw h (append-nil (field_text default_writer field ++ []) ∙ append-nil (field_text default_writer field))

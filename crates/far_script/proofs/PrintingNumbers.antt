@@ -73,6 +73,6 @@ signed-field z = field-same (signed_decimal z) (plain-signed z)
 pub signed-record : (z : ℤ) → record_text (signed_decimal z ∷ []) ≡ signed_decimal z
 signed-record z = lone-same (signed_decimal z) (shown-signed z) ∙ signed-field z
 
--- a key that is a number, and the space behind it
+-- a key that is a number, and the space after it
 pub number-key : (page mid : List ℕ) (z : ℤ) → mid ≡ page ++ signed_decimal z → mid ++ 32 ∷ [] ≡ page ++ (record_text (signed_decimal z ∷ []) ++ space)
 number-key page mid z grown = ap (λ (t : List ℕ). t ++ 32 ∷ []) grown ∙ append_assoc page (signed_decimal z) (32 ∷ []) ∙ ap (λ (t : List ℕ). page ++ (t ++ 32 ∷ [])) (sym (signed-record z))

@@ -1,5 +1,5 @@
 // Reads fields as cells and rows.
-ghost use Rattle.std.specs.Prelude.{◌≡◌, ◌==◌, ◌+◌, ◌<◌, ◌≤◌, ◌++◌, ◌∷◌, [], vec_len, IfOk, IfErr, OnOk, option_map, slice_get, None, Some, length, take};
+ghost use Rattle.std.specs.Prelude.{◌≡◌, ◌==◌, ◌+◌, ◌<◌, ◌≤◌, ◌++◌, ◌∷◌, [], vec_len, IfOk, OnOk, option_map, slice_get, None, Some, length, take};
 ghost use Rattle.std.specs.String.{string_bytes};
 ghost use Rattle.std.specs.List.{slice_split, list_any, position_or_len, before_first};
 ghost use Rattle.csv.specs.Records.{fields_of};
@@ -10,8 +10,8 @@ use super::cut::{behind, cut};
 use super::number::{first_signed, signed_number};
 use super::record::{is_plain, read_record};
 use csv::StringRecord;
-use far_types::{Cell, Kind, Refusal, Row, Text};
-use std::alloc::Global;
+use far_types::{Cell, Kind, Row, Text};
+use std::alloc::{AllocError, Global};
 use std::mem;
 
 /// Returns whether a field is `\N`, the mark of a missing cell.
@@ -22,10 +22,9 @@ fn is_missing_mark(field: &str) -> bool
 }
 
 /// Reads a field as a cell: `\N` as `Missing` in every column, a number in a column of numbers as that number, anything
-/// else as a text. Refused only with `NoMemory` (1).
-pub fn cell(alloc: Global, column: Option<Kind>, field: &str) -> Result<Cell, Refusal>
+/// else as a text. Fails only if memory runs out.
+pub fn cell(alloc: Global, column: Option<Kind>, field: &str) -> Result<Cell, AllocError>
     ensures cell { IfOk result (λ cell. cell ≡ cell_of column field.now) }
-    ensures memory { IfErr result (λ e. e ≡ Refusal.NoMemory) }
 {
     cell_in(alloc, Cell::Missing, column, field)
 }
@@ -47,14 +46,13 @@ fn first_field(text: &str) -> &str
     }
 }
 
-/// Copies a field into a string, which reuses the memory of `spare` if that is a text. Refused only with `NoMemory` (1).
+/// Copies a field into a string, which reuses the memory of `spare` if that is a text.
 #[inline(always)]
-fn string_in(alloc: Global, spare: Cell, field: &str) -> Result<String, Refusal>
+fn string_in(alloc: Global, spare: Cell, field: &str) -> Result<String, AllocError>
     ensures string { IfOk result (λ string. string_bytes string ≡ field.now) }
-    ensures memory { IfErr result (λ e. e ≡ Refusal.NoMemory) }
 {
     let Cell::Text(text) = spare else {
-        return Ok(String::from_str(alloc, field)?);
+        return String::from_str(alloc, field);
     };
     let mut string = text.into_string();
     string.clear();
@@ -65,9 +63,13 @@ fn string_in(alloc: Global, spare: Cell, field: &str) -> Result<String, Refusal>
 /// Reads a field as `cell` does, reusing the memory of `spare`. Inlined, since a cell that is passed to another call goes
 /// through memory.
 #[inline(always)]
-fn cell_in(alloc: Global, spare: Cell, column: Option<Kind>, field: &str) -> Result<Cell, Refusal>
+fn cell_in(
+    alloc: Global,
+    spare: Cell,
+    column: Option<Kind>,
+    field: &str,
+) -> Result<Cell, AllocError>
     ensures cell { IfOk result (λ cell. cell ≡ cell_of column field.now) }
-    ensures memory { IfErr result (λ e. e ≡ Refusal.NoMemory) }
 {
     if is_missing_mark(field) {
         return Ok(Cell::Missing);
@@ -89,14 +91,13 @@ fn write_cell(
     at: usize,
     column: Option<Kind>,
     text: &str,
-) -> Result<usize, Refusal>
+) -> Result<usize, AllocError>
     requires { at ≤ vec_len cells.old }
     ensures len { IfOk result (λ len. len ≡ position_or_len is_comma text.now) }
     ensures cell { OnOk result
         (take (at + 1) cells.new.items
         ≡ take at cells.old.items ++ cell_of column (before_first is_comma text.now) ∷ []) }
     ensures there { OnOk result (at < vec_len cells.new) }
-    ensures memory { IfErr result (λ e. e ≡ Refusal.NoMemory) }
 {
     if at == cells.len() {
         cells.push(Cell::Missing)?;
@@ -114,17 +115,16 @@ fn write_cell(
 }
 
 /// Returns the cells of the fields between the commas of a text, reusing the memory of cells that are no longer needed.
-/// Refused only with `NoMemory` (1).
+/// Fails only if memory runs out.
 #[inline(always)]
 pub fn cells_in(
     alloc: Global,
     spare: Vec<Cell>,
     kinds: &[Kind],
     text: &str,
-) -> Result<Vec<Cell>, Refusal>
+) -> Result<Vec<Cell>, AllocError>
     ensures cells { IfOk result
         (λ cells. cells.items ≡ cells_from kinds.now 0 (slice_split is_comma text.now)) }
-    ensures memory { IfErr result (λ e. e ≡ Refusal.NoMemory) }
 {
     let mut cells = spare;
     let mut rest = text;
@@ -141,15 +141,14 @@ pub fn cells_in(
     Ok(cells)
 }
 
-/// Returns the cells of a record's fields.
+/// Returns the cells of a record's fields. Fails only if memory runs out.
 pub fn record_cells(
     alloc: Global,
     kinds: &[Kind],
     fields: &StringRecord,
-) -> Result<Vec<Cell>, Refusal>
+) -> Result<Vec<Cell>, AllocError>
     ensures cells { IfOk result
         (λ cells. cells.items ≡ cells_from kinds.now 0 (fields_of fields.now)) }
-    ensures memory { IfErr result (λ e. e ≡ Refusal.NoMemory) }
 {
     let mut cells = Vec::with_capacity(alloc, kinds.len())?;
     for i in 0..fields.len() {
@@ -161,15 +160,14 @@ pub fn record_cells(
 }
 
 /// Reads a text as a row, reusing the memory of cells that are no longer needed; `None` if the text is not exactly one
-/// record. Refused only with `NoMemory` (1).
+/// record. Fails only if memory runs out.
 pub fn row(
     alloc: Global,
     spare: Vec<Cell>,
     kinds: &[Kind],
     text: &str,
-) -> Result<Option<Row>, Refusal>
+) -> Result<Option<Row>, AllocError>
     ensures row { IfOk result (λ row. row ≡ row_of kinds.now text.now) }
-    ensures memory { IfErr result (λ e. e ≡ Refusal.NoMemory) }
 {
     if text.is_empty() {
         return Ok(None);
@@ -194,10 +192,9 @@ fn lone_record_cell(
     alloc: Global,
     column: Option<Kind>,
     fields: &StringRecord,
-) -> Result<Option<Cell>, Refusal>
+) -> Result<Option<Cell>, AllocError>
     ensures cell { IfOk result
         (λ cell. cell ≡ option_map (cell_of column) (only_field (Some (fields_of fields.now)))) }
-    ensures memory { IfErr result (λ e. e ≡ Refusal.NoMemory) }
 {
     if fields.len() != 1 {
         return Ok(None);
@@ -208,11 +205,14 @@ fn lone_record_cell(
     }
 }
 
-/// Reads a text as a cell; `None` if the text is not exactly one record of one field. A number is such a record. Refused
-/// only with `NoMemory` (1).
-pub fn lone_cell(alloc: Global, column: Option<Kind>, text: &str) -> Result<Option<Cell>, Refusal>
+/// Reads a text as a cell; `None` if the text is not exactly one record of one field. A number is such a record. Fails
+/// only if memory runs out.
+pub fn lone_cell(
+    alloc: Global,
+    column: Option<Kind>,
+    text: &str,
+) -> Result<Option<Cell>, AllocError>
     ensures cell { IfOk result (λ cell. cell ≡ lone_cell_of column text.now) }
-    ensures memory { IfErr result (λ e. e ≡ Refusal.NoMemory) }
 {
     if let Some(Kind::Int) = column {
         if let Some(number) = signed_number(text) {

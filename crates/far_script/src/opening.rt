@@ -1,12 +1,12 @@
 // Reads the first line of a script.
-ghost use Rattle.std.specs.Prelude.{◌≡◌, ◌≤◌, ◌++◌, IfOk, IfErr, IfSome, option_map, option_and_then, Some, None};
+ghost use Rattle.std.specs.Prelude.{◌≡◌, ◌≤◌, ◌++◌, IfOk, IfSome, option_map, option_and_then, Some, None};
 ghost use Rattle.std.specs.List.{slice_split};
 ghost use Rattle.far_script.specs.OneRecord.{is_comma};
 ghost use Rattle.far_script.specs.Openings.{kind_named, kinds_named, kinds_of, given_limits, limits_of, opening_in, between, threads_in, start_in, start_of, IsAllowedStart};
 
 use super::words::Words;
-use far_types::{Kind, Limits, Refusal};
-use std::alloc::Global;
+use far_types::{Kind, Limits};
+use std::alloc::{AllocError, Global};
 
 /// The table of a line `schema GROUP KINDS`, with or without `PLACES EDITS INT_SEGMENTS INT_SIZE TEXT_SEGMENTS TEXT_SIZE`
 /// at its end.
@@ -52,10 +52,9 @@ pub fn read_kind(word: &str) -> Option<Kind>
 }
 
 /// Reads words `int` and `text` separated by commas.
-fn read_kinds(alloc: Global, word: &str) -> Result<Option<Vec<Kind>>, Refusal>
+fn read_kinds(alloc: Global, word: &str) -> Result<Option<Vec<Kind>>, AllocError>
     ensures kinds { IfOk result
         (λ found. option_map (λ kinds. kinds.items) found ≡ kinds_of word.now) }
-    ensures memory { IfErr result (λ e. e ≡ Refusal.NoMemory) }
 {
     let mut kinds = Vec::new(alloc);
     let mut rest = word;
@@ -106,10 +105,9 @@ fn read_limits(group: u32, words: Words) -> Option<Limits>
 }
 
 /// Reads `GROUP KINDS`, and the limits if they are given.
-fn read_opening(alloc: Global, mut words: Words) -> Result<Option<Opening>, Refusal>
+fn read_opening(alloc: Global, mut words: Words) -> Result<Option<Opening>, AllocError>
     ensures opening { IfOk result
         (λ found. option_map (λ o. (o.kinds.items, o.limits)) found ≡ opening_in words.entry) }
-    ensures memory { IfErr result (λ e. e ≡ Refusal.NoMemory) }
 {
     let Some(group) = words.number() else {
         return Ok(None);
@@ -149,13 +147,11 @@ fn read_threads(mut words: Words) -> Option<FirstLine>
     Some(FirstLine::Threads { sessions, edits })
 }
 
-/// Reads the first line of a script; `None` if the line is neither `schema` nor `threads`. Refused only with `NoMemory`
-/// (1).
-pub fn first_line(alloc: Global, line: &str) -> Result<Option<FirstLine>, Refusal>
+/// Reads the first line of a script; `None` if the line is neither `schema` nor `threads`. Fails only if memory runs out.
+pub fn first_line(alloc: Global, line: &str) -> Result<Option<FirstLine>, AllocError>
     ensures start { IfOk result (λ found. option_map start_of found ≡ start_in line.now) }
     ensures within { IfOk result
         (λ found. IfSome found (λ first. IsAllowedStart (start_of first))) }
-    ensures memory { IfErr result (λ e. e ≡ Refusal.NoMemory) }
 {
     let mut words = Words::new(line);
     match words.word() {

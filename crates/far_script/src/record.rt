@@ -1,19 +1,17 @@
 // Reads a text as one record of comma-separated values.
-ghost use Rattle.std.specs.Prelude.{◌≡◌, ◌==◌, Bool, true, false, IfOk, IfErr, option_map, slice_index, not, ◌&&◌};
+ghost use Rattle.std.specs.Prelude.{◌≡◌, ◌==◌, Bool, true, false, IfOk, option_map, slice_index, not, ◌&&◌};
 ghost use Rattle.std.specs.List.{list_any};
 ghost use Rattle.csv.specs.Records.{fields_of};
 ghost use Rattle.far_script.specs.OneRecord.{one_record, is_mark, is_plain};
 
 use csv::{ReaderBuilder, StringRecord};
-use far_types::Refusal;
-use std::alloc::Global;
+use std::alloc::{AllocError, Global};
 
 /// Reads a text with the csv reader and returns its fields if it is exactly one record. The first line is no header, and
-/// spaces are kept. Refused only with `NoMemory` (1): reading from memory fails in no other way.
+/// spaces are kept. Fails only if memory runs out: reading from memory fails in no other way.
 #[inline(never)]
-pub fn read_record(alloc: Global, text: &str) -> Result<Option<StringRecord>, Refusal>
+pub fn read_record(alloc: Global, text: &str) -> Result<Option<StringRecord>, AllocError>
     ensures record { IfOk result (λ found. option_map fields_of found ≡ one_record text.now) }
-    ensures memory { IfErr result (λ e. e ≡ Refusal.NoMemory) }
 {
     let mut reader = ReaderBuilder::new()
         .has_headers(false)
@@ -23,13 +21,13 @@ pub fn read_record(alloc: Global, text: &str) -> Result<Option<StringRecord>, Re
     match reader.read_record(&mut record) {
         Ok(true) => {}
         Ok(false) => return Ok(None),
-        Err(_) => return Err(Refusal::NoMemory),
+        Err(_) => return Err(AllocError),
     }
     let mut next = StringRecord::new(alloc);
     match reader.read_record(&mut next) {
         Ok(true) => Ok(None),
         Ok(false) => Ok(Some(record)),
-        Err(_) => Err(Refusal::NoMemory),
+        Err(_) => Err(AllocError),
     }
 }
 

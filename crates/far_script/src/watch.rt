@@ -1,13 +1,13 @@
 // Reads aggregates.
-ghost use Rattle.std.specs.Prelude.{◌≡◌, ◌<◌, IfOk, IfErr, IfSome, IfNone, OnSome, option_map, option_and_then, slice_get, Some, None, false, is_none, length, ◌∷◌};
+ghost use Rattle.std.specs.Prelude.{◌≡◌, ◌<◌, IfOk, IfSome, IfNone, OnSome, option_map, option_and_then, slice_get, Some, None, false, is_none, length, ◌∷◌};
 ghost use Rattle.far_script.specs.Words.{words_in};
 ghost use Rattle.far_script.specs.Watches.{fold_of, operator_of, test_with, test_of, tests_of, with_tests, with_key, spec_of, compared, text_test, number_test};
 
 use super::field::kind_of;
 use super::number::{number, signed_number};
 use super::words::Words;
-use far_types::{Filter, Fold, Kind, Op, Refusal, Spec, Test, Text};
-use std::alloc::Global;
+use far_types::{Filter, Fold, Kind, Op, Spec, Test, Text};
+use std::alloc::{AllocError, Global};
 
 /// The operator of a test.
 #[derive(Clone, Copy, Debug, PartialEq, Eq)]
@@ -52,9 +52,8 @@ fn read_operator(word: &str) -> Option<Operator>
     }
 }
 
-fn text(alloc: Global, constant: &str) -> Result<Text, Refusal>
+fn text(alloc: Global, constant: &str) -> Result<Text, AllocError>
     ensures text { IfOk result (λ text. text ≡ constant.now) }
-    ensures memory { IfErr result (λ e. e ≡ Refusal.NoMemory) }
 {
     Ok(Text::new(String::from_str(alloc, constant)?))
 }
@@ -67,9 +66,8 @@ fn compare(
     column: u32,
     op: Op,
     constant: &str,
-) -> Result<Option<Test>, Refusal>
+) -> Result<Option<Test>, AllocError>
     ensures test { IfOk result (λ test. test ≡ compared kind column op constant.now) }
-    ensures memory { IfErr result (λ e. e ≡ Refusal.NoMemory) }
 {
     let value = signed_number(constant);
     let is_text = match kind {
@@ -99,9 +97,8 @@ fn test(
     column: u32,
     operator: Operator,
     constant: &str,
-) -> Result<Option<Test>, Refusal>
+) -> Result<Option<Test>, AllocError>
     ensures test { IfOk result (λ test. test ≡ test_with kind column operator constant.now) }
-    ensures memory { IfErr result (λ e. e ≡ Refusal.NoMemory) }
 {
     if constant.is_empty() {
         return Ok(None);
@@ -122,10 +119,9 @@ fn read_test(
     column: &str,
     operator: &str,
     constant: &str,
-) -> Result<Option<Test>, Refusal>
+) -> Result<Option<Test>, AllocError>
     ensures test { IfOk result
         (λ test. test ≡ test_of kinds.now column.now operator.now constant.now) }
-    ensures memory { IfErr result (λ e. e ≡ Refusal.NoMemory) }
 {
     let Some(column) = number(column) else {
         return Ok(None);
@@ -143,7 +139,7 @@ fn read_test(
 }
 
 /// Reads one `if COLUMN OPERATOR CONSTANT` from the words.
-fn take_test(alloc: Global, kinds: &[Kind], words: &mut Words) -> Result<Option<Test>, Refusal>
+fn take_test(alloc: Global, kinds: &[Kind], words: &mut Words) -> Result<Option<Test>, AllocError>
     requires { is_none words.old ≡ false }
     ensures test { IfOk result
         (λ found. IfSome found
@@ -153,7 +149,6 @@ fn take_test(alloc: Global, kinds: &[Kind], words: &mut Words) -> Result<Option<
         (λ found. OnSome found (length (words_in words.new) < length (words_in words.old))) }
     ensures none { IfOk result
         (λ found. IfNone found (tests_of kinds.now (words_in words.old) ≡ None)) }
-    ensures memory { IfErr result (λ e. e ≡ Refusal.NoMemory) }
 {
     let Some(clause) = words.word() else {
         return Ok(None);
@@ -174,11 +169,14 @@ fn take_test(alloc: Global, kinds: &[Kind], words: &mut Words) -> Result<Option<
 }
 
 /// Reads `[if COLUMN OPERATOR CONSTANT]..`.
-fn read_tests(alloc: Global, kinds: &[Kind], mut words: Words) -> Result<Option<Vec<Test>>, Refusal>
+fn read_tests(
+    alloc: Global,
+    kinds: &[Kind],
+    mut words: Words,
+) -> Result<Option<Vec<Test>>, AllocError>
     ensures tests { IfOk result
         (λ found. option_map (λ tests. tests.items) found
         ≡ tests_of kinds.now (words_in words.entry)) }
-    ensures memory { IfErr result (λ e. e ≡ Refusal.NoMemory) }
 {
     let mut tests = Vec::new(alloc);
     while !words.is_empty() {
@@ -198,9 +196,8 @@ fn spec_with_tests(
     value: u32,
     key: Option<u32>,
     words: Words,
-) -> Result<Option<Spec>, Refusal>
+) -> Result<Option<Spec>, AllocError>
     ensures spec { IfOk result (λ spec. spec ≡ with_tests kinds.now fold value key words.entry) }
-    ensures memory { IfErr result (λ e. e ≡ Refusal.NoMemory) }
 {
     match read_tests(alloc, kinds, words)? {
         Some(tests) => Ok(Some(Spec {
@@ -213,11 +210,10 @@ fn spec_with_tests(
     }
 }
 
-/// Reads `FOLD COLUMN [by COLUMN] [if COLUMN OPERATOR CONSTANT]..`; `None` if the words spell no aggregate. Refused only
-/// with `NoMemory` (1).
-pub fn spec(alloc: Global, kinds: &[Kind], mut words: Words) -> Result<Option<Spec>, Refusal>
+/// Reads `FOLD COLUMN [by COLUMN] [if COLUMN OPERATOR CONSTANT]..`; `None` if the words spell no aggregate. Fails only if
+/// memory runs out.
+pub fn spec(alloc: Global, kinds: &[Kind], mut words: Words) -> Result<Option<Spec>, AllocError>
     ensures spec { IfOk result (λ spec. spec ≡ spec_of kinds.now words.entry) }
-    ensures memory { IfErr result (λ e. e ≡ Refusal.NoMemory) }
 {
     let Some(fold) = words.word() else {
         return Ok(None);

@@ -1,7 +1,7 @@
 // Makes four histories and their sessions.
 ghost use Rattle.std.specs.Prelude.{◌≡◌, ◌+◌, ◌*◌, [], length, IfOk, OnOk};
 ghost use Rattle.far_sessions.specs.Sessions.{newcomer};
-ghost use Rattle.far_sessions.specs.Known.{newcomers};
+ghost use Rattle.far_sessions.specs.Known.{newcomer_at_all, newcomers};
 
 use crate::cells::{Cells, Spacers};
 use crate::keeper::{Keeper, Keepers};
@@ -126,6 +126,58 @@ impl<B: CellsTag, const I: usize> Giver<B, I> {
     }
 }
 
+/// Creates the sessions of the four stripes. Contracts see how many it has created.
+#[derive(Drop)]
+struct Givers<B: CellsTag> {
+    zero: Giver<B, 0>,
+    one: Giver<B, 1>,
+    two: Giver<B, 2>,
+    three: Giver<B, 3>,
+}
+
+impl<B: CellsTag> Model for Givers<B> {
+    ghost use Rattle.std.specs.Prelude.{◌≡◌, ℕ};
+
+    ghost Value = { ℕ };
+
+    ghost view = { λ s. s.zero };
+
+    ghost invariant = { λ s. (s.one ≡ s.zero) × (s.two ≡ s.zero) × (s.three ≡ s.zero) };
+}
+
+impl<B: CellsTag> Givers<B> {
+    // Creates the next session, which has this number.
+    fn give<N: PlanTag>(&mut self, cells: &Cells<N, B>, number: u64) -> Session<B>
+        requires { number ≡ self.old }
+        ensures count { self.new ≡ self.old + 1 }
+        ensures session { result ≡ newcomer_at_all self.old }
+    {
+        Session {
+            number,
+            zero: self.zero.give(cells.zero()),
+            one: self.one.give(cells.one()),
+            two: self.two.give(cells.two()),
+            three: self.three.give(cells.three()),
+        }
+    }
+
+    // Becomes the owners of the histories, once all sessions were created.
+    fn into_keepers<N: PlanTag>(self) -> Keepers<N, B>
+        requires { self ≡ N.plan.sessions }
+        ensures { (result.zero ≡ [])
+            × (result.one ≡ [])
+            × (result.two ≡ [])
+            × (result.three ≡ []) }
+    {
+        Keepers {
+            zero: self.zero.into_keeper(),
+            one: self.one.into_keeper(),
+            two: self.two.into_keeper(),
+            three: self.three.into_keeper(),
+        }
+    }
+}
+
 /// Four new cells with empty histories. Contracts see each stripe's cell.
 #[derive(Drop)]
 pub struct NewCells<N: PlanTag> {
@@ -162,6 +214,34 @@ impl<N: PlanTag> NewCells<N> {
         })
     }
 
+    /// Returns the cells as those of the four stripes, and the givers of their sessions.
+    fn named<B: CellsTag>(self) -> (Cells<N, B>, Givers<B>)
+        requires names { (self.zero ≡ B.cells 0)
+            × (self.one ≡ B.cells 1)
+            × (self.two ≡ B.cells 2)
+            × (self.three ≡ B.cells 3) }
+        ensures { result.1 ≡ 0 }
+    {
+        let (zero, zero_giver) = self.zero.named::<B, 0>();
+        let (one, one_giver) = self.one.named::<B, 1>();
+        let (two, two_giver) = self.two.named::<B, 2>();
+        let (three, three_giver) = self.three.named::<B, 3>();
+        let cells = Cells {
+            zero: CachePadded::new(zero),
+            one: CachePadded::new(one),
+            two: CachePadded::new(two),
+            three: CachePadded::new(three),
+            spacers: self.spacers,
+        };
+        let givers = Givers {
+            zero: zero_giver,
+            one: one_giver,
+            two: two_giver,
+            three: three_giver,
+        };
+        (cells, givers)
+    }
+
     /// Returns the keepers of the four empty histories, the cells, and `count` sessions. Fails only if out of memory.
     pub fn open<B: CellsTag>(self, alloc: Global, count: u64) -> Result<Opened<N, B>, AllocError>
         requires names { (self.zero ≡ B.cells 0)
@@ -175,42 +255,14 @@ impl<N: PlanTag> NewCells<N> {
             × (o.keepers.two ≡ [])
             × (o.keepers.three ≡ [])) }
     {
-        let NewCells {
-            zero,
-            one,
-            two,
-            three,
-            spacers,
-        } = self;
-        let (zero, mut zero_giver) = zero.named::<B, 0>();
-        let (one, mut one_giver) = one.named::<B, 1>();
-        let (two, mut two_giver) = two.named::<B, 2>();
-        let (three, mut three_giver) = three.named::<B, 3>();
+        let (cells, mut givers) = self.named::<B>();
         let mut sessions = Vec::new(alloc);
         for number in 0..count {
-            let session = Session {
-                number,
-                zero: zero_giver.give(&zero),
-                one: one_giver.give(&one),
-                two: two_giver.give(&two),
-                three: three_giver.give(&three),
-            };
-            sessions.push(session)?;
+            sessions.push(givers.give(&cells, number))?;
         }
         Ok(Opened {
-            keepers: Keepers {
-                zero: zero_giver.into_keeper(),
-                one: one_giver.into_keeper(),
-                two: two_giver.into_keeper(),
-                three: three_giver.into_keeper(),
-            },
-            cells: Cells {
-                zero: CachePadded::new(zero),
-                one: CachePadded::new(one),
-                two: CachePadded::new(two),
-                three: CachePadded::new(three),
-                spacers,
-            },
+            keepers: givers.into_keepers(),
+            cells,
             sessions,
         })
     }

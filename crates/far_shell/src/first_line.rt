@@ -30,7 +30,7 @@ fn read_first<W: Sink>(
             output.add_text("syntax command 1\n")?;
             Err(ShellFault::BadStart)
         }
-        Err(refusal) => Err(ShellFault::of_memory(refusal)),
+        Err(_) => Err(ShellFault::Memory),
     }
 }
 

@@ -4,10 +4,10 @@ use Rattle.far_script.specs.Fields.{cell_of}
 use Rattle.far_script.proofs.FieldsLaws.{only-field, has-field_at}
 use Rattle.far_script.proofs.field.lone_record_cell.Goals as goal
 
-pub returns-in_ok-cell-in-Some-clause-cell : goal.returns-in_ok-cell-in-Some-clause-cell
-returns-in_ok-cell-in-Some-clause-cell c =
+pub returns-in_ok-cell-in-Some : goal.returns-in_ok-cell-in-Some
+returns-in_ok-cell-in-Some c =
     let one = only-field (fields_of c.args.fields.now) c.in-Some.field.now (sym c.len.ensures ∙ c.if-len-ne1.false) (sym c.in-Some.ensures.value) in
-    ap (λ cell. Some cell) c.in_ok-cell-in-Some.ensures.cell ∙ sym (ap (option_map (cell_of c.args.column)) one)
+    record { cell = ap (λ cell. Some cell) c.in_ok-cell-in-Some.ensures.cell ∙ sym (ap (option_map (cell_of c.args.column)) one) }
 
-pub returns-in-None-clause-cell : goal.returns-in-None-clause-cell
-returns-in-None-clause-cell c = absurd (has-field_at (fields_of c.args.fields.now) 0 (grind (arith, c.len.ensures, c.if-len-ne1.false)) (sym c.in-None.ensures.value))
+pub returns-in-None : goal.returns-in-None
+returns-in-None c = absurd (has-field_at (fields_of c.args.fields.now) 0 (grind (arith, c.len.ensures, c.if-len-ne1.false)) (sym c.in-None.ensures.value))
