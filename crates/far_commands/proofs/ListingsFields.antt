@@ -1,4 +1,4 @@
--- A row, field by field.
+-- A row, printed field by field.
 use Rattle.std.proofs.Common.{◌≡◌, ◌==◌, ◌+◌, ◌≤◌, ℕ, zero, suc, Bool, List, [], ◌∷◌, ◌++◌, length, None, Some, map, drop, append_assoc, append-nil, ◌∙◌, refl, sym, ap, arith}
 use Rattle.std.specs.Prelude.{slice_get, option_map, is_none, if◌then◌else◌}
 use Rattle.std.proofs.lemmas.Bool.{eqb-true}
@@ -10,7 +10,7 @@ use Rattle.far_commands.specs.Listings.{cell_text, cells_at, field_in_record, ro
 use Rattle.far_script.specs.Printing.{record_text}
 use Rattle.far_script.proofs.PrintingLaws.{is-some}
 
--- the cells of a place that is there
+-- the cells of a place that exists
 pub cells-there : (places : List Place) (p : ℕ) (cells : List Cell) → option_map (λ place. place.cells) (slice_get places p) ≡ Some cells → cells_at p places ≡ cells
 cells-there places p cells = elim (slice_get places p) as (λ found. option_map (λ place. place.cells) found ≡ Some cells → option_map_or (λ place. place.cells) found [] ≡ cells) [
   | None ↦ λ h. cc h
@@ -40,7 +40,7 @@ drop-past [] (suc i) h = refl
 drop-past (item ∷ items) zero h = absurd (omega (arith, h))
 drop-past (item ∷ items) (suc i) h = drop-past items i (omega (arith, h))
 
--- a field more
+-- printing one more field
 pub field-more : (cells : List Cell) (i : ℕ) (cell : Cell) (page after whole : List ℕ) → slice_get cells i ≡ Some cell
     → after ≡ (page ++ 44 ∷ []) ++ field_text default_writer (cell_text cell)
     → page ++ fields_text default_writer (map cell_text (drop i cells)) ≡ whole
@@ -53,7 +53,7 @@ field-more cells i cell page after whole h grown e =
     ∙ append_assoc page (44 ∷ []) (field_text default_writer (cell_text cell) ++ rest)
     ∙ ap (λ (left : List Cell). page ++ fields_text default_writer (map cell_text left)) (sym split) ∙ e)
 
--- no field is left
+-- after the last field the row is complete
 fields-none : (cells : List Cell) (i : ℕ) (page whole : List ℕ) → drop i cells ≡ []
     → page ++ fields_text default_writer (map cell_text (drop i cells)) ≡ whole → page ≡ whole
 unfolding fields_text
@@ -86,7 +86,7 @@ row-some page (cell ∷ next ∷ cells) first lone h k =
     let more = fields_text default_writer (map cell_text (next ∷ cells)) in
     rw (k, sym (same cell first h)) (ap (λ (t : List ℕ). t ++ 10 ∷ []) (append_assoc page field more) ∙ append_assoc page (field ++ more) (10 ∷ []))
 
--- a row of one cell has no other
+-- a row has only one cell exactly if it has no second cell
 pub lone-by-length : (cells : List Cell) (first : Cell) (len : ℕ) → slice_get cells 0 ≡ Some first → len ≡ length cells → (len == 1) ≡ is_none (slice_get cells 1)
 lone-by-length [] first len h k = cc h
 lone-by-length (cell ∷ []) first len h k = rw k refl

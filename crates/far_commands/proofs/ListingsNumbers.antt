@@ -1,4 +1,4 @@
--- A number, and the mark of no value, are written as they are: they have no byte that the csv writer sets apart.
+-- The csv writer prints a number, and the mark of a missing value, without quotes: they have no byte that needs them.
 use Rattle.std.proofs.Common.{◌≡◌, Bool, true, false, refl}
 use Rattle.std.specs.Prelude.{ℤ}
 use Rattle.std.specs.Fmt.{signed_decimal}

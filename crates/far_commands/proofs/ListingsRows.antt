@@ -1,4 +1,4 @@
--- The live rows, place by place.
+-- The live rows, printed place by place.
 use Rattle.std.proofs.Common.{drop, Option, None, Some, subst, ◌≡◌, ◌+◌, ◌≤◌, ℕ, zero, suc, Bool, true, false, List, [], ◌∷◌, ◌++◌, length, take, append_assoc, append-nil, length-append, if◌then◌else◌, ◌∙◌, refl, sym, ap, arith, inl, inr}
 use Rattle.std.specs.Prelude.{◌≢◌}
 use Rattle.std.specs.Option.{option_map_or}
@@ -53,7 +53,7 @@ texts-more text (r ∷ rs) row = ap (λ (t : List ℕ). text r ++ t) (texts-more
 pub counted-more : (places : List Place) (i n : ℕ) → is_live i places ≡ true → n ≡ length (rows_of (take i places)) → n + 1 ≡ length (rows_of (take (i + 1) places))
 counted-more places i n h e = rw (row-more places i h) (let l = length-append (rows_of (take i places)) (cells_at i places ∷ []) in omega (arith, l, e))
 
--- what is gathered of a listing: what was printed of it, and the reply at hand behind that
+-- a listing that is printed up to place i: what is printed, and what is still in the reply's buffer
 module _ (u : Option (List ℕ)) (held front : List ℕ) (places : List Place) where
   abbrev pub IsGathered : ℕ → Option (List ℕ) → List ℕ → List ℕ → Type 0
   IsGathered i v left reply = (text : List ℕ) × Prints u held text v left × (text ++ reply ≡ front ++ texts_of row_line (rows_of (take i places)))
@@ -70,14 +70,14 @@ texts-join : (text : List Cell → List ℕ) (a b : List (List Cell)) → texts_
 texts-join text [] b = refl
 texts-join text (row ∷ rows) b = ap (λ (t : List ℕ). text row ++ t) (texts-join text rows b) ∙ sym (append_assoc (text row) (texts_of text rows) (texts_of text b))
 
--- what was printed of a dump, and the rest
+-- a dump is the rows of the first i places, followed by the rows of the others
 dump-rest : (front : List ℕ) (places : List Place) (i : ℕ)
     → (front ++ texts_of row_line (rows_of (take i places))) ++ texts_of row_line (rows_of (drop i places)) ≡ front ++ texts_of row_line (rows_of places)
 dump-rest front places i =
     append_assoc front (texts_of row_line (rows_of (take i places))) (texts_of row_line (rows_of (drop i places)))
     ∙ ap (λ (t : List ℕ). front ++ t) (sym (texts-join row_line (rows_of (take i places)) (rows_of (drop i places))) ∙ ap (texts_of row_line) (rows-split i places))
 
--- a front of a text, behind another
+-- a prefix of a text, after another text, is a prefix of both
 front-behind : (whole all before text later : List ℕ) → before ++ (whole ++ later) ≡ all → IsFront (λ said. said ≡ whole) text → IsFront (λ said. said ≡ all) (before ++ text)
 front-behind whole all before text later e (inl none) = inr (whole ++ later, ap (λ (t : List ℕ). (before ++ t) ++ (whole ++ later)) none ∙ ap (λ (t : List ℕ). t ++ (whole ++ later)) (append-nil before) ∙ e)
 front-behind whole all before text later e (inr h) =
@@ -94,7 +94,7 @@ module _ (u : Option (List ℕ)) (held front : List ℕ) (places : List Place) w
   abbrev all : List ℕ
   all = front ++ texts_of row_line (rows_of places)
 
-  -- no row more
+  -- a dead place adds no row
   pub gather-skip : (v : Option (List ℕ)) (k reply : List ℕ) (i : ℕ) → is_live i places ≡ false → IsGathered u held front places i v k reply → IsGathered u held front places (i + 1) v k reply
   gather-skip v k reply i dead g = subst (λ (rows : List (List Cell)). (text : List ℕ) × Prints u held text v k × (text ++ reply ≡ front ++ texts_of row_line rows)) (sym (row-none places i dead)) g
 
@@ -105,11 +105,11 @@ module _ (u : Option (List ℕ)) (held front : List ℕ) (places : List Place) w
         let later = texts_of row_line (rows_of (drop i places)) in
         (g.0, g.1, inr (reply ++ later, sym (append_assoc g.0 reply later) ∙ ap (λ (t : List ℕ). t ++ later) g.2 ∙ dump-rest front places i))
 
-    -- all rows are gathered, and the reply at hand is added
+    -- after the last place the rest of the reply is printed
     pub gather-end : (left : List ℕ) → length places ≤ i → left ≡ k ++ reply → Prints u held all v left
     gather-end left past grown = subst (λ (t : List ℕ). Prints u held t v left) (g.2 ∙ ap (λ (ps : List Place). front ++ texts_of row_line (rows_of ps)) (take_all i places past)) (prints-then u v v held g.0 k reply left g.1 (prints v k reply left grown))
 
-    -- a row more
+    -- adding the next row
     module _ (whole row : List ℕ) (live : is_live i places ≡ true) (grown : whole ≡ reply ++ row) (is : row ≡ row_line (cells_at i places)) where
       gathered : g.0 ++ whole ≡ front ++ texts_of row_line (rows_of (take (i + 1) places))
       gathered =
@@ -117,7 +117,7 @@ module _ (u : Option (List ℕ)) (held front : List ℕ) (places : List Place) w
           ap (λ (t : List ℕ). g.0 ++ t) grown ∙ sym (append_assoc g.0 reply row) ∙ (λ j. g.2 j ++ is j) ∙ append_assoc front before (row_line (cells_at i places))
           ∙ ap (λ (t : List ℕ). front ++ t) (sym (ap (texts_of row_line) (row-more places i live) ∙ texts-more row_line (rows_of (take i places)) (cells_at i places)))
 
-      -- of which a part may be printed at once
+      -- a part of the reply may be printed at once, or a fault ends it
       pub gather-row : (w : Option (List ℕ)) (left rest : List ℕ) → (text : List ℕ) × Prints v k text w left × (whole ≡ text ++ rest) → IsGathered u held front places (i + 1) w left rest
       gather-row w left rest p = (g.0 ++ p.0, prints-then u v w held g.0 k p.0 left g.1 p.1, append_assoc g.0 p.0 rest ∙ ap (λ (t : List ℕ). g.0 ++ t) (sym p.2) ∙ gathered)
 
@@ -126,16 +126,16 @@ module _ (u : Option (List ℕ)) (held front : List ℕ) (places : List Place) w
           let later = texts_of row_line (rows_of (drop (i + 1) places)) in
           (g.0 ++ p.0, prints-then u v w held g.0 k p.0 left g.1 p.1, cut-behind why whole all g.0 p.0 later other (sym (append_assoc g.0 whole later) ∙ ap (λ (t : List ℕ). t ++ later) gathered ∙ dump-rest front places (i + 1)) p.2)
 
--- memory is wanted before anything is printed
+-- memory runs out before anything is printed
 pub cut-at-once : (answer : List ℕ → Type 0) (u : Option (List ℕ)) (held : List ℕ) → PrintsCut fault.Memory answer u held u held
 cut-at-once answer u held = ([], prints-none u held, inl refl)
 
 module _ {K : Type 0} (s : LiveState K) where
-  -- an object is away
+  -- an object is away, so the listing is a refusal
   pub listed-refusal : (why : Refusal) → Some why ≡ away s → listing_of s ≡ refusal_text why
   listed-refusal why is = ap (λ (found : Option Refusal). option_map_or refusal_text found (dump_text s.table)) (sym is)
 
-  -- none is
+  -- no object is away, so the listing has the rows
   module _ (here : None ≡ away s) where
     listed-rows : listing_of s ≡ dump_text s.table
     listed-rows = ap (λ (found : Option Refusal). option_map_or refusal_text found (dump_text s.table)) (sym here)

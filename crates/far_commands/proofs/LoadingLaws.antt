@@ -21,7 +21,7 @@ use Rattle.far_script.specs.Printing.{numbered_text}
 use Rattle.far_commands.specs.Loading.{Remains, loaded_text}
 use Rattle.far_commands.specs.Replies.{AfterReply, Loads, insert_of_record}
 
--- if a record ended, no other is begun
+-- if the step ends a record, it begins no other
 abbrev EndsWell : Mode × Action → Type 0
 EndsWell at = is_end at.1 ≡ true → ends_at_end at.0 ≡ false
 
@@ -56,7 +56,7 @@ read-or : (b : Bool) (x p : Read) (more : Option Read) → (if b then Some x els
 read-or true x p more h = inl (refl, cc h)
 read-or false x p more h = inr h
 
--- what a record leaves is no more than there was, and begins none
+-- reading a record leaves at most the bytes that there were, and begins no other record
 goes-on : (s : Mode) (fields : List (List ℕ)) (field xs : List ℕ) (p : Read) → next_record default_config s fields field xs ≡ Some p
     → (length p.2 ≤ length xs) × (ends_at_end p.1 ≡ false)
 unfolding next_record
@@ -69,7 +69,7 @@ goes-on s fields field (c ∷ rest) p h = elim (read-or (is_end (step default_co
   | inr w ↦ let m = goes-on (step default_config s c).0 (fields_after (step default_config s c).1 fields field) (field_after (step default_config s c).1 c field) rest p w in (omega (arith, m.0), m.1)
 ]
 
--- a record takes a byte, if none was begun
+-- if no record was begun, reading one consumes at least one byte
 shorter : (s : Mode) (xs : List ℕ) (p : Read) → ends_at_end s ≡ false → next_record default_config s [] [] xs ≡ Some p → length p.2 < length xs
 unfolding next_record
 shorter s [] p none h = elim (read-or (ends_at_end s) _ p None h) [
@@ -100,7 +100,7 @@ unfolding records_from
 end-of zero s rest low h = absurd (omega (arith, low))
 end-of (suc n) s rest low h = rw h refl
 
--- the reader has no record
+-- if the reader finds no record, none is left
 pub remains-none : {R : Type 0} (rem : R → Option (List ℕ)) (a b : Reader R) (fields : List (List ℕ)) (rows : List (List (List ℕ)))
     → Remains rem a rows → ReadRecord rem a b false fields → rows ≡ []
 remains-none rem a b fields rows m r = m.all ∙ end-of m.fuel (reader_state a) m.rest m.enough (rows-end rem a b fields default_config m.rest m.config m.source r)
@@ -111,7 +111,7 @@ unfolding records_from
 next-of zero s rest p low none h = absurd (omega (arith, low))
 next-of (suc n) s rest p low none h = (n, rw h refl, (let l = shorter s rest p none h in omega (arith, l, low)))
 
--- the reader has a record, and more behind it
+-- if the reader finds a record, it is the next one
 pub remains-some : {R : Type 0} (rem : R → Option (List ℕ)) (a b : Reader R) (fields : List (List ℕ)) (rows : List (List (List ℕ)))
     → Remains rem a rows → ReadRecord rem a b true fields → took_first b ≡ true → (more : List (List (List ℕ))) × (rows ≡ fields ∷ more) × Remains rem b more
 unfolding Reached
@@ -147,7 +147,7 @@ not-refused (reply.Job n) other ends goes h = h
 not-refused (reply.Next groups) other ends goes h = h
 
 module _ {S K : Type 0} (tickets : Tickets S K) where
-  -- what a load prints, from a record on
+  -- the load from this record on prints what the whole load does
   abbrev pub GoesTo : World K → List (List (List ℕ)) → ℕ → World K → List (List (List ℕ)) → Type 0
   GoesTo old all count at rows = (said : List ℕ) (new : World K) → Loads tickets count at rows said new → Loads tickets 0 old all said new
 

@@ -1,4 +1,4 @@
--- The lines of a load that is plain, one after another.
+-- The lines of an unquoted load, one after another.
 use Rattle.std.proofs.Common.{◌≡◌, ◌==◌, ◌+◌, ◌<◌, ℕ, zero, suc, Bool, true, false, List, [], ◌∷◌, length, None, ◌∙◌, refl, sym, ap, subst, inl, inr, arith}
 use Rattle.std.specs.List.{list_any, slice_split, position_or_len}
 use Rattle.std.proofs.lemmas.Bool.{cases_Bool, eqb-true}
@@ -14,7 +14,7 @@ use Rattle.far_script.proofs.PrintingLaws.{is-some, not-zero}
 use Rattle.far_commands.specs.Replies.{records_of}
 use Rattle.far_commands.proofs.LoadingLaws.{end-of, next-of}
 
--- these are the records of the lines that are left
+-- these rows are the records of the lines that are left
 pub record LinesLeft (rest : List ℕ) (rows : List (List (List ℕ))) : Type 0 where
   pub fuel : ℕ
   pub enough : length rest < fuel
@@ -35,7 +35,7 @@ no-record : next_record default_config st.StartRecord [] [] [] ≡ None
 unfolding next_record
 no-record = refl
 
--- nothing is left
+-- without bytes there is no record
 pub lines-end : (rest : List ℕ) (rows : List (List (List ℕ))) → (length rest == 0) ≡ true → LinesLeft rest rows → rows ≡ []
 lines-end [] rows none left = left.all ∙ end-of left.fuel st.StartRecord [] left.enough no-record
 lines-end (c ∷ cs) rows none left = absurd (not-zero (length cs) none)
@@ -54,7 +54,7 @@ line-none c cs feed = rw feed refl
 both-ways : (b : Bool) → b ≡ true → b ≡ false → ⊥
 both-ways b is other = cc (sym is ∙ other)
 
--- an empty line is none of them
+-- an empty line is not a record
 pub lines-skip : (rest line behind : List ℕ) (rows : List (List (List ℕ))) → (length rest == 0) ≡ false → line ≡ line_of rest → behind ≡ lines_behind rest → (length line == 0) ≡ true → LinesLeft rest rows → LinesLeft behind rows
 lines-skip [] line behind rows some is of none left = cc some
 lines-skip (c ∷ cs) line behind rows some is of none left = elim (cases_Bool (c == 10)) [
@@ -71,7 +71,7 @@ lines-skip (c ∷ cs) line behind rows some is of none left = elim (cases_Bool (
   | inr other ↦ absurd (both-ways (length (line_of (c ∷ cs)) == 0) (ap (λ (t : List ℕ). length t == 0) (sym is) ∙ none) (line-some c cs other))
 ]
 
--- any other line is the next of them
+-- any other line is the next record
 pub lines-more : (rest line behind : List ℕ) (rows : List (List (List ℕ))) → (length rest == 0) ≡ false → line ≡ line_of rest → behind ≡ lines_behind rest → (length line == 0) ≡ false → LinesLeft rest rows
     → (more : List (List (List ℕ))) × (rows ≡ slice_split is_comma line ∷ more) × LinesLeft behind more
 lines-more [] line behind rows some is of shown left = cc some

@@ -1,4 +1,4 @@
--- Lent pieces, value by value.
+-- Lent pieces, printed value by value.
 use Rattle.std.proofs.Common.{◌≡◌, ◌==◌, ◌+◌, ◌<◌, ◌≤◌, ℕ, Bool, true, false, List, [], ◌∷◌, ◌++◌, length, map, drop, get_or, codes, append_assoc, append-nil, ◌∙◌, refl, sym, ap, arith, Some, is_none}
 use Rattle.std.specs.Prelude.{slice_get}
 use Rattle.std.proofs.lemmas.List.{drop_more}
@@ -11,7 +11,7 @@ use Rattle.far_script.specs.Printing.{line_end, texts_of}
 use Rattle.far_script.proofs.PrintingLaws.{is-some, not-zero}
 use Rattle.far_commands.proofs.ListingsFields.{drop-past, row-some}
 
--- a text more, that of the i-th item
+-- printing the text of item i
 pub texts-more : {A : Type 0} (text : A → List ℕ) (items : List A) (i : ℕ) (d : A) (page after whole : List ℕ)
     → i < length items → after ≡ page ++ text (get_or items i d)
     → page ++ texts_of text (drop i items) ≡ whole
@@ -20,12 +20,12 @@ texts-more text items i d page after whole low grown e =
     rw grown (append_assoc page (text (get_or items i d)) (texts_of text (drop (i + 1) items))
     ∙ sym (ap (λ rest. page ++ texts_of text rest) (drop_more items i d low)) ∙ e)
 
--- no text is left
+-- after the last item the text is complete
 pub texts-end : {A : Type 0} (text : A → List ℕ) (items : List A) (i : ℕ) (page whole : List ℕ)
     → length items ≤ i → page ++ texts_of text (drop i items) ≡ whole → page ≡ whole
 texts-end text items i page whole past e = sym (append-nil page) ∙ sym (ap (λ rest. page ++ texts_of text rest) (drop-past items i past)) ∙ e
 
--- a field behind a comma
+-- a comma and a field
 abbrev pub next_field : {A : Type 0} → (A → Cell) → A → List ℕ
 next_field as_cell value = 44 ∷ field_text default_writer (cell_text (as_cell value))
 
@@ -41,7 +41,7 @@ pub texts-mapped : {A B : Type 0} (text : B → List ℕ) (f : A → B) (items :
 texts-mapped text f [] = refl
 texts-mapped text f (item ∷ items) = ap (λ (rest : List ℕ). text (f item) ++ rest) (texts-mapped text f items)
 
--- the row of no value
+-- the row of an empty list of values
 pub row-empty : {A : Type 0} (as_cell : A → Cell) (values : List A) → length values < 1 → row_line (map as_cell values) ≡ 34 ∷ 34 ∷ 10 ∷ []
 unfolding is_blank
 row-empty as_cell [] none = refl
@@ -51,7 +51,7 @@ is-lone : {A : Type 0} (as_cell : A → Cell) (first : A) (rest : List A) → (l
 is-lone as_cell first [] = refl
 is-lone as_cell first (value ∷ rest) = is-some (length (value ∷ rest) == 0) (not-zero (length rest))
 
--- the row of a first value and the others
+-- the row of a first value and the values after it
 pub row-whole : {A : Type 0} (as_cell : A → Cell) (values rest : List A) (first : A) (lone : Bool) (page before : List ℕ) → 1 ≤ length values
     → first ≡ get_or values 0 first → rest ≡ drop 1 values → lone ≡ (length rest == 0)
     → before ≡ (page ++ field_in_record lone (cell_text (as_cell first))) ++ fields_text default_writer (map cell_text (map as_cell rest))
@@ -60,7 +60,7 @@ row-whole as_cell [] rest first lone page before some is split is_lone grown = a
 row-whole as_cell (value ∷ values) rest first lone page before some is split is_lone grown =
     rw (grown, split) (row-some page (map as_cell (value ∷ values)) (as_cell first) lone (sym (ap (λ x. Some (as_cell x)) is)) ((rw split at is_lone) ∙ is-lone as_cell value values))
 
--- no piece, and pieces
+-- the text of no pieces, and of some
 pub pieces-none : {A : Type 0} (as_piece : A → Piece) (copies : List A) → (length copies == 0) ≡ true → codes "empty\n" ≡ pieces_text (map as_piece copies)
 pieces-none as_piece [] none = refl
 pieces-none as_piece (copy ∷ copies) none = absurd (not-zero (length copies) none)
@@ -69,7 +69,7 @@ pub pieces-some : {A : Type 0} (as_piece : A → Piece) (copies : List A) → (l
 pieces-some as_piece [] some = cc some
 pieces-some as_piece (copy ∷ copies) some = texts-mapped piece_text as_piece (copy ∷ copies)
 
--- no row group, and row groups
+-- the text of no row groups, and of some
 pub next-none : (groups : List ℕ) → (length groups == 0) ≡ true → codes "next none\n" ≡ next_text groups
 next-none [] none = refl
 next-none (group ∷ groups) none = absurd (not-zero (length groups) none)

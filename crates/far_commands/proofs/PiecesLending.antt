@@ -1,4 +1,4 @@
--- Parts of columns that are printed where they lie.
+-- Parts of columns, printed without copying them.
 use Rattle.std.proofs.Common.{◌≡◌, ◌+◌, ◌-◌, ◌<◌, ◌≤◌, ℕ, zero, suc, Bool, true, false, List, [], ◌∷◌, ◌++◌, map, take, drop, Option, None, Some, append_assoc, append-nil, ◌∙◌, refl, sym, ap, arith}
 use Rattle.std.specs.Prelude.{slice_get, slice_range}
 use Rattle.std.proofs.lemmas.Bool.{le-ltb}
@@ -19,12 +19,12 @@ use Rattle.far_commands.specs.Replies.{Takes, done_text, reply_text}
 use Rattle.far_script.specs.Printing.{texts_of}
 use Rattle.far_commands.proofs.ListingsFields.{row-some}
 
--- one text more, that of the first item
+-- printing the text of the first item that is left
 pub text-next : {A : Type 0} (text : A → List ℕ) (item : A) (items : List A) (page after whole : List ℕ)
     → after ≡ page ++ text item → page ++ texts_of text (item ∷ items) ≡ whole → after ++ texts_of text items ≡ whole
 text-next text item items page after whole grown e = rw grown (append_assoc page (text item) (texts_of text items) ∙ e)
 
--- no place is left
+-- an empty range has no pieces
 pub pieces-past : {X : Type 0} (xs : List X) (size from to : ℕ) → to ≤ from → pieces_of xs size from to ≡ []
 pieces-past xs size from to past = rw (le-ltb from to past) refl
 
@@ -43,14 +43,14 @@ take-none : {X : Type 0} (n : ℕ) (xs : List X) → xs ≡ [] → take n xs ≡
 take-none zero xs h = refl
 take-none (suc n) xs h = rw h refl
 
--- a part of a list is its first item and those behind it
+-- a range of a list is its first item and the items after it
 range-first : {X : Type 0} (xs : List X) (i to : ℕ) (x : X) → slice_get xs i ≡ Some x → i < to → slice_range xs i to ≡ x ∷ slice_range xs (i + 1) to
 range-first xs i to x there more =
     let more_by : to - i ≡ suc (to - (i + 1)) = omega (arith, more) in
     let next : suc i ≡ i + 1 = omega arith in
     ap (λ n. take n (drop i xs)) more_by ∙ ap (take (suc (to - (i + 1)))) (drop-first xs i x there) ∙ ap (λ n. x ∷ take (to - (i + 1)) (drop n xs)) next
 
--- the marks of the places of a part
+-- the marks of the places in a range
 module _ (flags : List Bool) (i to : ℕ) (page whole : List ℕ) (e : page ++ texts_of flag_text (slice_range flags i to) ≡ whole) where
   pub marks-more : (alive : Bool) (after : List ℕ) → slice_get flags i ≡ Some alive → i < to → after ≡ page ++ flag_text alive → after ++ texts_of flag_text (slice_range flags (i + 1) to) ≡ whole
   marks-more alive after there more grown =
@@ -65,7 +65,7 @@ module _ (flags : List Bool) (i to : ℕ) (page whole : List ℕ) (e : page ++ t
   pub marks-past : to ≤ i → page ≡ whole
   marks-past past = (let none : to - i ≡ 0 = omega (arith, past) in marks-none (ap (λ n. take n (drop i flags)) none))
 
--- a field more
+-- printing one more field
 pub field-next : (it : Cell) (cells : List Cell) (page after whole : List ℕ) → after ≡ (page ++ 44 ∷ []) ++ field_text default_writer (cell_text it)
     → page ++ fields_text default_writer (map cell_text (it ∷ cells)) ≡ whole
     → after ++ fields_text default_writer (map cell_text cells) ≡ whole
@@ -78,7 +78,7 @@ pub fields-none : (page whole : List ℕ) → page ++ fields_text default_writer
 unfolding fields_text
 fields-none page whole e = sym (append-nil page) ∙ e
 
--- a row of one cell, and one of several
+-- a row of one cell, and a row of several
 pub row-one : (page : List ℕ) (first : Cell) → (page ++ field_in_record true (cell_text first)) ++ 10 ∷ [] ≡ page ++ row_line (first ∷ [])
 row-one page first =
     let body = page ++ field_in_record true (cell_text first) in
@@ -91,11 +91,11 @@ row-more page first second rest =
     ap (λ (t : List ℕ). t ++ 10 ∷ []) (field-next second rest body ((body ++ 44 ∷ []) ++ field_in_record false (cell_text second)) (body ++ fields_text default_writer (map cell_text (second ∷ rest))) refl refl)
     ∙ row-some page (first ∷ second ∷ rest) first false refl refl
 
--- pieces, of which there is one
+-- the text of pieces, if there is one
 pub pieces-there : (all : List Piece) (first : Piece) (rest : List Piece) → all ≡ first ∷ rest → texts_of piece_text all ≡ pieces_text all
 pieces-there all first rest e = rw e refl
 
--- what is printed of a reply that gives pieces
+-- the text of a reply with these pieces
 given-text : (of : Option Kind) (pieces : List Piece) (done : List ℕ) (given : Reply) → IsReplyOf of pieces given → reply_text done given ≡ pieces_text pieces
 given-text of pieces done (reply.Ints copies) is = ap pieces_text is.1
 given-text of pieces done (reply.Texts copies) is = ap pieces_text is.1
@@ -107,7 +107,7 @@ given-text of pieces done (reply.Job n) is = absurd is
 given-text of pieces done (reply.Next found) is = absurd is
 given-text of pieces done (reply.Refused why) is = absurd is
 
--- a part that was printed, and recorded as lent, is the reply of the step
+-- printing a part and recording that it was lent is the reply of the step
 pub lends : {S K : Type 0} (tickets : Tickets S K) (old new : World K) (column from to : ℕ) (of : Option Kind) (text : List ℕ)
     → (given : Reply) × IsReplyOf of (lent_part old.state.table column from to) given × IsStep tickets.content tickets.number_of old (step.Lend column from to) given new
     → text ≡ pieces_text (lent_part old.state.table column from to) → Takes tickets old (step.Lend column from to) text new

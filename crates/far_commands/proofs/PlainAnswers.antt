@@ -1,4 +1,4 @@
--- Answers without key column, which are one line.
+-- Answers without a key column have one line.
 use Rattle.std.proofs.Common.{◌≡◌, ℕ, true, false, cond, List, [], ◌∷◌, map, refl, sym, ap, ◌∙◌, subst, Option, None, Some, arith, append-nil}
 use Rattle.std.specs.Prelude.{ℤ, is_none, ◌&&◌, ◌==◌, option_map}
 use Rattle.std.specs.List.{filter_map, cons_option}
@@ -32,7 +32,7 @@ use Rattle.far_frame.specs.Worlds.{World}
 use Rattle.far_script.specs.Printing.{total_text, extrema_text}
 use Rattle.far_commands.specs.Replies.{Takes}
 
--- no pair has a key
+-- each pair is without a key
 AreKeyless : List Pair → Type 0
 AreKeyless [] = Unit {0}
 AreKeyless (pair ∷ pairs) = (pair.0 ≡ None) × AreKeyless pairs
@@ -40,7 +40,7 @@ AreKeyless (pair ∷ pairs) = (pair.0 ≡ None) × AreKeyless pairs
 values : List Pair → List ℤ
 values pairs = map (λ (pair : Pair). pair.1) pairs
 
--- then all values stand under none
+-- so all values are grouped under no key
 under_none : (pairs : List Pair) → AreKeyless pairs → values_of None pairs ≡ values pairs
 unfolding AreKeyless values
 under_none [] h = refl
@@ -84,7 +84,7 @@ plain_lines (pair ∷ pairs) h =
     ap (λ m. or_zero None (total_lines m)) (one_group count_sum pair pairs h)
     ∙ ap (λ (es : Entries (ℕ × ℤ)). or_zero None (map (λ (entry : Option Key × (ℕ × ℤ)). (entry.0, entry.1.0, entry.1.1)) es)) (entries-by_key (one_line t) (ascends t))
 
--- without key column no pair has one
+-- if the specification has no key column, each pair is without a key
 keyless_one : (spec : Spec) (cells : List Cell) (pairs : List Pair) → spec.key ≡ None → AreKeyless pairs → AreKeyless (cons_option (pair_in spec (cells_of cells)) pairs)
 unfolding AreKeyless
 keyless_one spec cells pairs none h =
@@ -107,7 +107,7 @@ plain_answer spec rows totals_kept none =
     (λ i. answer_of (totals_kept i) (none i) (pairs_of spec rows))
     ∙ ap answer.Totals (plain_lines (pairs_of spec rows) (keyless spec (kept spec rows) none))
 
--- what is plain
+-- an aggregate whose count and sum can be read directly answers with one line of totals
 decoded_left : (n : ℕ) (x y : ℕ × ℤ) → Some x ≡ cond (n == 0) (Some y) None → (n ≡ 0) × (x ≡ y)
 decoded_left n x y e = elim (n == 0) as (λ b. (n == 0) ≡ b → Some x ≡ cond b (Some y) None → (n ≡ 0) × (x ≡ y)) [
   | true ↦ λ zero_left is. (grind (arith, nat_tests), cc)
@@ -128,14 +128,14 @@ plain_answers places (Some a) x e =
     let parts = decoded a.spec.fold a.spec.key (left a.pending) x (all_values a.spec places) e in
     (parts.2, sym (plain_answer a.spec (rows_of places) parts.0 parts.1 ∙ ap (λ (t : ℕ × ℤ). answer.Totals ((None, t.0, t.1) ∷ [])) (sym parts.3)))
 
--- a count and a sum that are printed as they are kept are the reply of an ask
+-- printing the count and the sum that the aggregate holds is the reply to `Ask`
 pub asks : {S K : Type 0} (tickets : Tickets S K) (old : World K) (a : ℕ) (x : ℕ × ℤ) (text : List ℕ)
     → Some x ≡ plain_in old.state.table.places (aggregate_at old.state.table a) → text ≡ total_text (None, x.0, x.1) → Takes tickets old (step.Ask a) text old
 asks tickets old a x text plain printed =
     let found = answer.Totals ((None, x.0, x.1) ∷ []) in
     (reply.Answer found, ((found, refl, plain_answers old.state.table.places (aggregate_at old.state.table a) x plain, refl), refl), printed ∙ sym (append-nil (total_text (None, x.0, x.1))))
 
--- extrema without key column that have a line have no other
+-- extrema without a key column have at most one line
 no_extrema : extrema_lines (extrema []) ≡ []
 unfolding one_line
 no_extrema = ap (λ (es : Entries (ℤ × ℤ)). map (λ (entry : Option Key × (ℤ × ℤ)). (entry.0, entry.1.0, entry.1.1)) es) (entries-by_key [] none_ascends)
@@ -180,7 +180,7 @@ extrema_answers places (Some a) spec all m n is none answers line_is =
     let all_is : all ≡ answer_of a.spec.fold None pairs = answers.1 ∙ ap (λ key. answer_of a.spec.fold key pairs) keyless_spec in
     all_is ∙ answer_of_extrema a.spec.fold pairs m n (keyless a.spec (kept a.spec (rows_of places)) keyless_spec) (line_is ∙ ap (λ (all : Answer). line_in all None) all_is)
 
--- a least and a greatest value that are printed as they are kept are the reply of an ask
+-- printing the least and the greatest value that the aggregate holds is the reply to `Ask`
 pub asks_extrema : {S K : Type 0} (tickets : Tickets S K) (old : World K) (a : ℕ) (spec : Spec) (m n : ℤ) (text : List ℕ)
     → Some spec ≡ option_map (λ (aggregate : Registered). aggregate.spec) (aggregate_at old.state.table a) → spec.key ≡ None
     → AnswersKey old.state.table.places (aggregate_at old.state.table a) None (Some (line.Extrema m n))

@@ -1,4 +1,4 @@
--- What a fault leaves of a reply, and which lines can get no reply.
+-- The part of a reply that is printed before a fault, and the lines that cannot be answered.
 use Rattle.std.specs.Prelude.{◌≡◌, ◌⊎◌, ◌<◌, ◌≤◌, ℕ, List, [], ◌++◌, length, take, Option, Some, IsUtf8}
 use Rattle.std.specs.declared.io.traits.Read.{Ghosts}
 use Rattle.far_types.specs.declared.cell.Kind.{Kind}

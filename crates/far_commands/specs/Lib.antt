@@ -1,3 +1,4 @@
+pub mod Answering
 pub mod Commands
 pub mod Recounts
 pub mod Renewals

@@ -32,7 +32,7 @@ cells_at p places = option_map_or (λ place. place.cells) (slice_get places p) [
 abbrev pub is_live : ℕ → List Place → Bool
 is_live p places = option_map_or (λ place. place.alive) (slice_get places p) false
 
--- a place is used, and no object of its row group is away
+-- a place is used, and all objects of its row group are local
 abbrev pub IsHere : {K : Type 0} → LiveState K → ℕ → Type 0
 IsHere s place = (place < length s.table.places)
     × (first_of (absents s.rows (place / s.table.limits.group)) ≡ None)
@@ -41,7 +41,7 @@ IsHere s place = (place < length s.table.places)
 abbrev pub row_line : List Cell → List ℕ
 row_line cells = row_text default_writer (map cell_text cells)
 
--- the reply to `dump` if no object is away: how many rows are alive, and then those rows
+-- the reply to `dump` if no object is away: the number of live rows, and then those rows
 abbrev pub dump_text : Table → List ℕ
 dump_text table = numbered_text (codes "rows") (length (rows_of table.places))
     ++ texts_of row_line (rows_of table.places)

@@ -22,7 +22,7 @@ pub record Remains {R : Type 0} (rem : R → Option (List ℕ)) (reader : Reader
   pub ready : Ready reader
   pub config : reader_config reader ≡ default_config
 
--- the reply to a load: how many rows it inserted, and the refusal that ended it, if one did
+-- the reply to a load: the number of rows that it inserted, and the refusal that ended it, if one did
 abbrev pub loaded_text : ℕ → Option Refusal → List ℕ
 loaded_text count refusal = numbered_text (codes "loaded") count
     ++ option_map_or refusal_text refusal []

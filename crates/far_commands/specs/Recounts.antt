@@ -6,7 +6,7 @@ use Rattle.far_types.specs.Table.{Table}
 use Rattle.far_table.specs.Recounting.{recount_refusal, IsAnswerNow, RecountRefusal}
 use Rattle.far_script.specs.Printing.{answer_text, refusal_text}
 
--- the number of threads that fold the rows of a recount, if the table has as many row groups
+-- the number of threads that fold the rows of a recount, if the table has that many row groups
 abbrev pub recount_workers : ℕ
 recount_workers = 4
 

@@ -14,8 +14,8 @@ IsNotRenewed old why new = IsOneOf (21 ∷ 22 ∷ 1 ∷ []) why
     × (new ≡ record old { faults = old.faults + faults_of why })
 
 module _ {S K : Type 0} (tickets : Tickets S K) where
-  -- the far copies of the table moved to a new store of this capacity: every row, aggregate and answer stays, and no old
-  -- job's number is valid
+  -- the far copies of the table moved to a new store of this capacity: every row, aggregate and answer is unchanged, and no
+  -- number of an old job is valid
   abbrev pub IsRenewed : ℕ → World K → World K → Type 0
   IsRenewed capacity old new = (store : S) × (tickets.capacity_of store ≡ capacity)
       × IsMigratedTo tickets.content tickets.content (tickets.store_id store) old new

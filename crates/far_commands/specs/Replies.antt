@@ -12,7 +12,7 @@ use Rattle.far_frame.specs.declared.step.Reply.TheVariants as reply
 use Rattle.far_frame.specs.Lending.{int_piece, text_piece}
 use Rattle.far_frame.specs.State.{live}
 use Rattle.far_frame.specs.Steps.{IsStep}
-use Rattle.far_frame.specs.Worlds.{World}
+use Rattle.far_frame.specs.Worlds.{World, HasOwnTickets}
 use Rattle.far_commands.specs.declared.command.Command.{Command}
 use Rattle.far_commands.specs.declared.command.Command.TheVariants as command
 use Rattle.far_script.specs.Fields.{cells_from}
@@ -45,7 +45,7 @@ reply_text done (reply.Refused refusal) = refusal_text refusal
 abbrev pub insert_of_record : List Kind → List (List ℕ) → Step
 insert_of_record kinds fields = step.Edit (edit.Insert (cells_from kinds 0 fields))
 
--- a load stops at a refusal, and goes on after any other reply
+-- a load stops at a refusal, and continues after any other reply
 abbrev pub AfterReply : Reply → (Refusal → Type 0) → Type 0 → Type 0
 AfterReply (reply.Refused refusal) ends goes = ends refusal
 AfterReply _ ends goes = goes
@@ -95,10 +95,11 @@ module _ {S K : Type 0} (tickets : Tickets S K) where
   ServesLine number old (Some asked) rows text new = Serves old asked rows text new
 
   -- a line is answered. An empty line has no reply and is no command. Any other is valid UTF-8 and counts as the next
-  -- command
+  -- command; after it every ticket is of the world's store, also one that a carry or a renewal got
   abbrev pub AnswersLine : At K → List ℕ → List ℕ → List ℕ → At K → Type 0
   AnswersLine old [] rows text new = (rows ≡ []) × (text ≡ []) × (new ≡ old)
   AnswersLine old (c ∷ cs) rows text new =
       IsUtf8 (c ∷ cs) × (new.number ≡ old.number + 1)
       × ServesLine new.number old.world (command_of old.world.state.table.schema (c ∷ cs)) rows text
       new.world
+      × HasOwnTickets tickets.is_of new.world

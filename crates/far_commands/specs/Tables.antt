@@ -5,7 +5,7 @@ use Rattle.far_frame.specs.State.{empty_state}
 use Rattle.far_frame.specs.Worlds.{World}
 use Rattle.far_script.specs.Openings.{Opened}
 
--- an empty table of these columns and limits, both valid. No job was begun and no fault met
+-- an empty table of these columns and limits, both valid. No job was begun and no fault occurred
 pub record IsEmpty {K : Type 0} (opened : Opened) (world : World K) : Type 0 where
   pub schema : IsSchema opened.0
   pub limits : AreLimits opened.1

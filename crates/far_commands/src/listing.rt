@@ -1,12 +1,13 @@
 // Prints the rows of a table.
-ghost use Rattle.std.specs.Prelude.{◌≡◌, ◌≢◌, ℕ, List, map, drop, length, ◌++◌, true, OnOk, IfErr};
+ghost use Rattle.std.specs.Prelude.{◌≡◌, ◌≢◌, ℕ, List, map, drop, length, ◌++◌, OnOk, IfErr};
 ghost use Rattle.std.specs.Fmt.{signed_decimal};
 ghost use Rattle.far_types.specs.Lent.{lent_cell};
 ghost use Rattle.csv.specs.Writing.{default_writer, fields_text};
 ghost use Rattle.far_types.specs.Table.{rows_of};
 ghost use Rattle.far_frame.specs.State.{live};
+ghost use Rattle.far_commands.specs.Answering.{IsOfWrite};
 ghost use Rattle.far_commands.specs.Cuts.{PrintsCut};
-ghost use Rattle.far_script.specs.Flow.{Prints, has_failed};
+ghost use Rattle.far_script.specs.Flow.{Prints};
 ghost use Rattle.far_commands.specs.Listings.{IsHere, cell_text, cells_at, field_in_record, is_live, listing_of, row_line};
 
 use far_frame::{Frame, View};
@@ -136,8 +137,7 @@ fn add_if_long<W: Sink>(output: &mut Output<W>, writer: &mut W) -> Result<(), Sh
         (λ fault. PrintsCut fault (λ said. said ≡ output.old.reply) (W.contents writer.old)
         output.old.page (W.contents writer.new) output.new.page) }
     ensures fault { IfErr result (λ fault. fault ≢ ShellFault.Input) }
-    ensures failed { IfErr result
-        (λ fault. fault ≡ ShellFault.Output → has_failed output.new ≡ true) }
+    ensures failed { IfErr result (λ fault. IsOfWrite fault output.new) }
 {
     if output.reply.len() < GATHERED {
         return Ok(());
@@ -163,8 +163,7 @@ pub fn dump<S: FarTickets, W: Sink>(
         (λ fault. PrintsCut fault (λ said. said ≡ listing_of (live frame.now))
         (W.contents writer.old) output.old.page (W.contents writer.new) output.new.page) }
     ensures fault { IfErr result (λ fault. fault ≢ ShellFault.Input) }
-    ensures failed { IfErr result
-        (λ fault. fault ≡ ShellFault.Output → has_failed output.new ≡ true) }
+    ensures failed { IfErr result (λ fault. IsOfWrite fault output.new) }
 {
     let view = frame.scope();
     match view.all() {

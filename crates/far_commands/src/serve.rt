@@ -1,13 +1,13 @@
 // Serves lines as commands and prints their replies.
 ghost use Rattle.std.specs.Prelude.{◌≡◌, ℕ, List, ◌++◌, ◌+◌, ◌≤◌, ◌<◌, ◌^◌, true, false, codes, IfOk, IfErr, OnOk, OnErr, Some};
 ghost use Rattle.far_frame.specs.State.{live};
-ghost use Rattle.far_commands.specs.Cuts.{Fails, FailsBy, IsListing, PrintsCut, TakesFor};
+ghost use Rattle.far_commands.specs.Answering.{IsAnswered, IsOfWrite, StopsAtLine, TakesForLine};
+ghost use Rattle.far_commands.specs.Cuts.{FailsBy, IsListing, PrintsCut, TakesFor};
 ghost use Rattle.far_script.specs.Faults.{IfInput, IfHalted};
-ghost use Rattle.far_script.specs.Flow.{Holds, IsShort, Prints, Reads, Stops, has_failed, bytes_in};
+ghost use Rattle.far_script.specs.Flow.{Holds, IsShort, Prints, Reads, Stops, bytes_in};
 ghost use Rattle.far_script.specs.Printing.{numbered_text};
-ghost use Rattle.far_commands.specs.Commands.{command_of};
 ghost use Rattle.far_commands.specs.Listings.{listing_of};
-ghost use Rattle.far_commands.specs.Replies.{Serves, Takes, done_text, reply_text, AnswersLine};
+ghost use Rattle.far_commands.specs.Replies.{Serves, Takes, done_text, reply_text};
 
 use super::command::{Command, parse};
 use super::lending::lent;
@@ -118,8 +118,8 @@ fn answer_plain<S: FarStore>(world: &World<S>, a: u32, reply: &mut Page) -> Resu
     Ok(true)
 }
 
-/// Answers an ask of extrema without key column by their one line, and makes no list. Returns false if there are no such extrema, they have
-/// no line, or row groups are still pending.
+/// Answers an `ask` of extrema without key column directly, from their one line and without making a list. Returns false if
+/// there are no such extrema, they have no line, or row groups are pending.
 fn answer_extrema<S: FarStore>(world: &World<S>, a: u32, reply: &mut Page) -> Result<bool, Refusal>
     ensures plain { IfOk result
         (λ plain. plain ≡ true → Takes S.FarTickets world.now (Step.Ask a) reply.new world.now) }
@@ -202,8 +202,7 @@ fn serve_load<S: FarStore, R: Source + Drop, W: Sink>(
         (λ fault. IfHalted fault
         (TakesFor R.Read (Some (Command.Load count)) input.old input.new)) }
     ensures faults { world.new.faults ≡ world.old.faults }
-    ensures failed { IfErr result
-        (λ fault. fault ≡ ShellFault.Output → has_failed output.new ≡ true) }
+    ensures failed { IfErr result (λ fault. IsOfWrite fault output.new) }
     ensures asked { input.new.source.reads ≤ input.old.source.reads }
 {
     let rows = input.bytes(output, writer, count as usize)?;
@@ -238,8 +237,7 @@ fn serve_command<S: FarStore, A: Resources<S>, R: Source + Drop, W: Sink>(
     ensures taken { IfErr result
         (λ fault. IfHalted fault (TakesFor R.Read (Some command) input.old input.new)) }
     ensures faults { world.new.faults ≤ world.old.faults + 1 }
-    ensures failed { IfErr result
-        (λ fault. fault ≡ ShellFault.Output → has_failed output.new ≡ true) }
+    ensures failed { IfErr result (λ fault. IsOfWrite fault output.new) }
     ensures asked { input.new.source.reads ≤ input.old.source.reads }
 {
     match command {
@@ -284,43 +282,31 @@ pub fn answer_line<S: FarStore, A: Resources<S>, R: Source + Drop, W: Sink>(
     requires held { Holds R.Read input.old line }
     requires few { progress.old.number < 4294967295 }
     ensures ok { OnOk result
-        ((rows : List ℕ) × (text : List ℕ) × Reads R.Read input.old rows input.new
-        × Prints (W.contents writer.old) output.old.page text (W.contents writer.new)
-        output.new.page
-        × AnswersLine S.FarTickets progress.old (bytes_in R.Read input.old line) rows text
-        progress.new) }
+        (IsAnswered R.Read input.old line input.new S.FarTickets progress.old progress.new
+        (W.contents writer.old) output.old.page (W.contents writer.new) output.new.page) }
     ensures err { IfErr result
-        (λ fault. PrintsCut fault
-        (λ said. IsListing progress.old (bytes_in R.Read input.old line) said)
+        (λ fault. PrintsCut fault (IsListing progress.old (bytes_in R.Read input.old line))
         (W.contents writer.old) output.old.page (W.contents writer.new) output.new.page) }
     ensures stopped { IfErr result
-        (λ fault. IfInput fault
-        (Stops R.Read
-        (λ behind rest. Fails (IsShort R.Read R.may_fail input.old input.new rest)
-        progress.old.world.state.table.schema (bytes_in R.Read input.old line) behind)
-        input.old input.new)) }
+        (λ fault. IfInput fault (StopsAtLine R.Read input.old line input.new R.may_fail progress.old)) }
     ensures taken { IfErr result
-        (λ fault. IfHalted fault
-        (TakesFor R.Read
-        (command_of progress.old.world.state.table.schema (bytes_in R.Read input.old line))
-        input.old input.new)) }
-    ensures failed { IfErr result
-        (λ fault. fault ≡ ShellFault.Output → has_failed output.new ≡ true) }
+        (λ fault. IfHalted fault (TakesForLine R.Read input.old line input.new progress.old)) }
+    ensures failed { IfErr result (λ fault. IsOfWrite fault output.new) }
     ensures asked { input.new.source.reads ≤ input.old.source.reads }
 {
     if line.is_empty() {
         return Ok(());
     }
+    // For the proof: shows that every ticket is of the world's store. The same below.
+    progress.world.keeps();
     progress.number += 1;
     match parse(resources.alloc(), &mut progress.world, input.text(line)?) {
-        Ok(Some(command)) => serve_command(
-            resources,
-            &mut progress.world,
-            command,
-            input,
-            output,
-            writer,
-        ),
+        Ok(Some(command)) => {
+            let world = &mut progress.world;
+            let served = serve_command(resources, world, command, input, output, writer);
+            progress.world.keeps();
+            served
+        }
         Ok(None) => print_syntax(output, progress.number),
         Err(refusal) => Err(ShellFault::of_memory(refusal)),
     }

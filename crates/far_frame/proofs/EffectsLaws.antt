@@ -1,4 +1,4 @@
--- What a call ensures of a table, said of the table with what was read of it.
+-- The effects of calls on a live table, as effects on the frame's state with its accesses.
 use Rattle.std.proofs.Common.{◌≡◌, ℕ, List, length, OnOk, IfOk, IfErr, Result, refl, ap}
 use Rattle.std.specs.declared.result.Result.TheVariants.{Ok, Err}
 use Rattle.far_types.specs.declared.edit.Edit.TheVariants as edit
@@ -17,7 +17,7 @@ on-ok (Ok x) f h = f h
 on-ok (Err e) f h = h
 
 module _ {K : Type 0} (accesses : List (List ℕ)) where
-  -- a table with what was read of it
+  -- the state of a frame with this live table and these accesses
   abbrev pub remembering : LiveState K → State K
   remembering s = record { table = s.table; rows = s.rows; accesses = accesses }
 

@@ -1,9 +1,9 @@
--- The first refusal of tests, among which others stand.
+-- The first refusal of a list of tests, between which other tests are inserted.
 use Rattle.std.proofs.Common.{◌≡◌, ◌⊎◌, inl, inr, Bool, true, false, List, [], ◌∷◌, ◌++◌, None, Some, refl, subst}
 use Rattle.far_types.specs.declared.refusal.Refusal.{Refusal}
 use Rattle.far_types.specs.FirstOf.{first_of}
 
--- each of these tests that holds gives a refusal of one sort
+-- each test that applies has a refusal with the property P
 abbrev pub AllTell : (Refusal → Type 0) → List (Bool × Refusal) → Type 0
 AllTell P [] = Unit {0}
 AllTell P (case ∷ cases) = (case.0 ≡ true → P case.1) × AllTell P cases
@@ -19,7 +19,7 @@ free-two [] n (false, e) d free = free-last n d free
 free-two ((true, e) ∷ a) n c d free = absurd cc
 free-two ((false, e) ∷ a) n c d free = free-two a n c d free
 
--- where no test refuses, none of some of them does
+-- if no test of the longer list applies, none of the shorter list does
 pub free-plain : (xs a n : List (Bool × Refusal)) (c d : Bool × Refusal) → first_of (xs ++ (a ++ (c ∷ (n ++ d ∷ [])))) ≡ None → first_of (xs ++ c ∷ d ∷ []) ≡ None
 free-plain [] a n c d free = free-two a n c d free
 free-plain ((true, e) ∷ xs) a n c d free = absurd cc
@@ -41,8 +41,8 @@ module _ (P : Refusal → Type 0) where
   or_other plain (inl is) = inl is
   or_other plain (inr other) = inr (refl, other)
 
-  -- what refuses is one of some tests, or one of the others, and then the first ones do not refuse. The last of the others are known
-  -- where the test before them does not refuse
+  -- a refusal of the longer list is one of the shorter list, or one of the inserted tests, and then no test before them applies.
+  -- The second inserted tests are known only if the test before them does not apply
   pub found-plain : (xs a n : List (Bool × Refusal)) (c d : Bool × Refusal) (g : Refusal) → AllTell P a → (c.0 ≡ false → AllTell P n) → first_of (xs ++ (a ++ (c ∷ (n ++ d ∷ [])))) ≡ Some g
       → (first_of (xs ++ c ∷ d ∷ []) ≡ Some g) ⊎ ((first_of xs ≡ None) × P g)
   found-plain [] a n c d g of_a of_n due = or_other (first_of (c ∷ d ∷ []) ≡ Some g) (found-two a n c d g of_a of_n due)

@@ -1,4 +1,4 @@
--- Why the job of a number is not accepted at its end.
+-- Why the job with this number is not accepted at its end.
 use Rattle.std.proofs.Common.{◌≡◌, ℕ, true, false, List, Option, None, Some, IsSome, IsSomeAnd, inl, inr, sym, subst}
 use Rattle.std.proofs.lemmas.Option.{none-some, same_Some}
 use Rattle.far_types.specs.declared.refusal.Refusal.{Refusal}
@@ -21,7 +21,7 @@ use Rattle.far_frame.specs.Worlds.{World, AreNumbered, IsEnded, IsNotEnded, IsSp
 use Rattle.far_frame.proofs.WaitingNumbers.{accepted-spent, named-stale}
 use Rattle.far_frame.proofs.WaitingSpentNumbers.{refused-so}
 
--- no aggregate is registered, so it is none of any sort
+-- an aggregate that is not registered has no property
 none-such : (o : Option Registered) (P : Registered → Type 0) → o ≡ None → IsSomeAnd o P → ⊥
 none-such None P is h = absurd h
 none-such (Some r) P is h = none-some r (sym is)
@@ -39,7 +39,7 @@ module _ {K : Type 0} where
   found-why why None job given is h = absurd (none-some job is)
   found-why why (Some one) job given is h = subst (λ (j : JobRecord K). why j given) (same_Some one job is) h
 
-  -- a job that its end does not accept, and refuses for one reason alone, is refused for it
+  -- a job that cannot be accepted, and has only one reason to be refused, is refused for that reason
   end-due : (due : Refusal) (n : ℕ) (old new : World K) (given : Reply) (ends : WorkOf K → State K → Type 0) (why : WorkOf K → Refusal → Type 0) (job : JobRecord K) → job_at old.jobs n ≡ Some job → (ends job.work new.state → ⊥) → ((e : Refusal) → why job.work e → e ≡ due)
       → Replies (λ served. IsEnded ends n old served new) (λ e. IsNotEnded why n old e new) given → given ≡ reply.Refused due
   end-due due n old new given ends why job is never only h = refused-so due (λ served. IsEnded ends n old served new) (λ e. IsNotEnded why n old e new) given
@@ -101,7 +101,7 @@ module _ {K : Type 0} where
     merge-stale (work.Offloaded build) e denied known (inr (inl stale)) = stale.0
     merge-stale (work.Offloaded build) e denied known (inr (inr memory)) = absurd (memory.1 denied)
 
-    -- a build whose aggregate is not registered
+    -- a build whose aggregate is not registered cannot be merged
     none-merges : (build : Build K) → aggregate_at old.table build.aggregate ≡ None → ¬ (IsMergeable number_of (live old) build)
     none-merges build is h = none-such (aggregate_at old.table build.aggregate) (HoldsStill number_of (live old) build) is h
 

@@ -1,4 +1,4 @@
--- Row groups of a column that are accessed: their objects are used, and they are remembered.
+-- Accesses to row groups of a column: their objects are touched, and the history records them.
 use Rattle.std.proofs.Common.{◌≡◌, ℕ, ◌+◌, ◌-◌, ◌*◌, ◌/◌, ◌<◌, ◌≤◌, ◌⊎◌, List, [], ◌∷◌, Option, None, Some, Result, inl, inr, refl, sym, ap, ◌∙◌, arith}
 use Rattle.std.specs.Prelude.{is_none, option_map, slice_get, slice_set, OnOk, OnErr, IsSomeAnd}
 use Rattle.std.specs.declared.result.Result.TheVariants.{Ok, Err}
@@ -24,7 +24,7 @@ use Rattle.far_table.specs.Moving.{IsMoved, IsTouched}
 use Rattle.far_frame.specs.State.{State, live}
 use Rattle.far_frame.specs.Lending.{AreObserved, after_touch_all, after_access_all}
 
--- the row groups that have some of the places up to one: that of the first, and those of the places behind it
+-- the row groups of a range are the group of its first place and the groups of the places after that group
 pub overlapped-next : (size from to : ℕ) → 0 < size → from < to → overlapped_groups size from to ≡ from / size ∷ overlapped_groups size ((from / size + 1) * size) to
 overlapped-next size from to some more = overlapped-step size some from to more ∙ ap (λ l. from / size ∷ l) (behind (cases_lt ((from / size + 1) * size) to)) where
   next : ℕ
@@ -51,7 +51,7 @@ module _ {K : Type 0} (old : State K) (column group : ℕ) where
   abbrev used : Rows K
   used = option_map_or (after_touch old.rows) (object_at old.rows column group) old.rows
 
-  -- an object that there is not is not used
+  -- touching an object that does not exist changes nothing
   unused : (e : Refusal) → Some e ≡ object_refusal old.rows column group → used ≡ old.rows
   unused e due = by (slice_get old.rows.column_indexes column) due where
     none-of : (at : Option Object) → Some e ≡ first_of ((is_none at, refusal.OutOfRange) ∷ []) → option_map_or (after_touch old.rows) at old.rows ≡ old.rows
@@ -73,12 +73,12 @@ module _ {K : Type 0} (old : State K) (column group : ℕ) where
   pub one-accesses : (new : LiveState K) → IsMoved (IsTouched column group) (live old) new → AreObserved column (group ∷ []) old (now new)
   one-accesses new moved = record { table = moved.table; rows = is-after_touch (object_at old.rows column group) new.rows moved.rows; accesses = refl }
 
-  -- a row group is accessed, whether or not there is such an object
+  -- a row group is accessed, whether or not it has an object
   pub accesses-anyhow : (new : LiveState K) (r : Result Unit Refusal) → OnOk r (IsMoved (IsTouched column group) (live old) new) → OnErr r (new ≡ live old) → refusal_in r ≡ object_refusal old.rows column group → AreObserved column (group ∷ []) old (now new)
   accesses-anyhow new (Ok done) moved same due = one-accesses new moved
   accesses-anyhow new (Err e) moved same due = record { table = ap (λ (s : LiveState K). s.table) same; rows = ap (λ (s : LiveState K). s.rows) same ∙ sym (unused e due); accesses = refl }
 
--- some row groups were accessed, and these are left
+-- some row groups are accessed already, and the ones in `left` are not yet
 pub record IsObserving {K : Type 0} (column : ℕ) (all left : List ℕ) (old mid : State K) : Type 0 where
   pub table : mid.table ≡ old.table
   pub rows : after_touch_all mid.rows column left ≡ after_touch_all old.rows column all

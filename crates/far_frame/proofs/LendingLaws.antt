@@ -1,4 +1,4 @@
--- Parts of columns, as rows lend them and as the plain table has them.
+-- Parts of columns: as the rows lend them, and as the plain table has them.
 use Rattle.std.proofs.Common.{◌≡◌, ℕ, zero, suc, ◌+◌, ◌-◌, ◌*◌, ◌/◌, ◌<◌, ◌≤◌, min, Bool, true, false, List, [], ◌∷◌, ◌++◌, length, map, take, drop, get_or, Option, None, Some, Result, inl, inr, refl, sym, ap, subst, ◌∙◌, arith, take-take, drop-drop}
 use Rattle.std.specs.Prelude.{◌||◌, nat_lt, not, is_none, IfOk, option_map, slice_get, slice_index_or, slice_range}
 use Rattle.std.specs.declared.result.Result.TheVariants.{Ok, Err}
@@ -46,7 +46,7 @@ use Rattle.far_frame.specs.State.{State}
 use Rattle.far_frame.specs.Effects.{Replies}
 use Rattle.far_frame.specs.Lending.{Piece, IsReplyOf, AreObserved, IsLent, piece_of, pieces_in, flags_of, ints_lent, texts_lent, text_piece, lent_part, lend_refusal}
 
--- a part of some places in a column
+-- a range of a column has the cells and flags of a range of places
 module _ (c : ℕ) (places : List Place) (from to : ℕ) where
   pub cells-range : slice_range (column_of c places) from to ≡ column_of c (slice_range places from to)
   cells-range = range-map (λ (place : Place). cell_at c place.cells) places from to
@@ -57,7 +57,7 @@ module _ (c : ℕ) (places : List Place) (from to : ℕ) where
   pub piece-range : record { cells = slice_range (column_of c places) from to; flags = slice_range (flags_of places) from to } ≡ piece_of c (slice_range places from to)
   piece-range = λ i. record { cells = cells-range i; flags = flags-range i }
 
--- the part of one place is its cell
+-- a range of one place has only its cell
 one-taken : {A : Type 0} (xs : List A) (p : ℕ) (x : A) → slice_get xs p ≡ Some x → take 1 (drop p xs) ≡ x ∷ []
 one-taken [] p x is = absurd (omega (arith, slice_get_within [] p x is))
 one-taken (y ∷ ys) zero x is = (let same : y ≡ x = same_Some y x is in ap (λ z. z ∷ []) same)
@@ -68,7 +68,7 @@ part-one table column place one is =
     let alone : place + 1 - place ≡ 1 = omega arith in
     ap (λ n. take n (drop place (column_of column table.places))) alone ∙ one-taken (column_of column table.places) place one is
 
--- numbers that are those of a column of some places, lent row group by row group with the flags of the places
+-- lending a column of numbers row group by row group, with the flags, lends the pieces of its range
 module _ (size : ℕ) (some : 0 < size) (c : ℕ) (nums : Numbers) (places : List Place) (same : column_of c places ≡ map int_cell nums) where
   abbrev IsCut : ℕ → ℕ → Type 0
   IsCut from to = map ints_lent (with_flags (pieces_of nums size from to) (slice_range (flags_of places) from to)) ≡ map (piece_of c) (pieces_of places size from to)
@@ -123,7 +123,7 @@ module _ (size : ℕ) (some : 0 < size) (c : ℕ) (nums : Numbers) (places : Lis
   pub all-cut : (from to : ℕ) → from ≤ to → to ≤ length places → IsCut from to
   all-cut from to low within = cut-up to from to (omega arith) low within
 
--- what is left of a part behind its first piece
+-- the pieces of a range are its first piece and the pieces of the rest
 module _ (size : ℕ) (some : 0 < size) (c : ℕ) (places : List Place) where
   pub lent-none : (from to : ℕ) → to ≤ from → from ≤ to → map (piece_of c) (pieces_of places size from to) ≡ []
   lent-none from to past low = (let e : to ≡ from = omega (arith, past, low) in ap (λ n. map (piece_of c) (pieces_of places size from n)) e ∙ ap (map (piece_of c)) (none-pieces places size some from))
@@ -133,7 +133,7 @@ module _ (size : ℕ) (some : 0 < size) (c : ℕ) (places : List Place) where
   lent-step from to more = ap (map (piece_of c)) (pieces-step places size some from to more)
       ∙ ap (λ one. one ∷ map (piece_of c) (pieces_of places size (end size some from to more) to)) (sym (piece-range c places from (end size some from to more)))
 
--- of refusals in their order none is due
+-- if no refusal is due, none of the tests applies
 first-off : (case : Bool × Refusal) (cases : List (Bool × Refusal)) → first_of (case ∷ cases) ≡ None → (case.0 ≡ false) × (first_of cases ≡ None)
 first-off (true, why) cases none = absurd cc
 first-off (false, why) cases none = (refl, none)
@@ -151,7 +151,7 @@ not-below a b off = elim (cases_lt a b) [ inl less ↦ absurd (let on : true ≡
 is-below : (a b : ℕ) → not (nat_lt a b) ≡ false → a < b
 is-below a b off = elim (cases_lt a b) [ inl less ↦ less | inr past ↦ absurd (let on : true ≡ false = sym (ap not (le-ltb a b past)) ∙ off in cc) ]
 
--- each row group of a range is let through, or the first that is not is named
+-- the tests of a range of row groups pass exactly if the test of each passes
 off-range : (f : ℕ → Bool × Refusal) (a n : ℕ) → first_of (map f (range_with_len a n)) ≡ None → (k : ℕ) → a ≤ k → k < a + n → (f k).0 ≡ false
 off-range f a zero none k low high = absurd (omega (arith, low, high))
 off-range f a (suc n) none k low high =
@@ -165,7 +165,7 @@ on-range f a (suc n) each = first-on (f a) (map f (range_with_len (a + 1) n)) (e
 same-group : (size a b : ℕ) → 0 < size → a ≤ b → a / size ≤ b / size
 same-group size a b some low = le-div (a / size) b size some (let down = div-mul-le_self a size in omega (arith, down, low))
 
--- what lets a part through lets each part of it through
+-- if the tests of a range pass, so do the tests of each range within it
 part-through : (f : ℕ → Bool × Refusal) (size from to a b : ℕ) → 0 < size → from ≤ a → b ≤ to → first_of (map f (overlapped_groups size from to)) ≡ None → first_of (map f (overlapped_groups size a b)) ≡ None
 part-through f size from to a b some low high none = elim (cases_lt a b) [
   | inl more ↦ on-range f (a / size) (overlapped_count size a b) (λ k above below.
@@ -194,7 +194,7 @@ module _ {K : Type 0} (content : K → List ℕ) (r : Rows K) (are : AreRows con
       (not-below to from both.0, (let high = not-below (length r.alive) to both.1 in let long = length-places (all_cells content r) r.alive in omega (arith, high, long)))
 
   module _ (column : ℕ) where
-    -- the cells of a column are the places' of it
+    -- the cells of a column are the cells of its places
     column-read : (cells : List Cell) → slice_get (all_cells content r) column ≡ Some cells → column_of column places ≡ cells
     column-read cells lies =
         let within : column < length r.column_indexes = subst (λ (n : ℕ). column < n) (length-map r.column_indexes (column_in (all_numbers content r) (all_texts content r))) (slice_get_within (all_cells content r) column cells lies) in
@@ -233,7 +233,7 @@ module _ {K : Type 0} (content : K → List ℕ) (r : Rows K) (are : AreRows con
           let range = range-within from to (first-off (no_range r from to) (map (λ g. absent_at r column g s) (overlapped_groups r.size from to)) none).0 in
           ap (λ (flags : List Bool). map ints_lent (with_flags (pieces_of nums r.size from to) flags)) (flags-read from to) ∙ all-cut r.size are.some column nums places same from to range.0 range.1
 
-      -- a part of a column of numbers is lent as the plain table has it
+      -- lending a part of a column of numbers lends the pieces that the plain table has
       pub ints-part : ints_refusal r column from to ≡ None → map ints_lent (lent_ints content r column from to) ≡ map (piece_of column) (pieces_of places r.size from to)
       ints-part none = ints-by (slice_get r.column_indexes column) refl none
 
@@ -244,7 +244,7 @@ module _ {K : Type 0} (r : Rows K) (column from to : ℕ) where
   abbrev there : List (Bool × Refusal)
   there = no_range r from to ∷ map (absent_in r column) (overlapped_groups r.size from to)
 
-  -- a column of numbers is lent as numbers, one of texts as texts, and none as nothing
+  -- lending is refused as for numbers or for texts, by the column's kind, and with `NoColumn` if there is no column
   pub lends-ints : option_map kind_of (slice_get r.column_indexes column) ≡ Some kind.Int → ints_refusal r column from to ≡ lend_refusal r column from to
   lends-ints is = skips (is_text (option_map kind_of (slice_get r.column_indexes column))) there (ap is_text is)
 
@@ -257,7 +257,7 @@ module _ {K : Type 0} (r : Rows K) (column from to : ℕ) where
     by None none = refl
     by (Some s) none = absurd (none-some (kind_of s) (sym none))
 
-  -- each part of what can be lent of a column of texts can be lent
+  -- if a range of a text column may be lent, so may each range within it
   pub texts-part : 0 < r.size → (a b : ℕ) → from ≤ a → a ≤ b → b ≤ to → texts_refusal r column from to ≡ None → texts_refusal r column a b ≡ None
   texts-part some a b low between high none =
       let groups : ℕ → ℕ → List (Bool × Refusal) = λ m n. map (absent_in r column) (overlapped_groups r.size m n) in
@@ -284,12 +284,12 @@ pieces-given of pieces (reply.Job n) is = absurd is
 pieces-given of pieces (reply.Next found) is = absurd is
 pieces-given of pieces (reply.Refused why) is = absurd is
 
--- pieces joined are the piece of all their places
+-- joining pieces is the same as taking one piece of all their places
 pub joined : {X : Type 0} (field : Piece → List X) (of : Place → X) (c : ℕ) → ((places : List Place) → field (piece_of c places) ≡ map of places) → (pieces : List (List Place)) → flat_map field (map (piece_of c) pieces) ≡ map of (flat_map (λ p. p) pieces)
 joined field of c each [] = refl
 joined field of c each (one ∷ pieces) = (λ i. each one i ++ joined field of c each pieces i) ∙ sym (map-append of one (flat_map (λ p. p) pieces))
 
--- the pieces of a part of a column, joined
+-- the pieces of a range, joined, are the range
 module _ (table : Table) (limits : AreLimits table.limits) (column from to : ℕ) (low : from ≤ to) where
   all : flat_map (λ p. p) (pieces_of table.places table.limits.group from to) ≡ slice_range table.places from to
   all = joined-pieces table.places table.limits.group limits.group_low from to low
@@ -302,7 +302,7 @@ module _ (table : Table) (limits : AreLimits table.limits) (column from to : ℕ
   part-flags = joined (λ piece. piece.flags) (λ place. place.alive) column (λ places. refl) (pieces_of table.places table.limits.group from to)
       ∙ ap flags_of all ∙ sym (flags-range column table.places from to)
 
-  -- what a lending gives, joined
+  -- the pieces of a lend reply, joined, are the range
   module _ (given : Reply) (gives : IsReplyOf (slice_get table.schema column) (lent_part table column from to) given) where
     the-pieces : pieces_in given ≡ lent_part table column from to
     the-pieces = pieces-given (slice_get table.schema column) (lent_part table column from to) given gives
@@ -313,7 +313,7 @@ module _ (table : Table) (limits : AreLimits table.limits) (column from to : ℕ
     pub given-flags : flat_map (λ piece. piece.flags) (pieces_in given) ≡ slice_range (flags_of table.places) from to
     given-flags = ap (flat_map (λ piece. piece.flags)) the-pieces ∙ part-flags
 
--- the rows of a table are those that hold its places
+-- the rows hold the table's places
 pub record AreHeld {K : Type 0} (content : K → List ℕ) (held : Rows K) (table : Table) : Type 0 where
   pub rows : AreRows content held
   pub places : table.places ≡ places_in content held
@@ -327,7 +327,7 @@ are-held {K} content t held inside s is are places same_length limits of view = 
   size = ap (λ (r : Rows K). r.size) is ∙ same_length ∙ ap (λ (l : Limits). l.group) limits ∙ ap (λ (u : LiveState K). u.table.limits.group) view;
 }
 
--- what rows lend, said of the places that they hold
+-- what the rows lend are parts of the table
 module _ {K : Type 0} (content : K → List ℕ) (held : Rows K) (table : Table) (are : AreHeld content held table) (column : ℕ) where
   pub lent-ints : (from to : ℕ) (r : Result (List (Numbers × List Bool)) Refusal) → IfOk r (λ lents. lents ≡ lent_ints content held column from to) → refusal_in r ≡ ints_refusal held column from to
       → IfOk r (λ lents. map ints_lent lents ≡ lent_part table column from to)
@@ -353,7 +353,7 @@ module _ {K : Type 0} (content : K → List ℕ) (held : Rows K) (table : Table)
       ap (λ (places : List Place). slice_get (column_of column places) place) are.places ∙ cell-read content held are.rows column place (text_cell (text_of text)) (is-below place (length held.alive) row.0) one
   lent-text text_of place (Err e) one due = one
 
--- one more of what is lent is copied
+-- copying one more of the lent parts
 module _ {Y L : Type 0} (f : L → Y) (all : List Y) where
   pub copied-more : (had new : List Y) (y : Y) (lents rest : List L) (x : L) → new ≡ had ++ y ∷ [] → lents ≡ x ∷ rest → y ≡ f x → had ++ map f lents ≡ all → new ++ map f rest ≡ all
   copied-more had new y lents rest x more is same before =
@@ -365,7 +365,7 @@ module _ {Y L : Type 0} (f : L → Y) (all : List Y) where
 pub copies-pushed : {X Y : Type 0} (shown : X → Y) (had new : List X) (x : X) → new ≡ had ++ x ∷ [] → map shown new ≡ map shown had ++ shown x ∷ []
 copies-pushed shown had new x more = ap (map shown) more ∙ map-append shown had (x ∷ [])
 
--- what is copied is what a lending replies
+-- a reply with the copied pieces is a correct reply to a lend
 pub lent-reply : {K : Type 0} (column from to : ℕ) (old new : State K) (given : Reply) (refuses : Refusal → Type 0) → IsReplyOf (slice_get old.table.schema column) (lent_part old.table column from to) given → lend_refusal old.rows column from to ≡ None
     → AreObserved column (overlapped_groups old.rows.size from to) old new → Replies (λ served. IsLent column from to old served new) refuses given
 lent-reply column from to old new (reply.Ints copies) refuses gives due accesses = record { due = due; says = gives; used = accesses }
@@ -378,7 +378,7 @@ lent-reply column from to old new (reply.Job n) refuses gives due accesses = abs
 lent-reply column from to old new (reply.Next found) refuses gives due accesses = absurd gives
 lent-reply column from to old new (reply.Refused why) refuses gives due accesses = absurd gives
 
--- a piece of texts more is copied
+-- copying one more piece of texts
 module _ (column : ℕ) (places : List Place) (size : ℕ) (some : 0 < size) (start to : ℕ) (more : start < to) (all : List Piece) where
   pub copied-texts-more : (had new : List TextPiece) (copy : TextPiece) (lent : List (Option (List ℕ) × Bool)) → new ≡ had ++ copy ∷ [] → text_piece copy ≡ texts_lent lent
       → map (λ (cell : Option (List ℕ) × Bool). text_cell cell.0) lent ≡ part column start (min to ((start / size + 1) * size)) places → map (λ (cell : Option (List ℕ) × Bool). cell.1) lent ≡ slice_range (flags_of places) start (min to ((start / size + 1) * size))

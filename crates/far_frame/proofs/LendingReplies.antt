@@ -1,4 +1,4 @@
--- The reply that gives the pieces of a part: its cells and its flags, as vectors.
+-- A reply with the pieces of a part exists: its cells and flags as vectors.
 use Rattle.std.proofs.Common.{◌≡◌, ℕ, suc, ◌+◌, ◌-◌, ◌/◌, ◌<◌, ◌≤◌, ◌^◌, Bool, List, [], ◌∷◌, ◌++◌, length, map, drop, Option, None, Some, inl, inr, refl, sym, ap, subst, ◌∙◌, arith}
 use Rattle.std.specs.Prelude.{⊤, ℤ, slice_range, slice_get}
 use Rattle.std.specs.List.{flat_map}
@@ -27,11 +27,11 @@ use Rattle.far_frame.proofs.LendingLaws.{cells-range, joined}
 abbrev heap : Global
 heap = record { memory = record { seal = tt } }
 
--- a list as a vector
+-- a vector with the elements of a list
 abbrev vec_of : {X : Type 0} (xs : List X) → length xs < 2 ^ 63 → Vec X Global
 vec_of xs few = record { ptr = null_ptr; len = length xs; cap = length xs; alloc = heap; items = xs; ok = (refl, omega arith); small = few }
 
--- what holds of each item of a list
+-- each element of a list has the property P
 abbrev Each : {X : Type 0} → (X → Type 0) → List X → Type 0
 Each P [] = ⊤
 Each P (x ∷ xs) = P x × Each P xs
@@ -49,9 +49,9 @@ module _ {X : Type 0} (P : X → Type 0) where
   each-both [] ys first rest = rest
   each-both (x ∷ xs) ys first rest = (first.0, each-both xs ys first.1 rest)
 
--- values of a kind, of which cells are made
+-- values of one kind, and the cells that are made of them
 module _ {V : Type 0} (as_cell : V → Cell) (value_of : Cell → V) (again : (v : V) → as_cell (value_of (as_cell v)) ≡ as_cell v) where
-  -- a cell is of this kind
+  -- the cell is of this kind
   abbrev IsOf : Cell → Type 0
   IsOf it = as_cell (value_of it) ≡ it
 
@@ -63,7 +63,7 @@ module _ {V : Type 0} (as_cell : V → Cell) (value_of : Cell → V) (again : (v
   read-again [] each = refl
   read-again (it ∷ cells) each = λ i. each.0 i ∷ read-again cells each.1 i
 
-  -- pieces of a column of this kind are copied
+  -- pieces of a column of this kind can be copied
   module _ {Copy : Type 0} (shown : Copy → Piece) (copy : (vs : List V) (flags : List Bool) → length vs < 2 ^ 63 → length flags < 2 ^ 63 → (it : Copy) × (shown it ≡ record { cells = map as_cell vs; flags = flags })) (column : ℕ) where
     copied : (pieces : List (List Place)) → length (flat_map (λ p. p) pieces) < 2 ^ 63 → Each IsOf (column_of column (flat_map (λ p. p) pieces))
         → (copies : List Copy) × (map shown copies ≡ map (piece_of column) pieces) × (length copies ≡ length pieces)

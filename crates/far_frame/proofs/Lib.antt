@@ -1,4 +1,5 @@
 mod StepsLaws
+mod StoresLaws
 mod MovementPins
 mod PinsRows
 mod PinsRefusals

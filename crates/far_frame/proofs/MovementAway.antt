@@ -1,4 +1,4 @@
--- Which changes of objects leave their pins, and each where it is. A new one is local.
+-- Changes of objects that keep their pins, and which of them are away. A new object is local.
 use Rattle.std.proofs.Common.{◌≡◌, ℕ, zero, suc, ◌+◌, ◌==◌, Bool, true, false, if◌then◌else◌, List, map, [], ◌∷◌, ◌++◌, length, ℤ, Option, Some, refl, ap, ◌∙◌}
 use Rattle.std.specs.Prelude.{slice_get}
 use Rattle.std.specs.Option.{option_map_or}
@@ -25,7 +25,7 @@ use Rattle.far_texts.specs.Together.{after_create_all}
 use Rattle.far_frame.specs.TableViews.{is_remote}
 use Rattle.far_frame.proofs.MovementPins.{reads-same, says_pins, with_changed, pins-more, pins-lens}
 
--- whether a word, if there is one, says that its object is away
+-- whether a word exists and is remote
 abbrev pub says_away : Option Pointer → Bool
 says_away word = option_map_or is_remote word false
 
@@ -41,14 +41,14 @@ away-moved : (to : At) (word : Pointer) → says_away (Some (with_at word to)) �
 away-moved to (Local at dirty hot far) = refl
 away-moved to Remote = refl
 
--- a local object more
+-- adding a local object leaves which of the others are away
 away-more : (words : List Pointer) (at : At) (dirty hot far : Bool) (p : ℕ) → says_away (slice_get (words ++ Local at dirty hot far ∷ []) p) ≡ says_away (slice_get words p)
 away-more [] at dirty hot far zero = refl
 away-more [] at dirty hot far (suc p) = refl
 away-more (w ∷ words) at dirty hot far zero = refl
 away-more (w ∷ words) at dirty hot far (suc p) = away-more words at dirty hot far p
 
--- a compaction
+-- compacting a segment leaves which objects are away
 module _ {X : Type 0} (parts : List (Part X)) (order : List ℕ) (from to : ℕ) where
   away-either : (b : Bool) (at : At) (dirty hot far : Bool) → says_away (Some (if b then Local record { segment = to; offset = offset_after parts order at.offset } dirty false far else Local at dirty hot far)) ≡ false
   away-either true at dirty hot far = refl
@@ -63,7 +63,7 @@ module _ {X : Type 0} (parts : List (Part X)) (order : List ℕ) (from to : ℕ)
   away-map (w ∷ words) zero = away-word w
   away-map (w ∷ words) (suc p) = away-map words p
 
--- lists that are placed anew
+-- replacing lists leaves which objects are away
 moved-away : {X : Type 0} (rs : List (Replacement X)) (region : RegionState X) (words : List Pointer) (p : ℕ) → says_away (slice_get (moved_all region words rs) p) ≡ says_away (slice_get words p)
 moved-away [] region words p = refl
 moved-away (r ∷ rs) region words p =
@@ -72,7 +72,7 @@ moved-away (r ∷ rs) region words p =
     ∙ moved-away rs (with_new region r.list.items) words p
 
 module _ {X K : Type 0} where
-  -- each object has the pins that it had, and is away exactly if it was
+  -- each object keeps its pins, and is away exactly if it was away before
   pub record KeepsAway (old new : Movement X K) : Type 0 where
     pub pins : (o : ℕ) → pins_of new o ≡ pins_of old o
     pub away : (o : ℕ) → says_away (word_of new o) ≡ says_away (word_of old o)

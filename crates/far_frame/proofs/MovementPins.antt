@@ -1,4 +1,4 @@
--- Which changes of objects leave their pins, and those that have some where they are.
+-- Changes of objects that keep their pins, and keep pinned local objects local.
 use Rattle.std.proofs.Common.{◌≡◌, ◌≢◌, ℕ, zero, suc, ◌+◌, ◌-◌, ◌==◌, Bool, true, false, if◌then◌else◌, List, [], ◌∷◌, ◌++◌, map, length, ℤ, Option, None, Some, refl, sym, ap, subst, ◌∙◌, arith}
 use Rattle.std.specs.Prelude.{is_some, slice_get, slice_set}
 use Rattle.std.specs.Option.{option_map_or, option_and_then}
@@ -26,7 +26,7 @@ use Rattle.far_texts.specs.Together.{after_create_all}
 pub false-true : {A : Type 0} → false ≡ true → A
 false-true h = absurd (let on : true ≡ false = sym h in cc)
 
--- one element is changed
+-- changing one element of a list
 module _ {X : Type 0} (change : X → X) where
   abbrev pub with_changed : List X → ℕ → List X
   with_changed xs o = option_map_or (λ x. slice_set xs o (change x)) (slice_get xs o) xs
@@ -37,7 +37,7 @@ module _ {X : Type 0} (change : X → X) where
     found None = refl
     found (Some y) = refl
 
-  -- what the change does not touch is seen as before, of every element
+  -- a property that the change keeps is kept for every element of the list
   pub reads-same : {A : Type 0} (reading : Option X → A) → ((x : X) → reading (Some (change x)) ≡ reading (Some x)) → (xs : List X) (o p : ℕ) → reading (slice_get (with_changed xs o) p) ≡ reading (slice_get xs p)
   reads-same reading same [] o p = refl
   reads-same reading same (x ∷ xs) zero zero = same x
@@ -45,7 +45,7 @@ module _ {X : Type 0} (change : X → X) where
   reads-same reading same (x ∷ xs) (suc o) zero = ap (λ (l : List X). reading (slice_get l zero)) (changed-later x xs o)
   reads-same reading same (x ∷ xs) (suc o) (suc p) = ap (λ (l : List X). reading (slice_get l (suc p))) (changed-later x xs o) ∙ reads-same reading same xs o p
 
--- whether a word, if there is one, says that its object is local
+-- whether a word exists and is local
 abbrev pub says_local : Option Pointer → Bool
 says_local word = is_some (option_and_then at_of word)
 
@@ -61,7 +61,7 @@ local-moved : (to : At) (word : Pointer) → says_local (Some (with_at word to))
 local-moved to (Local at dirty hot far) = refl
 local-moved to Remote = refl
 
--- a word more, and a word that says an object is local, take none away
+-- adding a word, or making one local, keeps local objects local
 local-more : (words : List Pointer) (word : Pointer) (p : ℕ) → says_local (slice_get words p) ≡ true → says_local (slice_get (words ++ word ∷ []) p) ≡ true
 local-more [] word p here = false-true here
 local-more (w ∷ words) word zero here = here
@@ -74,7 +74,7 @@ local-arriving (w ∷ words) zero at dirty hot far (suc p) here = here
 local-arriving (w ∷ words) (suc o) at dirty hot far zero here = here
 local-arriving (w ∷ words) (suc o) at dirty hot far (suc p) here = local-arriving words o at dirty hot far p here
 
--- a word that says an object is away takes no other away
+-- making one word remote keeps the other local objects local
 local-gone : (words : List Pointer) (o p : ℕ) → (p ≡ o → ⊥) → says_local (slice_get words p) ≡ true → says_local (slice_get (slice_set words o Remote) p) ≡ true
 local-gone [] o p other here = false-true here
 local-gone (w ∷ words) zero zero other here = absurd (other refl)
@@ -82,7 +82,7 @@ local-gone (w ∷ words) zero (suc p) other here = here
 local-gone (w ∷ words) (suc o) zero other here = here
 local-gone (w ∷ words) (suc o) (suc p) other here = local-gone words o p (λ same. other (ap suc same)) here
 
--- a compaction takes none away
+-- compacting a segment keeps local objects local
 module _ {X : Type 0} (parts : List (Part X)) (order : List ℕ) (from to : ℕ) where
   local-either : (b : Bool) (at : At) (dirty hot far : Bool) → says_local (Some (if b then Local record { segment = to; offset = offset_after parts order at.offset } dirty false far else Local at dirty hot far)) ≡ true
   local-either true at dirty hot far = refl
@@ -97,7 +97,7 @@ module _ {X : Type 0} (parts : List (Part X)) (order : List ℕ) (from to : ℕ)
   local-map (w ∷ words) zero = local-word w
   local-map (w ∷ words) (suc p) = local-map words p
 
--- lists that are placed anew take none away
+-- replacing lists keeps local objects local
 moved-local : {X : Type 0} (rs : List (Replacement X)) (region : RegionState X) (words : List Pointer) (p : ℕ) → says_local (slice_get (moved_all region words rs) p) ≡ says_local (slice_get words p)
 moved-local [] region words p = refl
 moved-local (r ∷ rs) region words p =
@@ -106,7 +106,7 @@ moved-local (r ∷ rs) region words p =
     ∙ moved-local rs (with_new region r.list.items) words p
 
 module _ {K : Type 0} where
-  -- how many pins a record, if there is one, says
+  -- the pins in a record, or 0 if there is none
   abbrev pub says_pins : Option (ObjectRecord K) → ℕ
   says_pins object_record = option_map_or (λ e. e.pins) object_record 0
 
@@ -125,7 +125,7 @@ module _ {K : Type 0} where
   abbrev pub one_less : ObjectRecord K → ObjectRecord K
   one_less object_record = record object_record { pins = object_record.pins - 1 }
 
-  -- if there is no pin none is taken off
+  -- unpinning an object leaves one without pins without pins
   pins-less : (records : List (ObjectRecord K)) (o p : ℕ) → says_pins (slice_get records p) ≡ 0 → says_pins (slice_get (with_record records o one_less) p) ≡ 0
   pins-less [] o p none = none
   pins-less (e ∷ records) zero zero none = omega (arith, none)
@@ -134,7 +134,7 @@ module _ {K : Type 0} where
   pins-less (e ∷ records) (suc o) (suc p) none = ap (λ (l : List (ObjectRecord K)). says_pins (slice_get l (suc p))) (changed-later one_less e records o) ∙ pins-less records o p none
 
 module _ {X K : Type 0} where
-  -- each object has the pins that it had, and those that have some and are local stay local
+  -- each object keeps its pins, and pinned local objects stay local
   pub record KeepsPinned (old new : Movement X K) : Type 0 where
     pub pins : (o : ℕ) → pins_of new o ≡ pins_of old o
     pub here : (o : ℕ) → pins_of old o ≢ 0 → is_local old o ≡ true → is_local new o ≡ true
@@ -190,7 +190,7 @@ module _ {X K : Type 0} where
   pub keeps-after_arrive : (m : Movement X K) (o : ℕ) (list : List X) → KeepsPinned m (after_arrive m o list)
   keeps-after_arrive m o list = record { pins = λ p. refl; here = λ p some here. local-arriving m.memory.words o (spot m.memory.state (length list)) false true true p here }
 
-  -- an object goes away that has no pin
+  -- evicting an object without pins keeps pinned objects local
   pub keeps-after_leave : (m : Movement X K) (o : ℕ) (ticket : K) → pins_of m o ≡ 0 → KeepsPinned m (after_leave m o ticket)
   keeps-after_leave m o ticket free = record {
     pins = λ p. reads-same (λ (object_record : ObjectRecord K). record object_record { leavings = object_record.leavings + 1; ticket = Some ticket }) says_pins (λ e. refl) m.records o p;
@@ -220,7 +220,7 @@ module _ {X K : Type 0} where
   pub keeps-set : (m : Movement X K) (v : Vector X) (i : ℕ) (x : X) → KeepsPinned m (after_write_range m v i (x ∷ []))
   keeps-set m v i x = keeps-range m v i (x ∷ [])
 
-  -- pins are put on and taken off where objects are
+  -- pinning and unpinning leave which objects are local
   pub after_pin-here : (m : Movement X K) (o p : ℕ) → is_local (after_pin m o) p ≡ is_local m p
   after_pin-here m o p = refl
 

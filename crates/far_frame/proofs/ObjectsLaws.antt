@@ -1,4 +1,4 @@
--- The space of a region is within its capacity.
+-- The space of a region is at most its capacity.
 use Rattle.std.proofs.Common.{◌≤◌, arith}
 use Rattle.std.proofs.lemmas.List.Sums.{sum_by-le-sum_by}
 use Rattle.far_log.specs.RegionState.{RegionState, SegmentState, capacity_of, space_in, space_of}

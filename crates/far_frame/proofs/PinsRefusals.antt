@@ -1,4 +1,4 @@
--- What is reported as away has no pin, if all that have one are local.
+-- An object that a refusal reports as absent has no pin, if all pinned objects are local.
 use Rattle.std.proofs.Common.{◌≡◌, ◌≢◌, inl, inr, ℕ, Bool, true, false, not, List, map, [], ◌∷◌, Option, None, Some, IfSome, IsSomeAnd, refl, sym, ap, subst, ◌∙◌}
 use Rattle.std.specs.Prelude.{cond, option_map, slice_get}
 use Rattle.std.specs.Option.{option_and_then, option_map_or, option_or}
@@ -26,7 +26,7 @@ use Rattle.far_frame.proofs.MovementPins.{unpinned-some}
 use Rattle.far_frame.proofs.PinsRows.{not-on, no-some, one-some, moves-after_pin, moves-unpinned}
 
 module _ {K : Type 0} (r : Rows K) (column group : ℕ) where
-  -- the object of a row group of a column is reported as away if it is not local
+  -- the test for an absent object applies exactly if the object is not local
   away-number : (found : Option ℕ) (o : Object) → option_map (λ p. object.Number p) found ≡ Some o → (option_map_or (absent r.number_objects) found (false, refusal.StaleJob)).0 ≡ not (is_here r o)
   away-number None o is = no-some o is
   away-number (Some p) o is = ap (λ (q : Object). not (is_here r q)) (one-some (object.Number p) o is)
@@ -56,12 +56,12 @@ module _ {K : Type 0} (r : Rows K) (column group : ℕ) where
   none-first None (false, e) cases none = refl
   none-first (Some d) case cases none = no-some d (sym none)
 
-  -- what may be pinned is local
+  -- an object that may be pinned is local
   pin-here : pin_refusal r column group ≡ None → (o : Object) → object_at r column group ≡ Some o → is_here r o ≡ true
   pin-here none o is =
       not-here (is_here r o) (sym (away-at o is) ∙ none-first (object_refusal r column group) (absent_in r column group) (option_map_or (pins_used r) (object_at r column group) (false, refusal.StaleJob) ∷ []) none)
 
-  -- what is reported as away has no pin
+  -- an object whose test for absence applies has no pin
   pub free-away : ArePinnedHere r → (absent_in r column group).0 ≡ true → (found : Option Object) → object_at r column group ≡ found → IfSome found (λ o. pins_at r o ≡ 0)
   free-away all away None is = tt
   free-away all away (Some o) is = elim (cases_eq (pins_at r o) 0) [
@@ -101,7 +101,7 @@ module _ {K : Type 0} (r now : Rows K) where
   unpinned-holds None h all o some = absurd h
   unpinned-holds (Some q) h all o some = moves-unpinned r now (Some q) h o ∙ all o (still-some q o (subst (λ (t : Rows K). pins_at t o ≢ 0) h some))
 
--- why a lending says that an object is away
+-- if a lend is refused with `Absent`, this refusal was due
 pub due-absent : (due : Option Refusal) (c g : ℕ) → MayRefuse due true (refusal.Absent c g) → due ≡ Some (refusal.Absent c g)
 due-absent None c g h = absurd (let is : refusal.Absent c g ≡ refusal.NoMemory = h.0 in cc)
 due-absent (Some d) c g h = ap Some (sym h)

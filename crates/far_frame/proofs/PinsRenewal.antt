@@ -1,4 +1,4 @@
--- A table that goes on with another store: each object has the pins that it had, and is local if it was.
+-- After a migration to another store each object has its pins, and is local if it was local.
 use Rattle.std.proofs.Common.{◌≡◌, ℕ, zero, suc, List, [], ◌∷◌, map, length, Option, refl, ap, ◌∙◌}
 use Rattle.std.specs.Prelude.{is_some, slice_get}
 use Rattle.std.specs.List.{zip}
@@ -49,14 +49,14 @@ module _ {K L : Type 0} where
     rows-pinned r tickets renews (object.Number o) = object_record-pins r.number_objects.records tickets.numbers renews.numbers.same_length o
     rows-pinned r tickets renews (object.Text o) = object_record-pins r.text_objects.records tickets.texts renews.texts.same_length o
 
-    -- after a migration each object has the pins that it had
+    -- each object keeps its pins
     pub migrated-pins : (id : List ℕ) (old : World K) (new : World L) → IsMigratedTo content new_content id old new → (o : Object) → pins_at new.state.rows o ≡ pins_at old.state.rows o
     migrated-pins id old new h o = ap (λ (t : State L). pins_at t.rows o) h.migrated.state ∙ rows-pinned old.state.rows h.migrated.tickets h.migrated.renews o
 
-    -- and is local if it was
+    -- each object is local if it was local
     pub migrated-here : (id : List ℕ) (old : World K) (new : World L) → IsMigratedTo content new_content id old new → (o : Object) → is_here new.state.rows o ≡ is_here old.state.rows o
     migrated-here id old new h o = ap (λ (t : State L). is_here t.rows o) h.migrated.state ∙ rows-local old.state.rows h.migrated.tickets o
 
-    -- so each object that has a pin is local after the migration, if it was so before
+    -- each pinned object is local, if this was so before
     pub migrated-holds : (id : List ℕ) (old : World K) (new : World L) → ArePinnedHere old.state.rows → IsMigratedTo content new_content id old new → ArePinnedHere new.state.rows
     migrated-holds id old new all h o some = migrated-here id old new h o ∙ all o (λ none. some (migrated-pins id old new h o ∙ none))

@@ -1,4 +1,4 @@
--- Which changes of rows leave the pins of their objects, and those that have some where they are.
+-- Changes of rows that keep the pins of their objects, and keep pinned local objects local.
 use Rattle.std.proofs.Common.{◌≡◌, ◌≢◌, ℕ, Bool, true, false, List, [], ◌∷◌, length, ℤ, Option, None, Some, IfSome, IsSomeAnd, refl, sym, ap, subst, ◌∙◌}
 use Rattle.std.specs.Prelude.{option_map, slice_get}
 use Rattle.std.specs.Option.{option_map_or}
@@ -47,7 +47,7 @@ pub one-some : {A : Type 0} (x y : A) → Some x ≡ Some y → x ≡ y
 one-some x y h = cc
 
 module _ {K : Type 0} where
-  -- the objects of rows keep their pins, and those that have some and are local stay local
+  -- the objects of the rows keep their pins, and pinned local objects stay local
   pub record KeepsRows (old new : Rows K) : Type 0 where
     pub numbers : KeepsPinned old.number_objects new.number_objects
     pub texts : KeepsPinned old.text_objects new.text_objects
@@ -66,7 +66,7 @@ module _ {K : Type 0} where
   rows-pins old new k (object.Number o) = k.numbers.pins o
   rows-pins old new k (object.Text o) = k.texts.pins o
 
-  -- an edit
+  -- an edit keeps pins
   module _ (content : K → List ℕ) (r : Rows K) where
     rows-column_index : (s : ColumnIndex) (place : ℕ) (value : NewCell) → KeepsRows r (set_in content r s place value)
     rows-column_index (column_index.Number i) place (new_cell.Number number) = by (slice_get r.numbers i) where
@@ -99,7 +99,7 @@ module _ {K : Type 0} where
       texts = subst (KeepsPinned r.text_objects) (sym (ap (λ (t : Rows K). t.text_objects) h)) (keeps-same r.text_objects);
     }
 
-  -- a lending
+  -- a lend keeps pins
   rows-after_touch : (r : Rows K) (o : Object) → KeepsRows r (after_touch r o)
   rows-after_touch r (object.Number o) = record { numbers = keeps-after_touch r.number_objects o; texts = keeps-same r.text_objects }
   rows-after_touch r (object.Text o) = record { numbers = keeps-same r.number_objects; texts = keeps-after_touch r.text_objects o }
@@ -116,7 +116,7 @@ module _ {K : Type 0} where
         one None = rows-same r
         one (Some o) = rows-after_touch r o
 
-  -- a compaction
+  -- a compaction keeps pins
   pub rows-compacted : (k : Kind) (segment : ℕ) (old new : Rows K) → IsCompactedOf k segment old new → KeepsRows old new
   rows-compacted kind.Int segment old new h = record {
     numbers = keeps-compacted old.number_objects new.number_objects segment h.0 (λ p. ap (λ (r : Rows K). pins_of r.number_objects p) h.1);
@@ -127,7 +127,7 @@ module _ {K : Type 0} where
     texts = keeps-compacted old.text_objects new.text_objects segment h.0 (λ p. ap (λ (r : Rows K). pins_of r.text_objects p) h.1);
   }
 
-  -- the ends of jobs
+  -- the ends of jobs keep pins
   module _ (number_of : K → ℕ) (old new : State K) where
     pub commits-rows : (w : WorkOf K) → Commits number_of old w new → KeepsRows old.rows new.rows
     commits-rows (work.Carried (Numbers carried)) h =
@@ -169,7 +169,7 @@ module _ {K : Type 0} where
   pub stays : (old new : State K) → new.rows ≡ old.rows → KeepsRows old.rows new.rows
   stays old new same = rows-are old.rows old.rows new.rows same (rows-same old.rows)
 
-  -- what is pinned or unpinned stays where it is, as all others do
+  -- pinning and unpinning leave which objects are local
   pub moves-after_pin : (r now : Rows K) (found : Option Object) → IsSomeAnd found (λ q. now ≡ after_pin r q) → (o : Object) → is_here now o ≡ is_here r o
   moves-after_pin r now None h o = absurd h
   moves-after_pin r now (Some q) h o = ap (λ (t : Rows K). is_here t o) h ∙ by q o where

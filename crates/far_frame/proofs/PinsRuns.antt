@@ -1,4 +1,4 @@
--- No step sends away an object that has a pin.
+-- No step evicts a pinned object.
 use Rattle.std.proofs.Common.{◌≡◌, ◌≢◌, ℕ, true, false, List, [], ◌∷◌, Option, IfSome, refl, sym, ap, subst, ◌∙◌}
 use Rattle.far_types.specs.declared.cell.Kind.{Kind}
 use Rattle.far_types.specs.declared.limits.Limits.{Limits}
@@ -31,7 +31,7 @@ use Rattle.far_frame.proofs.PinsRows.{KeepsRows, not-on, rows-here, rows-pins, r
 use Rattle.far_frame.proofs.StepsLaws.{replied, ended-so}
 
 module _ {K : Type 0} (content : K → List ℕ) (number_of : K → ℕ) where
-  -- a step on the table
+  -- a step on the table keeps pins
   module _ (old new : State K) where
     unchanged : new ≡ old → KeepsRows old.rows new.rows
     unchanged same = stays old new (ap (λ (t : State K). t.rows) same)
@@ -84,11 +84,11 @@ module _ {K : Type 0} (content : K → List ℕ) (number_of : K → ℕ) where
   step-keeps old (step.Install n) given new is h = ended-so content number_of old new given n (Installs number_of old.state content) (InstallRefusal number_of old.state content) (installs-rows number_of old.state new.state content) (unchanged old.state new.state) h
   step-keeps old (step.Merge n) given new is h = ended-so content number_of old new given n (Merges number_of old.state) (MergeRefusal number_of old.state) (merges-rows number_of old.state new.state) (unchanged old.state new.state) h
 
-  -- only Pin and Unpin change how many pins an object has
+  -- only `Pin` and `Unpin` change the number of an object's pins
   pub step-pins : (old : World K) (s : Step) (given : Reply) (new : World K) → is_pinning s ≡ false → IsStep content number_of old s given new → (o : Object) → pins_at new.state.rows o ≡ pins_at old.state.rows o
   step-pins old s given new is h o = rows-pins old.state.rows new.state.rows (step-keeps old s given new is h) o
 
-  -- an object that has a pin stays local at every step
+  -- a pinned local object stays local in each step
   pub step-stays : (old : World K) (s : Step) (given : Reply) (new : World K) → IsStep content number_of old s given new → (o : Object) → pins_at old.state.rows o ≢ 0 → is_here old.state.rows o ≡ true → is_here new.state.rows o ≡ true
   step-stays old (step.Pin column group) given new h o some here = replied (λ served. Accepts content old.state (step.Pin column group) served new.state) (λ why. Refuses old.state (step.Pin column group) why new.state) given
       (λ served k. moves-after_pin old.state.rows new.state.rows (object_at old.state.rows column group) k.2.changed.rows o ∙ here)
@@ -98,7 +98,7 @@ module _ {K : Type 0} (content : K → List ℕ) (number_of : K → ℕ) where
       (λ why k. ap (λ (t : State K). is_here t.rows o) k.0 ∙ here) h.0
   step-stays old s given new h o some here = rows-here old.state.rows new.state.rows (step-keeps old s given new refl h) o some here
 
-  -- a pin is put on an object that is local
+  -- `Pin` pins only local objects
   pin-holds : (old new : World K) (column group : ℕ) (given : Reply) → IsStep content number_of old (step.Pin column group) given new → ArePinnedHere old.state.rows → ArePinnedHere new.state.rows
   pin-holds old new column group given h all = replied (λ served. Accepts content old.state (step.Pin column group) served new.state) (λ why. Refuses old.state (step.Pin column group) why new.state) given
       (λ served k. after_pin-holds old.state.rows column group new.state.rows k.1 k.2.changed.rows all)
@@ -119,19 +119,19 @@ module _ {K : Type 0} (content : K → List ℕ) (number_of : K → ℕ) where
   step-holds old (step.Unpin column group) given new h all = unpin-holds old new column group given h all
   step-holds old s given new h all = keeps-holds old.state.rows new.state.rows (step-keeps old s given new refl h) all
 
-  -- and so all are after any list of steps
-  pub run-holds : (old : World K) (steps : List Step) (replies : List Reply) (new : World K) → ArePinnedHere old.state.rows → IsRun content number_of old steps replies new → ArePinnedHere new.state.rows
-  run-holds old [] [] new all h = subst (λ (w : World K). ArePinnedHere w.state.rows) (sym h) all
-  run-holds old [] (given ∷ replies) new all h = absurd h
-  run-holds old (s ∷ steps) [] new all h = absurd h
-  run-holds old (s ∷ steps) (given ∷ replies) new all h = run-holds h.0 steps replies new (step-holds old s given h.0 h.1 all) h.2
+  -- so after any list of steps all pinned objects are local
+  pub run-holds : (is_of : K → List ℕ → Type 0) (old : World K) (steps : List Step) (replies : List Reply) (new : World K) → ArePinnedHere old.state.rows → IsRun is_of content number_of old steps replies new → ArePinnedHere new.state.rows
+  run-holds is_of old [] [] new all h = subst (λ (w : World K). ArePinnedHere w.state.rows) (sym h) all
+  run-holds is_of old [] (given ∷ replies) new all h = absurd h
+  run-holds is_of old (s ∷ steps) [] new all h = absurd h
+  run-holds is_of old (s ∷ steps) (given ∷ replies) new all h = run-holds is_of h.0 steps replies new (step-holds old s given h.0 h.1 all) h.3
 
-  -- a lending is not refused for an object that has a pin
+  -- a lend is not refused for the absence of a pinned object
   pub lent-free : (old : World K) → ArePinnedHere old.state.rows → (column from to c g : ℕ) (new : World K) → IsStep content number_of old (step.Lend column from to) (reply.Refused (refusal.Absent c g)) new → IfSome (object_at old.state.rows c g) (λ o. pins_at old.state.rows o ≡ 0)
   lent-free old all column from to c g new h =
       free-away old.state.rows c g all (absent-cause old.state.rows column from to c g (due-absent (lend_refusal old.state.rows column from to) c g h.0.1)) (object_at old.state.rows c g) refl
 
--- a table as it is opened has no pin
+-- a new table has no pinned object
 pub opened-holds : (K : Type 0) (schema : List Kind) (limits : Limits) (number : ℕ) → ArePinnedHere (empty_rows {K = K} schema limits number)
 opened-holds K schema limits number (object.Number o) some = absurd (some refl)
 opened-holds K schema limits number (object.Text o) some = absurd (some refl)

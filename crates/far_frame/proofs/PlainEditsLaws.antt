@@ -33,7 +33,7 @@ module _ {K : Type 0} (s : LiveState K) where
   space-tells (edit.Set p c cell) = ((λ full. refl), tt)
   space-tells (edit.Remove p) = tt
 
-  -- what a table over objects accepts, the plain list accepts
+  -- an edit that the table over objects accepts is one that the plain list accepts
   pub plain-accepts : (e : Edit) → edit_due s e ≡ None → edit_refusal s.table e ≡ None
   plain-accepts e free = free-plain (edit_faults s.table.schema s.table.limits s.table.places e) (absents s.rows (group_of s e)) (no_space s e) _ _ free
 

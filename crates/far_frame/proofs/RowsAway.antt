@@ -1,4 +1,4 @@
--- Which changes of rows leave the pins of their objects, and each where it is.
+-- Changes of rows that keep the pins of their objects, and which of them are away.
 use Rattle.std.proofs.Common.{◌≡◌, ℕ, Bool, true, false, List, [], ◌∷◌, length, ℤ, Option, None, Some, IfSome, refl, sym, ap, subst}
 use Rattle.std.specs.Prelude.{option_map, slice_get}
 use Rattle.std.specs.Option.{option_map_or}
@@ -32,7 +32,7 @@ use Rattle.far_frame.proofs.MovementAway.{KeepsAway, keeps-same, keeps-then, kee
 use Rattle.far_frame.proofs.PinsRows.{no-some}
 
 module _ {K : Type 0} where
-  -- the objects of rows keep their pins, and are away exactly if they were
+  -- the objects of the rows keep their pins, and are away exactly if they were away before
   pub record KeepsAwayRows (old new : Rows K) : Type 0 where
     pub numbers : KeepsAway old.number_objects new.number_objects
     pub texts : KeepsAway old.text_objects new.text_objects
@@ -51,7 +51,7 @@ module _ {K : Type 0} where
   rows-pins old new k (object.Number o) = k.numbers.pins o
   rows-pins old new k (object.Text o) = k.texts.pins o
 
-  -- an edit
+  -- an edit keeps them
   module _ (content : K → List ℕ) (r : Rows K) where
     rows-column_index : (s : ColumnIndex) (place : ℕ) (value : NewCell) → KeepsAwayRows r (set_in content r s place value)
     rows-column_index (column_index.Number i) place (new_cell.Number number) = by (slice_get r.numbers i) where
@@ -84,7 +84,7 @@ module _ {K : Type 0} where
       texts = subst (KeepsAway r.text_objects) (sym (ap (λ (t : Rows K). t.text_objects) h)) (keeps-same r.text_objects);
     }
 
-  -- a lending
+  -- a lend keeps them
   rows-after_touch : (r : Rows K) (o : Object) → KeepsAwayRows r (after_touch r o)
   rows-after_touch r (object.Number o) = record { numbers = keeps-after_touch r.number_objects o; texts = keeps-same r.text_objects }
   rows-after_touch r (object.Text o) = record { numbers = keeps-same r.number_objects; texts = keeps-after_touch r.text_objects o }
@@ -101,7 +101,7 @@ module _ {K : Type 0} where
         one None = rows-same r
         one (Some o) = rows-after_touch r o
 
-  -- a compaction
+  -- a compaction keeps them
   pub rows-compacted : (k : Kind) (segment : ℕ) (old new : Rows K) → IsCompactedOf k segment old new → KeepsAwayRows old new
   rows-compacted kind.Int segment old new h = record {
     numbers = keeps-compacted old.number_objects new.number_objects segment h.0 (λ p. ap (λ (r : Rows K). pins_of r.number_objects p) h.1);

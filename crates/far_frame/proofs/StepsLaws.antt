@@ -1,4 +1,4 @@
--- A run goes on by one step.
+-- One step of a run.
 use Rattle.std.proofs.Common.{◌≡◌, ◌≢◌, ℕ, ◌+◌, ◌≤◌, ◌==◌, Bool, true, false, if◌then◌else◌, cond, arith, List, [], ◌∷◌, ◌++◌, IsSomeAnd, ap, sym, ◌∙◌, subst, refl, Option, None, Some}
 use Rattle.std.specs.Prelude.{option_map, slice_range}
 use Rattle.std.specs.List.{flat_map}
@@ -32,9 +32,9 @@ use Rattle.far_frame.specs.Jobs.{JobRecord, WorkOf, IsEvacJob, IsFetchJob, IsOff
 use Rattle.far_frame.specs.declared.job.JobPhase.TheVariants as work
 use Rattle.far_frame.specs.Steps.{IsStep, IsRun}
 use Rattle.far_frame.specs.Waiting.{job_at}
-use Rattle.far_frame.specs.Worlds.{World, IsBegun, IsNotBegun, IsCarry, IsNoCarry, IsEnded, IsNotEnded}
+use Rattle.far_frame.specs.Worlds.{World, HasOwnTickets, IsBegun, IsNotBegun, IsCarry, IsNoCarry, IsEnded, IsNotEnded}
 
--- an aggregate that answers
+-- an aggregate that answers has its answer over the current rows
 answers-now : (places : List Place) (o : Option Registered) (x : Answer) → Answers places o x → IsSomeAnd o (λ r. x ≡ answer_over r.spec (rows_of places))
 answers-now places None x h = absurd h
 answers-now places (Some r) x h = h.1
@@ -47,7 +47,7 @@ one-answer : (o : Option Registered) (f : Registered → Answer) (x y : Answer) 
 one-answer None f x y h k = absurd h
 one-answer (Some r) f x y h k = h ∙ sym k
 
--- two aggregates of one specification answer the same over the same rows
+-- two aggregates with the same specification have the same answer over the same rows
 alike : (o p : Option Registered) (these those : List Place) (x y : Answer) → these ≡ those → option_map (λ (r : Registered). r.spec) o ≡ option_map (λ (r : Registered). r.spec) p
     → IsSomeAnd o (λ r. x ≡ answer_over r.spec (rows_of these)) → IsSomeAnd p (λ r. y ≡ answer_over r.spec (rows_of those)) → x ≡ y
 alike None p these those x y rows same h k = absurd h
@@ -67,7 +67,7 @@ recounted-same table a one other h k = one-answer (aggregate_at table a) (λ r. 
 given-answer : (x y : Answer) → reply.Answer x ≡ reply.Answer y → y ≡ x
 given-answer x y h = cc
 
--- whichever a reply is
+-- a consequence for each reply, whether it serves or refuses
 pub replied : {A : Type 0} (serves : Reply → Type 0) (refuses : Refusal → Type 0) (given : Reply) → ((served : Reply) → serves served → A) → ((why : Refusal) → refuses why → A) → Replies serves refuses given → A
 replied serves refuses (reply.Refused why) f g h = g why h
 replied serves refuses (reply.Place place) f g h = f (reply.Place place) h
@@ -79,7 +79,7 @@ replied serves refuses (reply.Texts pieces) f g h = f (reply.Texts pieces) h
 replied serves refuses (reply.Job n) f g h = f (reply.Job n) h
 replied serves refuses (reply.Next found) f g h = f (reply.Next found) h
 
--- a reply that is no refusal serves
+-- a reply that is not a refusal serves
 pub served : (serves : Reply → Type 0) (refuses : Refusal → Type 0) (given : Reply) → is_refused given ≡ false → Replies serves refuses given → serves given
 served serves refuses (reply.Refused why) is h = absurd (let on : true ≡ false = is in cc)
 served serves refuses (reply.Place place) is h = h
@@ -106,19 +106,19 @@ not-moved : false ≡ true → ⊥
 not-moved h = cc
 
 module _ {K : Type 0} (content : K → List ℕ) (number_of : K → ℕ) where
-  pub IsRun-push : (old mid new : World K) (ss : List Step) (rs : List Reply) (s : Step) (r : Reply) → IsRun content number_of old ss rs mid → IsStep content number_of mid s r new → IsRun content number_of old (ss ++ s ∷ []) (rs ++ r ∷ []) new
-  IsRun-push old mid new [] [] s r h k = (new, subst (λ t. IsStep content number_of t s r new) h k, refl)
-  IsRun-push old mid new [] (q ∷ rs) s r h k = absurd h
-  IsRun-push old mid new (t ∷ ss) [] s r h k = absurd h
-  IsRun-push old mid new (t ∷ ss) (q ∷ rs) s r h k = (h.0, h.1, IsRun-push h.0 mid new ss rs s r h.2 k)
+  pub IsRun-push : (is_of : K → List ℕ → Type 0) (old mid new : World K) (ss : List Step) (rs : List Reply) (s : Step) (r : Reply) → IsRun is_of content number_of old ss rs mid → IsStep content number_of mid s r new → HasOwnTickets is_of new → IsRun is_of content number_of old (ss ++ s ∷ []) (rs ++ r ∷ []) new
+  IsRun-push is_of old mid new [] [] s r h k own = (new, subst (λ t. IsStep content number_of t s r new) h k, own, refl)
+  IsRun-push is_of old mid new [] (q ∷ rs) s r h k own = absurd h
+  IsRun-push is_of old mid new (t ∷ ss) [] s r h k own = absurd h
+  IsRun-push is_of old mid new (t ∷ ss) (q ∷ rs) s r h k own = (h.0, h.1, h.2, IsRun-push is_of h.0 mid new ss rs s r h.3 k own)
 
-  pub runs-join : (old : World K) (steps : List Step) (replies : List Reply) (mid : World K) (more : List Step) (others : List Reply) (new : World K) → IsRun content number_of old steps replies mid → IsRun content number_of mid more others new → IsRun content number_of old (steps ++ more) (replies ++ others) new
-  runs-join old [] [] mid more others new h k = subst (λ s. IsRun content number_of s more others new) h k
-  runs-join old [] (given ∷ replies) mid more others new h k = absurd h
-  runs-join old (s ∷ steps) [] mid more others new h k = absurd h
-  runs-join old (s ∷ steps) (given ∷ replies) mid more others new h k = (h.0, h.1, runs-join h.0 steps replies mid more others new h.2 k)
+  pub runs-join : (is_of : K → List ℕ → Type 0) (old : World K) (steps : List Step) (replies : List Reply) (mid : World K) (more : List Step) (others : List Reply) (new : World K) → IsRun is_of content number_of old steps replies mid → IsRun is_of content number_of mid more others new → IsRun is_of content number_of old (steps ++ more) (replies ++ others) new
+  runs-join is_of old [] [] mid more others new h k = subst (λ s. IsRun is_of content number_of s more others new) h k
+  runs-join is_of old [] (given ∷ replies) mid more others new h k = absurd h
+  runs-join is_of old (s ∷ steps) [] mid more others new h k = absurd h
+  runs-join is_of old (s ∷ steps) (given ∷ replies) mid more others new h k = (h.0, h.1, h.2, runs-join is_of h.0 steps replies mid more others new h.3 k)
 
-  -- an answer is that of the aggregate
+  -- the reply to `Ask` is the answer of the aggregate
   answered : (old : World K) (a : ℕ) (x : Answer) (new : World K) → IsStep content number_of old (step.Ask a) (reply.Answer x) new → Answers old.state.table.places (aggregate_at old.state.table a) x
   answered old a x new k = (let same : k.0.0 ≡ x = given-answer x k.0.0 k.0.1 in subst (Answers old.state.table.places (aggregate_at old.state.table a)) same k.0.2)
 
@@ -132,7 +132,7 @@ module _ {K : Type 0} (content : K → List ℕ) (number_of : K → ℕ) where
       → (x : Answer) (new : World K) → IsStep content number_of old (step.Ask a) (reply.Answer x) new → x ≡ counted
   answer-recounted table a counted h old rows same x new k = alike (aggregate_at old.state.table a) (aggregate_at table a) old.state.table.places table.places x counted rows same (answer-now old a x new k) h
 
-  -- what is lent is that part of its column
+  -- the pieces in a reply to `Lend` are the part of the column
   module _ (old : World K) (limits : AreLimits old.state.table.limits) (column from to : ℕ) (given : Reply) (new : World K) (accepted : is_refused given ≡ false) (taken : IsStep content number_of old (step.Lend column from to) given new) where
     lent : IsLent column from to old.state given new.state
     lent = served (λ served. IsLent column from to old.state served new.state) (λ why. Refuses old.state (step.Lend column from to) why new.state) given accepted taken.0
@@ -143,7 +143,7 @@ module _ {K : Type 0} (content : K → List ℕ) (number_of : K → ℕ) where
     pub lent-flags : flat_map (λ piece. piece.flags) (pieces_in given) ≡ slice_range (flags_of old.state.table.places) from to
     lent-flags = given-flags old.state.table limits column from to (lends-low old.state.rows column from to lent.due) given lent.says
 
-  -- if the state stays, so does the world
+  -- if a step on the table keeps the state, it keeps the world
   same-world : (old new : World K) → new.state ≡ old.state → new ≡ record old { state = new.state } → new ≡ old
   same-world old new h k = k ∙ ap (λ (s : State K). record old { state = s }) h
 
@@ -210,7 +210,7 @@ module _ {K : Type 0} (content : K → List ℕ) (number_of : K → ℕ) where
   merges-rows old (work.Fetched fetched) new h = absurd h
   merges-rows old (work.Offload build) new h = absurd h
 
-  -- a merge that is accepted builds the row group of its build in, as a scan does
+  -- an accepted merge scans the row group of its build
   module _ (old : World K) (n : ℕ) (job : JobRecord K) (build : Build K) (is : job_at old.jobs n ≡ Some job) (phase : job.work ≡ work.Offloaded build) (new : World K) (taken : IsStep content number_of old (step.Merge n) reply.Done new) where
     merged : Merges number_of old.state (work.Offloaded build) new.state
     merged =
@@ -228,7 +228,7 @@ module _ {K : Type 0} (content : K → List ℕ) (number_of : K → ℕ) where
   same-faults : (old new : World K) (serves : Reply → World K → Type 0) (refuses : Refusal → World K → Type 0) (given : Reply) → ((served : Reply) → serves served new → new.faults ≡ old.faults) → ((why : Refusal) → refuses why new → new.faults ≡ old.faults) → Replies (λ served. serves served new) (λ why. refuses why new) given → new.faults ≤ old.faults + 1
   same-faults old new serves refuses given f g h = (let same = replied (λ served. serves served new) (λ why. refuses why new) given f g h in omega (arith, same))
 
-  -- a step of jobs leaves the table as it is
+  -- beginning and ending jobs keeps the table
   module _ (old new : World K) (given : Reply) where
     some-ended : {P : Type 0} (ends : WorkOf K → State K → Type 0) → ((w : WorkOf K) → ends w new.state → P) → (found : Option (JobRecord K)) → IsSomeAnd found (λ job. ends job.work new.state) → P
     some-ended ends each None h = absurd h
@@ -246,7 +246,7 @@ module _ {K : Type 0} (content : K → List ℕ) (number_of : K → ℕ) where
     ended-table : (n : ℕ) (ends : WorkOf K → State K → Type 0) (why : WorkOf K → Refusal → Type 0) → ((w : WorkOf K) → ends w new.state → new.state.table ≡ old.state.table) → Replies (λ served. IsEnded ends n old served new) (λ e. IsNotEnded why n old e new) given → new.state.table ≡ old.state.table
     ended-table n ends why each h = ended-so n ends why each (λ same. ap (λ (t : State K). t.table) same) h
 
-  -- a step that moves objects or is about a job leaves the table as it is
+  -- a step that moves objects or concerns a job keeps the table
   pub moved-table : (old : World K) (s : Step) (given : Reply) (new : World K) → is_movement s ≡ true → IsStep content number_of old s given new → new.state.table ≡ old.state.table
   moved-table old (step.Lend column from to) given new is k = replied (λ served. Accepts content old.state (step.Lend column from to) served new.state) (λ why. Refuses old.state (step.Lend column from to) why new.state) given (λ served h. h.used.table) (λ why h. ap (λ (t : State K). t.table) h.0) k.0
   moved-table old (step.Prefetch column) given new is k = replied (λ served. Accepts content old.state (step.Prefetch column) served new.state) (λ why. Refuses old.state (step.Prefetch column) why new.state) given (λ served h. ap (λ (t : State K). t.table) h.2) (λ why h. ap (λ (t : State K). t.table) h.0) k.0
@@ -288,13 +288,13 @@ module _ {K : Type 0} (content : K → List ℕ) (number_of : K → ℕ) where
   step-rows old (step.Install n) given new h = moved-rows old (step.Install n) given new refl h
   step-rows old (step.Merge n) given new h = either (is_refused given) old.state.table.places new.state.table.places (ended-so old new given n (Merges number_of old.state) (MergeRefusal number_of old.state) (λ w m. merges-rows old.state w new.state m) (λ same. ap (λ (t : State K). t.table.places) same) h)
 
-  pub run-rows : (old : World K) (steps : List Step) (replies : List Reply) (new : World K) → IsRun content number_of old steps replies new → new.state.table.places ≡ plain_rows steps replies old.state.table.places
-  run-rows old [] [] new h = ap (λ (t : World K). t.state.table.places) h
-  run-rows old [] (given ∷ replies) new h = absurd h
-  run-rows old (s ∷ steps) [] new h = absurd h
-  run-rows old (s ∷ steps) (given ∷ replies) new h = run-rows h.0 steps replies new h.2 ∙ ap (plain_rows steps replies) (step-rows old s given h.0 h.1)
+  pub run-rows : (is_of : K → List ℕ → Type 0) (old : World K) (steps : List Step) (replies : List Reply) (new : World K) → IsRun is_of content number_of old steps replies new → new.state.table.places ≡ plain_rows steps replies old.state.table.places
+  run-rows is_of old [] [] new h = ap (λ (t : World K). t.state.table.places) h
+  run-rows is_of old [] (given ∷ replies) new h = absurd h
+  run-rows is_of old (s ∷ steps) [] new h = absurd h
+  run-rows is_of old (s ∷ steps) (given ∷ replies) new h = run-rows is_of h.0 steps replies new h.3 ∙ ap (plain_rows steps replies) (step-rows old s given h.0 h.1)
 
-  -- a refused step leaves the table and its objects as they are
+  -- a refused step keeps the table and its objects
   pub refused-state : (old : World K) (s : Step) (e : Refusal) (new : World K) → IsStep content number_of old s (reply.Refused e) new → new.state ≡ old.state
   refused-state old (step.Edit e) why new h = h.0.0
   refused-state old (step.Watch spec) why new h = h.0.0
@@ -314,7 +314,7 @@ module _ {K : Type 0} (content : K → List ℕ) (number_of : K → ℕ) where
   refused-state old (step.Commit n) why new h = ap (λ (w : World K). w.state) h.world
   refused-state old (step.Install n) why new h = ap (λ (w : World K). w.state) h.world
 
-  -- a step meets one fault at most
+  -- a step meets at most one fault
   table-faults : (old new : World K) → new ≡ record old { state = new.state } → new.faults ≤ old.faults + 1
   table-faults old new h = omega (arith, ap (λ (w : World K). w.faults) h)
 

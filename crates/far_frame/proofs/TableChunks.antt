@@ -1,4 +1,4 @@
--- Steps that pin a chunk, or take a pin off, or send one away, or bring one back: no other changes.
+-- Steps that pin, unpin, evict or fetch a chunk: nothing else changes.
 use Rattle.std.proofs.Common.{◌≡◌, ◌≢◌, ◌<◌, ℕ, zero, suc, ◌+◌, ◌-◌, ℤ, Bool, true, false, not, List, [], ◌∷◌, length, Option, None, Some, IsSomeAnd, refl, sym, ap, subst, ◌∙◌, arith}
 use Rattle.std.specs.Prelude.{slice_get, slice_set}
 use Rattle.std.specs.Option.{option_map_or}
@@ -37,7 +37,7 @@ use Rattle.far_frame.proofs.PinsRows.{no-some}
 use Rattle.far_frame.proofs.TableNames.{once, in-use, owner, there}
 use Rattle.far_frame.proofs.TableObjects.{one-changed, objects-same, live-view}
 
--- one place of a list of words is set
+-- writing one word changes only whether its own object is away
 other-word : (words : List Pointer) (o p : ℕ) (word : Pointer) → (p ≡ o → ⊥) → says_away (slice_get (slice_set words o word) p) ≡ says_away (slice_get words p)
 other-word [] o p word other = refl
 other-word (w ∷ words) zero zero word other = absurd (other refl)
@@ -64,7 +64,7 @@ some-with P Q None f h = absurd h
 some-with P Q (Some x) f h = f x h
 
 module _ {K : Type 0} where
-  -- one pin more, one less
+  -- adding a pin, and removing one
   pin-more : (records : List (ObjectRecord K)) (o : ℕ) → o < length records → says_pins (slice_get (with_record records o (λ e. record e { pins = e.pins + 1 })) o) ≡ says_pins (slice_get records o) + 1
   pin-more [] o low = absurd (omega (arith, low))
   pin-more (e ∷ records) zero low = refl
@@ -131,7 +131,7 @@ module _ {K : Type 0} where
     as-seen : (now : Rows K) → new.rows ≡ now → table_of new ≡ seen now
     as-seen now is = λ i. record { table = table i; is_away = gone_at (is i); pins = pins_of_group (is i) }
 
-    -- rows in which the pins of one object alone differ, or whether it is away
+    -- changing the pins of one object, or whether it is away, changes only its chunk
     pins-view : (now : Rows K) → new.rows ≡ now → object_at now ≡ object_at r → ((o : Object) → is_gone now o ≡ is_gone r o) → (x c g : ℕ) (q : Object) → object_at r c g ≡ Some q → pins_at now q ≡ x → ((p : Object) → (p ≡ q → ⊥) → pins_at now p ≡ pins_at r p) → table_of new ≡ record before { pins = changed c g x before.pins }
     pins-view now is objects gone x c g q at pinned rest =
         let same : seen now ≡ record before { pins = changed c g x before.pins } = λ i. record {
@@ -160,7 +160,7 @@ module _ {K : Type 0} where
     unpin-view c g (Some q) at h = pins-view (after_unpin r q) h (unpinned-objects r q) (unpinned-gone r q) (before.pins c g - 1) c g q at
         (pinned-less r q ∙ ap (λ (p : Option Object). option_map_or (pins_at r) p 0 - 1) (sym at)) (unpinned-others r q)
 
-    -- an object goes away that was local and had no pin, or comes back that was away
+    -- a chunk that was local and had no pin is evicted, or one that was away is fetched
     abbrev Leaves : Type 0
     Leaves = (c : ℕ) × (g : ℕ) × (due before (step.BeginEvac c g) ≡ None) × (before.pins c g ≡ 0) × (table_of new ≡ record before { is_away = changed c g true before.is_away })
 
@@ -218,7 +218,7 @@ module _ {K : Type 0} where
           others (object.Text p) other = other-word r.text_objects.memory.words o p Remote (λ same. other (ap (λ n. object.Text n) same))
           others (object.Number p) other = refl
 
-    -- an evacuation is accepted
+    -- an accepted commit evicts the chunk
     pub leaves : (number_of : K → ℕ) (w : WorkOf K) → Commits number_of old w new → Leaves
     leaves number_of (work.Carried (Numbers carried)) h = number-leaves carried.job.object carried.ticket h.changed.rows.accepted.local h.changed.rows.free h.changed.rows.away
     leaves number_of (work.Carried (ByTexts carried)) h = text-leaves carried.job.object carried.ticket h.changed.rows.accepted.local h.changed.rows.free h.changed.rows.away
@@ -256,7 +256,7 @@ module _ {K : Type 0} where
           others (object.Text p) other = other-word r.text_objects.memory.words o p (Local (spot r.text_objects.memory.state (length list)) false true true) (λ same. other (ap (λ n. object.Text n) same))
           others (object.Number p) other = refl
 
-    -- a fetch is accepted
+    -- an accepted install fetches the chunk
     pub arrives : (number_of : K → ℕ) (w : WorkOf K) → Installs number_of old content w new → Arrives
     arrives number_of (work.Fetched (Numbers fetched)) h = back (number_lists content r.number_objects fetched.job.object) h.changed.rows.back where
       back : (found : Option (List (Option ℤ))) → IsSomeAnd found (λ list. new.rows ≡ record r { number_objects = after_arrive r.number_objects fetched.job.object list }) → Arrives
@@ -272,7 +272,7 @@ module _ {K : Type 0} where
     arrives number_of (work.Offload build) h = absurd h
     arrives number_of (work.Offloaded build) h = absurd h
 
-  -- a build is accepted: its row group is scanned
+  -- an accepted merge scans the row group
   pub scans : (number_of : K → ℕ) (old new : State K) (w : WorkOf K) → Merges number_of old w new → (a : ℕ) × (g : ℕ) × IsSomeAnd (aggregate_at old.table a) (λ aggregate. is_pending aggregate.pending g ≡ true) × (table_of new ≡ record (table_of old) { table = after_scan_at a g old.table })
   scans number_of old new (work.Offloaded build) h = (
     build.aggregate,

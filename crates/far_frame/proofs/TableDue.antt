@@ -1,4 +1,4 @@
--- What refuses a step of a table, in a user's words.
+-- The refusal that is due to a step of a table, in a user's words.
 use Rattle.std.proofs.Common.{◌≡◌, ◌⊎◌, inl, inr, ℕ, zero, suc, ◌+◌, ◌/◌, ◌==◌, ◌&&◌, ◌<◌, ◌||◌, not, Bool, true, false, List, map, [], ◌∷◌, ◌++◌, length, Option, None, Some, refl, sym, ap, subst, ◌∙◌, arith}
 use Rattle.std.specs.Prelude.{cond, is_none, nat_lt, option_map, slice_get}
 use Rattle.std.specs.List.{enumerate_from}
@@ -45,7 +45,7 @@ use Rattle.far_frame.proofs.MovementPins.{says_local}
 use Rattle.far_frame.proofs.PinsRows.{no-some, one-some, not-on}
 use Rattle.far_frame.proofs.TableNames.{in-use, column-there, group-there, same-places}
 
--- a list of tests with others in between that give one refusal
+-- a list of tests with others inserted whose refusals all have the property P
 found-between : (P : Refusal → Type 0) (xs n : List (Bool × Refusal)) (d : Bool × Refusal) (e : Refusal) → AllTell P n → first_of (xs ++ (n ++ d ∷ [])) ≡ Some e → (first_of (xs ++ d ∷ []) ≡ Some e) ⊎ ((first_of xs ≡ None) × P e)
 found-between P [] n d e all is = elim (found-last P n d e all is) [ inl last ↦ inl last | inr other ↦ inr (refl, other) ]
 found-between P ((true, x) ∷ xs) n d e all is = inl is
@@ -61,7 +61,7 @@ free-between [] n d free = free-after n d free
 free-between ((true, x) ∷ xs) n d free = no-some x (sym free)
 free-between ((false, x) ∷ xs) n d free = free-between xs n d free
 
--- two tests, and those behind them
+-- two tests, and others after them whose refusals all have the property P
 pub found-more : (P : Refusal → Type 0) (one two : Bool × Refusal) (more : List (Bool × Refusal)) (e : Refusal) → AllTell P more → first_of (one ∷ two ∷ more) ≡ Some e → (first_of (one ∷ two ∷ []) ≡ Some e) ⊎ ((first_of (one ∷ two ∷ []) ≡ None) × P e)
 found-more P (true, d) two more e all is = inl is
 found-more P (false, d) (true, c) more e all is = inl is
@@ -76,13 +76,13 @@ free-more (true, d) two more is = is
 free-more (false, d) (true, c) more is = is
 free-more (false, d) (false, c) more is = refl
 
--- two tests are others, of which the second counts only where the first does not refuse
+-- two pairs of tests are the same, if the second tests agree whenever the first does not apply
 join : (one two one_too two_too : Bool) (a b : Refusal) (later : Option Refusal) (rest : List (Bool × Refusal)) → one ≡ one_too → (one_too ≡ false → two ≡ two_too) → (one_too ≡ false → two_too ≡ false → later ≡ first_of rest) → option_or (first_of ((one, a) ∷ (two, b) ∷ [])) later ≡ first_of ((one_too, a) ∷ (two_too, b) ∷ rest)
 join one two true two_too a b later rest first second third = λ i. option_or (first_of ((first i, a) ∷ (two, b) ∷ [])) later
 join one two false true a b later rest first second third = λ i. option_or (first_of ((first i, a) ∷ (second refl i, b) ∷ [])) later
 join one two false false a b later rest first second third = (λ i. option_or (first_of ((first i, a) ∷ (second refl i, b) ∷ [])) later) ∙ third refl refl
 
--- a word that is there says that its object is local, or that it is away
+-- a word that exists is local or remote
 where-is : (words : List Pointer) (o : ℕ) → o < length words → not (says_local (slice_get words o)) ≡ says_away (slice_get words o)
 where-is [] o low = absurd (omega (arith, low))
 where-is (Local at dirty hot far ∷ words) zero low = refl
@@ -119,14 +119,14 @@ module _ {K : Type 0} (content : K → List ℕ) (old : State K) (kept : IsKept 
   away-same : (c g : ℕ) (s : ColumnIndex) → slice_get r.column_indexes c ≡ Some s → (away_at r g s).0 ≡ gone_at r c g
   away-same c g s at = away-index c g s at ∙ ap (λ (f : Option ColumnIndex). option_map_or (is_gone r) (option_and_then (λ t. option_map (object_in t) (object_of r t g)) f) false) (sym at)
 
-  -- the test of one chunk
+  -- whether a chunk is away
   away-is : (c g : ℕ) → not (nat_lt c (length old.table.schema)) ≡ false → absent_in r c g ≡ away before c g
   away-is c g low = by (slice_get r.column_indexes c) refl (column-there content old kept c ∙ low) where
     by : (found : Option ColumnIndex) → slice_get r.column_indexes c ≡ found → is_none found ≡ false → option_map_or (absent_at r c g) found (false, refusal.StaleJob) ≡ away before c g
     by None at there = not-on (sym there)
     by (Some s) at there = λ i. (away-same c g s at i, refusal.Absent c g)
 
-  -- the tests of the columns of a row group, from one column on
+  -- the tests of the columns of a row group, from column n on
   abbrev AreFrom : ℕ → List ColumnIndex → Type 0
   AreFrom n s = (k : ℕ) → slice_get s k ≡ slice_get r.column_indexes (n + k)
 
@@ -156,7 +156,7 @@ module _ {K : Type 0} (content : K → List ℕ) (old : State K) (kept : IsKept 
   needed-are : (spec : Spec) (g : ℕ) → needed_from r spec g 0 r.column_indexes ≡ any_away before (needs spec) g
   needed-are spec g = needed-from spec g 0 r.column_indexes all-from ∙ ap (λ (l : List Kind). map (column_test (needs spec) g) (enumerate_from 0 l)) kept.kinds
 
-  -- the tests of a chunk that is there
+  -- the tests of a chunk that exists
   chunk-due : (c g : ℕ) (later : Option Refusal) (rest : List (Bool × Refusal)) → (not (nat_lt c (length old.table.schema)) ≡ false → (o : Object) → object_at r c g ≡ Some o → later ≡ first_of rest) → option_or (object_refusal r c g) later ≡ first_of ((not (nat_lt c (length old.table.schema)), refusal.NoColumn) ∷ (not (nat_lt g (group_count old.table)), refusal.OutOfRange) ∷ rest)
   chunk-due c g later rest lies = join (is_none (slice_get r.column_indexes c)) (is_none (object_at r c g)) (not (nat_lt c (length old.table.schema))) (not (nat_lt g (group_count old.table))) refusal.NoColumn refusal.OutOfRange later rest (column-there content old kept c) (group-there content old kept c g)
       (λ low here. by low (object_at r c g) refl (group-there content old kept c g low ∙ here)) where
@@ -192,7 +192,7 @@ module _ {K : Type 0} (content : K → List ℕ) (old : State K) (kept : IsKept 
   pub fetch-due : (c g : ℕ) → fetch_refusal r c g ≡ due before (step.BeginFetch c g)
   fetch-due c g = chunk-due c g (first_of ((not (absent_in r c g).0, refusal.StaleJob) ∷ [])) ((not (before.is_away c g), refusal.StaleJob) ∷ []) (λ low o at. (λ i. first_of ((not (away-is c g low i).0, refusal.StaleJob) ∷ [])))
 
-  -- a lending
+  -- the refusal that is due to a lend
   abbrev late : ℕ → ℕ → Bool × Refusal
   late from to = (nat_lt to from || nat_lt (length old.table.places) to, refusal.OutOfRange)
 
@@ -208,7 +208,7 @@ module _ {K : Type 0} (content : K → List ℕ) (old : State K) (kept : IsKept 
         by true past = ap (λ (b : Bool). first_of ((b, refusal.NoColumn) ∷ late from to ∷ map (absent_in r c) (lent from to))) past ∙ sym (ap (λ (b : Bool). first_of ((b, refusal.NoColumn) ∷ late from to ∷ map (away before c) (lent from to))) past)
         by false low = ap (λ (f : ℕ → Bool × Refusal). first_of ((not (nat_lt c (length old.table.schema)), refusal.NoColumn) ∷ late from to ∷ map f (lent from to))) (λ i g. away-is c g low i)
 
-  -- an edit
+  -- the refusal that is due to an edit
   abbrev used : Bool × Refusal
   used = (old.table.edits == old.table.limits.edits, refusal.EditsUsedUp)
 
@@ -245,7 +245,7 @@ module _ {K : Type 0} (content : K → List ℕ) (old : State K) (kept : IsKept 
     by None is may = inr (inr (may.0, edit-free e is))
     by (Some d) is may = found (found-between (λ given. given ≡ refusal.RegionFull) (edit_tests before e) (no_space (live old) e) used why (space-tells e) (sym (ap first_of (edit-tests e)) ∙ is ∙ ap Some (sym may)))
 
-  -- a row group and an aggregate
+  -- the refusal that is due to a scan or an offload of a row group
   pub scan-same : (g : ℕ) (found : Option Registered) → scan_refusal (live old) found g ≡ scan_due old.table found g (λ spec. any_away before (needs spec) g)
   scan-same g None = refl
   scan-same g (Some aggregate) = ap (λ (l : List (Bool × Refusal)). first_of ((not (nat_lt g (group_count old.table)), refusal.OutOfRange) ∷ (not (is_pending aggregate.pending g), refusal.StaleJob) ∷ l)) (needed-are aggregate.spec g)

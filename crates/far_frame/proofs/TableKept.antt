@@ -1,4 +1,4 @@
--- What always holds of a table, of its parts.
+-- The invariant of a table, from its parts.
 use Rattle.std.proofs.Common.{◌≡◌, ℕ, List, map, length, sym, ap, subst, ◌∙◌}
 use Rattle.far_types.specs.declared.cell.Kind.{Kind}
 use Rattle.far_types.specs.declared.limits.Limits.{Limits}

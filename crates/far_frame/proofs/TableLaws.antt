@@ -1,4 +1,4 @@
--- A step of a world is a step of its table, in a user's words.
+-- Each step of a world is a step of its table, in a user's words.
 use Rattle.std.proofs.Common.{◌≡◌, ◌⊎◌, inl, inr, ℕ, ◌==◌, Bool, true, false, List, [], ◌∷◌, ◌++◌, Option, None, Some, IsSomeAnd, refl, sym, ap, subst, ◌∙◌, arith}
 use Rattle.std.specs.List.{Contains}
 use Rattle.std.specs.Prelude.{cond, not, nat_lt, slice_get, OnOk, OnErr, Result}
@@ -46,7 +46,7 @@ use Rattle.far_frame.proofs.TableChunks.{pin-view, unpin-view, leaves, arrives, 
 use Rattle.far_frame.proofs.TableDue.{edit-free, edit-reason, lend-due, pin-due, unpin-due, evac-due, fetch-due, scan-same, offload-free, offload-tells}
 use Rattle.far_frame.proofs.TableObjects.{all-touched, edited-view, live-view, moved-view, objects-same}
 
--- whichever a reply is
+-- a reply serves or refuses in other words, if each case implies the other words
 replies : (serves also : Reply → Type 0) (refuses too : Refusal → Type 0) (given : Reply) → ((served : Reply) → serves served → also served) → ((why : Refusal) → refuses why → too why) → Replies serves refuses given → Replies also too given
 replies serves also refuses too (reply.Refused why) f g h = g why h
 replies serves also refuses too (reply.Place place) f g h = f (reply.Place place) h
@@ -62,12 +62,12 @@ some-to : {A : Type 0} {B : Type 0} (P : A → Type 0) (o : Option A) → ((x : 
 some-to P None f h = absurd h
 some-to P (Some x) f h = f x h
 
--- an answer
+-- the reply to `Ask` is the answer over the current rows
 asked : (table : Table) (found : Option Registered) (x : Answer) (given : Reply) → given ≡ reply.Answer x → Answers table.places found x → (ask_refusal found ≡ None) × IsSomeAnd found (λ aggregate. given ≡ reply.Answer (answer_now aggregate.spec table))
 asked table None x given is h = absurd h
 asked table (Some aggregate) x given is h = (ap (λ n. cond (n == 0) None (Some (refusal.Building n))) h.0, is ∙ ap reply.Answer h.1)
 
--- a refusal is what is due, or one of some others
+-- the refusal is the due one, or none is due and it is one of these
 abbrev IsDueOr : Option Refusal → List Refusal → Refusal → Type 0
 IsDueOr owed besides why = (owed ≡ Some why) ⊎ ((owed ≡ None) × Contains besides why)
 
@@ -78,7 +78,7 @@ told : (owed too : Option Refusal) (besides : List Refusal) (grows : Bool) (why 
 told None too besides grows why same memory may = inr (sym same, one-of besides refusal.NoMemory why may.0 (memory may.1))
 told (Some d) too besides grows why same memory may = inl (sym same ∙ ap Some (sym may))
 
--- the numbers of jobs are used up, or memory ran out
+-- a job does not begin if the job numbers are used up or memory runs out
 begins : (b : Bool) (besides : List Refusal) (why : Refusal) → Contains besides refusal.EditsUsedUp → Contains besides refusal.NoMemory → MayRefuse (first_of ((b, refusal.EditsUsedUp) ∷ [])) true why → Contains besides why
 begins true besides why full memory may = one-of besides refusal.EditsUsedUp why may full
 begins false besides why full memory may = one-of besides refusal.NoMemory why may.0 memory
@@ -87,7 +87,7 @@ told-job : (owed too : Option Refusal) (besides : List Refusal) (b : Bool) (why 
 told-job None too besides b why same full memory may = inr (sym same, begins b besides why full memory may)
 told-job (Some d) too besides b why same full memory may = inl (sym same ∙ ap Some (sym may))
 
--- a build that is not begun may rest on a chunk that the far store does not have as it is
+-- a build may also be refused because the far store lacks a current copy of a chunk
 told-build : (owed too : Option Refusal) (besides : List Refusal) (b : Bool) (why : Refusal) → (owed ≡ None → too ≡ None) → ((e : Refusal) → owed ≡ Some e → (too ≡ Some e) ⊎ ((too ≡ None) × (e ≡ refusal.StaleJob))) → Contains besides refusal.StaleJob → Contains besides refusal.EditsUsedUp → Contains besides refusal.NoMemory → MayRefuse (option_or owed (first_of ((b, refusal.EditsUsedUp) ∷ []))) true why → IsDueOr too besides why
 told-build None too besides b why free tells stale full memory may = inr (free refl, begins b besides why full memory may)
 told-build (Some d) too besides b why free tells stale full memory may = elim (tells d refl) [
@@ -175,14 +175,14 @@ module _ {K : Type 0} where
   compacted-objects kind.Int segment old new h = objects-same old new (ap (λ (r : Rows K). r.column_indexes) h.1) (ap (λ (r : Rows K). r.numbers) h.1) (ap (λ (r : Rows K). r.texts) h.1)
   compacted-objects kind.Text segment old new h = objects-same old new (ap (λ (r : Rows K). r.column_indexes) h.1) (ap (λ (r : Rows K). r.numbers) h.1) (ap (λ (r : Rows K). r.texts) h.1)
 
--- a lending changes nothing that a table's state says
+-- a lend does not change the table's state
 module _ {K : Type 0} (content : K → List ℕ) (old new : State K) (c from to : ℕ) where
   pub lent-view : (given : Reply) → IsLent c from to old given new → table_of new ≡ table_of old
   lent-view given h =
       let groups = overlapped_groups old.rows.size from to in
       moved-view old new old.table h.used.table ((λ i. object_at (h.used.rows i)) ∙ all-touched c groups old.rows) (rows-are old.rows (after_touch_all old.rows c groups) new.rows h.used.rows (rows-after_touch_all c groups old.rows))
 
-  -- whether it is refused or not
+  -- neither does a refused lend
   pub lending-view : (pieces : List Piece) (result : Result Unit Refusal) → OnOk result ((given : Reply) × IsReplyOf (slice_get old.table.schema c) pieces given × Accepts content old (step.Lend c from to) given new) → OnErr result (new ≡ old) → table_of new ≡ table_of old
   lending-view pieces (Ok done) h same = lent-view h.0 h.2
   lending-view pieces (Err why) h same = λ i. table_of (same i)
@@ -200,7 +200,7 @@ module _ {K : Type 0} (content : K → List ℕ) (number_of : K → ℕ) (old ne
   abbrev Goal : Step → Reply → Type 0
   Goal s given = IsTableStep before s given after
 
-  -- nothing changes
+  -- an unchanged state shows an unchanged table
   same-after : new.state ≡ old.state → after ≡ before
   same-after same = λ i. table_of (same i)
 
@@ -264,7 +264,7 @@ module _ {K : Type 0} (content : K → List ℕ) (number_of : K → ℕ) (old ne
       (λ served k. (k.0, same-after k.2))
       (λ why may. told (prefetch_refusal old.state.table c) (due before (step.Prefetch c)) (refusal.NoMemory ∷ []) true why refl (λ on. memory-alone) may) h.0
 
-  -- a job begins
+  -- a step that begins a job
   begun : (s : Step) (owed : Option Refusal) (job : JobRecord K → Type 0) (given : Reply) → ((served : Reply) → IsBegun job old served new → Serves s served) → ((why : Refusal) → MayRefuse (option_or owed (used_up old)) true why → IsReason before s why) → Replies (λ served. IsBegun job old served new) (λ why. IsNotBegun owed old why new) given → Goal s given
   begun s owed job given accepts reasons h = replies (λ served. IsBegun job old served new) (Serves s) (λ why. IsNotBegun owed old why new) (λ why. IsReason before s why × (after ≡ before)) given accepts (λ why k. (reasons why k.refused, same-after (λ i. (k.world i).state))) h
 
@@ -289,7 +289,7 @@ module _ {K : Type 0} (content : K → List ℕ) (number_of : K → ℕ) (old ne
       (λ served k. (refl, (k.says, same-after (λ i. (k.world i).state))))
       (λ why k. (inr (refl, at-tells (others (step.Carry 0)) stale-carry CarryRefusal (λ job given is. carry-tells job.work given is) (job_at old.jobs n) why k.refused), same-after (λ i. (k.world i).state))) h
 
-  -- a job ends
+  -- a step that ends a job
   ended : (s : Step) (besides : List Refusal) (n : ℕ) (given : Reply) (ends : WorkOf K → State K → Type 0) (why : WorkOf K → Refusal → Type 0)
       → ((served : Reply) → served ≡ reply.Done → (w : WorkOf K) → ends w new.state → Serves s served)
       → ((e : Refusal) → Contains besides e → IsReason before s e) → Contains besides refusal.StaleJob → ((w : WorkOf K) (e : Refusal) → why w e → Contains besides e)
@@ -329,7 +329,7 @@ module _ {K : Type 0} (content : K → List ℕ) (number_of : K → ℕ) (old ne
   step-table (step.Install n) given h = install-step n given h
   step-table (step.Merge n) given h = merge-step n given h
 
--- a run goes on by one step
+-- appending one step to a run of the table
 pub IsTableRun-push : (old mid new : TableState) (ss : List Step) (rs : List Reply) (s : Step) (r : Reply) → IsTableRun old ss rs mid → IsTableStep mid s r new → IsTableRun old (ss ++ s ∷ []) (rs ++ r ∷ []) new
 IsTableRun-push old mid new [] [] s r h k = (new, subst (λ t. IsTableStep t s r new) h k, refl)
 IsTableRun-push old mid new [] (q ∷ rs) s r h k = absurd h

@@ -1,4 +1,4 @@
--- Each object lies in one row group of one column, which its name says, and each row group with a place has one in each column.
+-- Each object belongs to the column and row group in its name, and each row group with places has an object in each column.
 use Rattle.std.proofs.Common.{◌≡◌, ℕ, zero, suc, ◌+◌, ◌*◌, ◌-◌, ◌/◌, ◌<◌, ◌≤◌, ℤ, Bool, true, false, not, List, map, [], ◌∷◌, length, Option, None, Some, IsSomeAnd, refl, sym, ap, subst, ◌∙◌, arith, inl, inr}
 use Rattle.std.specs.Prelude.{All, option_map, slice_get, is_none, nat_lt}
 use Rattle.std.specs.Option.{option_and_then}
@@ -48,7 +48,7 @@ none-mapped : {A B : Type 0} (f : A → B) (o : Option A) → is_none (option_ma
 none-mapped f None = refl
 none-mapped f (Some x) = refl
 
--- a place past the end
+-- an index past the end has no element
 less-next : (a b : ℕ) → nat_lt (suc a) (suc b) ≡ nat_lt a b
 less-next a b = elim (cases_lt a b) [
   | inl low ↦ lt-ltb (suc a) (suc b) (omega (arith, low)) ∙ sym (lt-ltb a b low)
@@ -60,7 +60,7 @@ none-past [] c = ap not (sym (le-ltb c 0 (omega arith)))
 none-past (x ∷ s) zero = ap not (sym (lt-ltb 0 (length (x ∷ s)) (omega arith)))
 none-past (x ∷ s) (suc c) = none-past s c ∙ ap not (sym (less-next c (length s)))
 
--- so many row groups have a place
+-- the number of row groups with places
 group-count : (size len count : ℕ) → 0 < size → len ≤ count * size → count * size < len + size → groups size len ≡ count
 group-count size len count some enough needed =
     let low : count ≤ (len + size - 1) / size = le-div count (len + size - 1) size some (omega (arith, needed)) in
@@ -74,7 +74,7 @@ module _ {K : Type 0} (content : K → List ℕ) (s : State K) (kept : IsKept co
   abbrev r : Rows K
   r = s.rows
 
-  -- the name of an object
+  -- the name in an object's record
   abbrev name_at : Object → Option Name
   name_at (object.Number o) = slice_get (names_of r.number_objects) o
   name_at (object.Text o) = slice_get (names_of r.text_objects) o
@@ -108,7 +108,7 @@ module _ {K : Type 0} (content : K → List ℕ) (s : State K) (kept : IsKept co
     by (Some (column_index.Number i)) at is = number-named c g i o (slice_get r.numbers i) at refl is
     by (Some (column_index.Text i)) at is = text-named c g i o (slice_get r.texts i) at refl is
 
-  -- an object lies in one place
+  -- an object belongs to only one column and row group
   pub once : (c g d h : ℕ) (o : Object) → object_at r c g ≡ Some o → object_at r d h ≡ Some o → (c ≡ d) × (g ≡ h)
   once c g d h o one other =
       let first : Name = record { column = c; group = g } in
@@ -116,12 +116,12 @@ module _ {K : Type 0} (content : K → List ℕ) (s : State K) (kept : IsKept co
       let same : first ≡ second = one-some first second (sym (name-of c g o one) ∙ name-of d h o other) in
       (ap (λ (n : Name). n.column) same, ap (λ (n : Name). n.group) same)
 
-  -- and has a record
+  -- the object of a row group has a record
   pub in-use : (c g : ℕ) (o : Object) → object_at r c g ≡ Some o → IsInUse r o
   in-use c g (object.Number o) at = subst (λ (n : ℕ). o < n) (length-map r.number_objects.records (λ (e : ObjectRecord K). e.name)) (slice_get_within (names_of r.number_objects) o _ (name-of c g (object.Number o) at))
   in-use c g (object.Text o) at = subst (λ (n : ℕ). o < n) (length-map r.text_objects.records (λ (e : ObjectRecord K). e.name)) (slice_get_within (names_of r.text_objects) o _ (name-of c g (object.Text o) at))
 
-  -- each object that has a record lies somewhere
+  -- each object with a record belongs to a column and a row group
   pub owner : (o : Object) → IsInUse r o → (c : ℕ) × (g : ℕ) × (object_at r c g ≡ Some o)
   owner (object.Number o) low =
       let name = name-there r.number_objects.records o low in
@@ -144,14 +144,14 @@ module _ {K : Type 0} (content : K → List ℕ) (s : State K) (kept : IsKept co
             ∙ ap (λ (p : Option ℕ). option_map (λ q. object.Text q) p) own.4,
       )
 
-  -- the columns are those of the schema
+  -- the rows have the columns of the schema
   pub column-there : (c : ℕ) → is_none (slice_get r.column_indexes c) ≡ not (nat_lt c (length s.table.schema))
   column-there c = none-past r.column_indexes c ∙ ap (λ (n : ℕ). not (nat_lt c n)) (sym (length-map r.column_indexes kind_of) ∙ ap length kept.kinds)
 
   pub same-places : length r.alive ≡ length s.table.places
   same-places = sym (ap length kept.places ∙ length-places (all_cells content r) r.alive)
 
-  -- a column has an object for each row group that has a place
+  -- a column has an object for each row group with places
   count-is : (size len count : ℕ) → size ≡ r.size → len ≡ length r.alive → 0 < size → len ≤ count * size → count * size < len + size → count ≡ group_count s.table
   count-is size len count of_size of_len some enough needed =
       sym (group-count size len count some enough needed)
@@ -179,7 +179,7 @@ module _ {K : Type 0} (content : K → List ℕ) (s : State K) (kept : IsKept co
     by (Some (column_index.Number i)) at there = number-there g i (all-at (IsColumnIn (length r.numbers) (length r.texts)) r.column_indexes c (column_index.Number i) at kept.rows.column_indexes.within) (slice_get r.numbers i) refl
     by (Some (column_index.Text i)) at there = text-there g i (all-at (IsColumnIn (length r.numbers) (length r.texts)) r.column_indexes c (column_index.Text i) at kept.rows.column_indexes.within) (slice_get r.texts i) refl
 
-  -- where an object lies there is a column and a row group
+  -- an object's column and row group exist
   pub there : (c g : ℕ) (o : Object) → object_at r c g ≡ Some o → (not (nat_lt c (length s.table.schema)) ≡ false) × (not (nat_lt g (group_count s.table)) ≡ false)
   there c g o at =
       let low : not (nat_lt c (length s.table.schema)) ≡ false = sym (column-there c) ∙ column (slice_get r.column_indexes c) at in

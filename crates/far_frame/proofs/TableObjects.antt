@@ -56,7 +56,7 @@ get-new [] y (suc g) o none is = no-some o is
 get-new (x ∷ xs) y zero o none is = no-some x (sym none)
 get-new (x ∷ xs) y (suc g) o none is = get-new xs y g o none is
 
--- a column keeps its objects if it gets an element more, and a new one is behind all that there were
+-- pushing an element keeps a column's objects, and a new object has a higher number than all others
 number-kept : (columns : NumberColumns) (n i g o : ℕ) → option_and_then (λ (c : Vector (Option ℤ)). slice_get c.objects g) (slice_get columns i) ≡ Some o → option_and_then (λ (c : Vector (Option ℤ)). slice_get c.objects g) (slice_get (after_push_all n columns) i) ≡ Some o
 number-kept [] n i g o is = no-some o is
 number-kept (c ∷ columns) n zero g o is = by (is_full c) where
@@ -92,7 +92,7 @@ text-new (c ∷ columns) n (suc i) g o none is = (let low : n + 1 ≤ o = text-n
 tests : (d c h g : ℕ) → d ≡ c → h ≡ g → (d == c && h == g) ≡ true
 tests d c h g column group = and_from (d == c) (h == g) (eq-eqb d c column) (eq-eqb h g group)
 
--- what each row group of each column has is that of its object: if the objects stay, and what one of them has changes, one chunk changes
+-- if one object's value changes, the value of only one chunk changes, since each object belongs to one chunk
 module _ {A : Type 0} (at : ℕ → ℕ → Option Object) (only : (c g d h : ℕ) (o : Object) → at c g ≡ Some o → at d h ≡ Some o → (c ≡ d) × (g ≡ h)) (old new : Object → A) (other x : A) (c g : ℕ) (o : Object) (is : at c g ≡ Some o) (now : new o ≡ x) (rest : (p : Object) → (p ≡ o → ⊥) → new p ≡ old p) where
   pub one-changed : (d h : ℕ) → option_map_or new (at d h) other ≡ changed c g x (λ d h. option_map_or old (at d h) other) d h
   one-changed d h = by (d == c && h == g) refl where
@@ -109,14 +109,14 @@ module _ {A : Type 0} (at : ℕ → ℕ → Option Object) (only : (c g d h : �
     by false apart = same (at d h) refl (λ lies. (let one = only d h c g o lies is in let on : (d == c && h == g) ≡ true = tests d c h g one.0 one.1 in absurd (let wrong : true ≡ false = sym on ∙ apart in cc)))
 
 module _ {K : Type 0} where
-  -- the object of a row group
+  -- rows with the same columns have the same object in each row group
   pub objects-same : (old new : Rows K) → new.column_indexes ≡ old.column_indexes → new.numbers ≡ old.numbers → new.texts ≡ old.texts → object_at new ≡ object_at old
   objects-same old new indexes numbers texts = λ i c g. option_and_then (λ s. option_map (object_in s) (of s g i)) (slice_get (indexes i) c) where
     of : (s : ColumnIndex) (g : ℕ) → object_of new s g ≡ object_of old s g
     of (column_index.Number j) g = ap (λ (l : NumberColumns). option_and_then (λ (c : Vector (Option ℤ)). slice_get c.objects g) (slice_get l j)) numbers
     of (column_index.Text j) g = ap (λ (l : List Texts). option_and_then (λ (c : Texts). slice_get c.objects g) (slice_get l j)) texts
 
-  -- objects that stay are where they were, with their pins
+  -- a change that keeps objects, pins and absence changes only the table
   pub moved-view : (old new : State K) (table : Table) → new.table ≡ table → object_at new.rows ≡ object_at old.rows → KeepsAwayRows old.rows new.rows → table_of new ≡ record (table_of old) { table = table }
   moved-view old new table made objects k = λ i. record {
     table = made i;
@@ -124,7 +124,7 @@ module _ {K : Type 0} where
     pins = λ c g. option_map_or (λ o. rows-pins old.rows new.rows k o i) (objects i c g) 0;
   }
 
-  -- a use
+  -- touching an object keeps which object each row group has
   touched : (r : Rows K) (q : Object) → object_at (after_touch r q) ≡ object_at r
   touched r (object.Number q) = objects-same r (after_touch r (object.Number q)) refl refl refl
   touched r (object.Text q) = objects-same r (after_touch r (object.Text q)) refl refl refl
@@ -151,12 +151,12 @@ module _ {K : Type 0} where
     set-found None place value of moved = no-some (kind_in value) of
     set-found (Some s) place value of moved = (λ i. object_at (moved i)) ∙ set-objects s place value
 
-    -- what is new is behind all that there were
+    -- the object has a higher number than all objects before the edit
     abbrev IsNew : Object → Type 0
     IsNew (object.Number o) = length r.number_objects.records ≤ o
     IsNew (object.Text o) = length r.text_objects.records ≤ o
 
-    -- a row group keeps its object, or has none, or gets a new one
+    -- a row group keeps its object, or has none and may get a new one
     abbrev Follows : Option Object → Option Object → Type 0
     Follows (Some o) now = now ≡ Some o
     Follows None now = IfSome now IsNew
@@ -202,7 +202,7 @@ module _ {K : Type 0} where
     follows-pins k None None is = refl
     follows-pins k None (Some o) is = rows-pins r new.rows k o ∙ past-pins o is
 
-    -- a table that got an edit has what it had, and new chunks that are local, without pins
+    -- an edit keeps which chunks are away, and their pins; a new chunk is local and has no pin
     pub edited-view : (table : Table) → new.table ≡ table → (e : Edit) → Moves content r e new.rows → table_of new ≡ record (table_of old) { table = table }
     edited-view table made (edit.Insert row) h =
         let k = rows-edited content r new.rows (edit.Insert row) h in
@@ -214,6 +214,6 @@ module _ {K : Type 0} where
     edited-view table made (edit.Set place column cell) h = moved-view old new table made (set-found (slice_get r.column_indexes column) place h.0 h.2 h.3.moved) (rows-edited content r new.rows (edit.Set place column cell) h)
     edited-view table made (edit.Remove place) h = moved-view old new table made (objects-same r new.rows (ap (λ (r : Rows K). r.column_indexes) h) (ap (λ (r : Rows K). r.numbers) h) (ap (λ (r : Rows K). r.texts) h)) (rows-edited content r new.rows (edit.Remove place) h)
 
-  -- a table with other aggregates
+  -- the table's state, from a live table's state
   pub live-view : (new : State K) (l : LiveState K) → live new ≡ l → table_of new ≡ record { table = l.table; is_away = gone_at l.rows; pins = pins_of_group l.rows }
   live-view new l h = λ i. record { table = (h i).table; is_away = gone_at (h i).rows; pins = pins_of_group (h i).rows }

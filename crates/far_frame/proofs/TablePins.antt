@@ -1,4 +1,4 @@
--- A chunk that has a pin is local, after any run of the table.
+-- After any run of the table each pinned chunk is local.
 use Rattle.std.proofs.Common.{◌≡◌, ◌==◌, ◌&&◌, ℕ, ◌+◌, ◌-◌, Bool, true, false, List, [], ◌∷◌, Option, None, Some, IsSomeAnd, refl, sym, ap, subst, ◌∙◌, arith}
 use Rattle.std.specs.Prelude.{cond}
 use Rattle.std.proofs.lemmas.Bool.{and_parts, eqb-true}
@@ -16,7 +16,7 @@ use Rattle.far_frame.specs.TableRuns.{IsTableStep, IsTableServed, IsTableRun, Ar
 use Rattle.far_frame.proofs.PinsRows.{no-some}
 use Rattle.far_frame.proofs.StepsLaws.{replied}
 
--- of four tests that do not refuse, none holds
+-- if no test of a list applies, the third does not
 third-off : (one two three : Bool × Refusal) (more : List (Bool × Refusal)) → first_of (one ∷ two ∷ three ∷ more) ≡ None → three.0 ≡ false
 third-off (true, d) two three more is = no-some d (sym is)
 third-off (false, d) (true, c) three more is = no-some c (sym is)
@@ -30,7 +30,7 @@ module _ (old new : TableState) where
   same-pinned : new ≡ old → ArePinnedLocal old → ArePinnedLocal new
   same-pinned same all = subst ArePinnedLocal (sym same) all
 
-  -- other aggregates or rows
+  -- changing only the table keeps pinned chunks local
   table-pinned : (table : Table) → new ≡ record old { table = table } → ArePinnedLocal old → ArePinnedLocal new
   table-pinned table same all = subst ArePinnedLocal (sym same) all
 
@@ -38,7 +38,7 @@ module _ (old new : TableState) where
   watched P f None h all = absurd h
   watched P f (Some a) h all = table-pinned (f a) h.1 all
 
-  -- one chunk has other pins: if it is local, or had some
+  -- changing the pins of one chunk keeps pinned chunks local, if this chunk is local or has no pin afterwards
   pins-changed : (c g n : ℕ) → new ≡ record old { pins = changed c g n old.pins } → ((n ≡ 0 → ⊥) → old.is_away c g ≡ false) → ArePinnedLocal old → ArePinnedLocal new
   pins-changed c g n same local all = subst ArePinnedLocal (sym same) (λ d h. by d h (d == c && h == g) refl) where
     by : (d h : ℕ) (b : Bool) → (d == c && h == g) ≡ b → (cond b n (old.pins d h) ≡ 0 → ⊥) → old.is_away d h ≡ false
@@ -49,7 +49,7 @@ module _ (old new : TableState) where
         (λ i. old.is_away (column i) (group i)) ∙ local some
     by d h false is some = all d h some
 
-  -- one chunk is away or back
+  -- evicting a chunk without pins, or fetching one, keeps pinned chunks local
   away-changed : (c g : ℕ) (b : Bool) → new ≡ record old { is_away = changed c g b old.is_away } → (b ≡ true → old.pins c g ≡ 0) → ArePinnedLocal old → ArePinnedLocal new
   away-changed c g b same free all = subst ArePinnedLocal (sym same) (λ d h some. by d h (d == c && h == g) refl b free some) where
     by : (d h : ℕ) (t : Bool) → (d == c && h == g) ≡ t → (b : Bool) → (b ≡ true → old.pins c g ≡ 0) → (old.pins d h ≡ 0 → ⊥) → cond t b (old.is_away d h) ≡ false
@@ -84,7 +84,7 @@ module _ (old new : TableState) where
   step-pinned s given h all = replied (λ served. (due old s ≡ None) × IsTableServed old s served new) (λ why. IsReason old s why × (new ≡ old)) given
       (λ served k. served-pinned s served k.0 k.1 all) (λ why k. same-pinned k.1 all) h
 
--- and so all are after any list of steps
+-- so each pinned chunk is local after any list of steps
 pub run-pinned : (old : TableState) (steps : List Step) (replies : List Reply) (new : TableState) → IsTableRun old steps replies new → ArePinnedLocal old → ArePinnedLocal new
 run-pinned old [] [] new h all = same-pinned old new h all
 run-pinned old [] (given ∷ replies) new h all = absurd h

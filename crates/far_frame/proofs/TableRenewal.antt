@@ -1,4 +1,4 @@
--- A table that goes on with another store has the same rows, and the same chunks are away, with the pins that they had.
+-- After a migration to another store a table has the same rows, and its chunks their pins; the same chunks are away.
 use Rattle.std.proofs.Common.{◌≡◌, ℕ, zero, suc, false, List, [], ◌∷◌, map, refl, ◌∙◌}
 use Rattle.std.specs.Prelude.{option_map, slice_get}
 use Rattle.std.specs.Option.{option_and_then, option_map_or}

@@ -1,4 +1,4 @@
--- The rows after a run of the table are those of the plain list under the accepted edits.
+-- After a run of the table its rows are those of the plain list after the accepted edits.
 use Rattle.std.proofs.Common.{◌≡◌, ℕ, List, [], ◌∷◌, Option, None, Some, IsSomeAnd, refl, sym, ap, ◌∙◌}
 use Rattle.far_types.specs.Table.{Table}
 use Rattle.far_table.specs.Watching.{after_register_at, lowest_free}

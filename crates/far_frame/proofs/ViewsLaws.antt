@@ -1,4 +1,4 @@
--- The objects of all row groups.
+-- Whether the objects of several row groups are local.
 use Rattle.std.proofs.Common.{◌≡◌, ℕ, zero, suc, ◌+◌, ◌-◌, ◌/◌, ◌<◌, ◌≤◌, inl, inr, Bool, true, false, List, [], ◌∷◌, ◌++◌, Option, None, Some, refl, sym, ap, ◌∙◌, subst, arith}
 use Rattle.std.proofs.Math.Nat.{le-div_iff_mul-le, div-mul-le_self, eq-or-lt_of_le}
 use Rattle.std.specs.Prelude.{cond}
@@ -22,7 +22,7 @@ none-first : (first later : Option Refusal) → option_or first later ≡ None �
 none-first None later free = (refl, free)
 none-first (Some e) later free = absurd cc
 
--- the row group of a place is one of those that have a place
+-- the row group of a place is below the number of row groups
 pub group-within : (p size len : ℕ) → 0 < size → p < len → p / size < groups size len
 group-within p size len some below =
     let down = div-mul-le_self p size in
@@ -30,15 +30,15 @@ group-within p size len some below =
     omega (arith, up)
 
 module _ {K : Type 0} (r : Rows K) where
-  -- a row group that is here leaves the decision to those behind it
+  -- if a row group is local, the row groups after it decide
   pub here-first : (g count : ℕ) → first_of (absents r g) ≡ None → first_of (absents_of r g (suc count)) ≡ first_of (absents_of r (g + 1) count)
   here-first g count here = first-behind (absents r g) (absents_of r (g + 1) count) ∙ ap (λ o. option_or o (first_of (absents_of r (g + 1) count))) here
 
-  -- and one that is not here decides it
+  -- if a row group is away, it causes the refusal
   pub away-first : (g count : ℕ) (e : Refusal) → first_of (absents r g) ≡ Some e → first_of (absents_of r g (suc count)) ≡ Some e
   away-first g count e away = first-behind (absents r g) (absents_of r (g + 1) count) ∙ ap (λ o. option_or o (first_of (absents_of r (g + 1) count))) away
 
-  -- if none is away, none is away in any row group
+  -- if no refusal is due, each row group is local
   pub each-here : (g count : ℕ) → first_of (absents_of r g count) ≡ None → (k : ℕ) → g ≤ k → k < g + count → first_of (absents r k) ≡ None
   each-here g zero free k low high = absurd (omega arith)
   each-here g (suc count) free k low high =

@@ -1,4 +1,4 @@
--- Values put under a key and taken back.
+-- Values that are written under a key and removed again.
 use Rattle.std.proofs.Common.{◌≡◌, Bool, true, false, List, [], ◌∷◌, Option, None, Some, cond, refl, sym, ap}
 use Rattle.std.specs.Map.{lookup, set_value}
 use Rattle.far_aggregates.specs.Aggregates.{flattened}
@@ -31,7 +31,7 @@ module _ {X A : Type 0} (t : X → Bool) where
   same-step e es w true rest h = λ i. (e.0, sym h i) ∷ es
   same-step e es w false rest h = ap (λ r. e ∷ r) (rest h)
 
-  -- what stands there already
+  -- writing the value that is there already changes nothing
   pub set-same : (es : List (X × Option A)) (w : Option A) → flattened (lookup t es) ≡ w → set_value t es w ≡ es
   set-same [] w h = refl
   set-same (e ∷ es) w h = same-step e es w (t e.0) (set-same es w) h

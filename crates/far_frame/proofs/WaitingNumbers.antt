@@ -1,4 +1,4 @@
--- Numbers of jobs: no two jobs stand under one, and one that is spent stays so.
+-- Job numbers: no two jobs have the same one, and a spent number stays spent.
 use Rattle.std.proofs.Common.{◌≡◌, ◌⊎◌, inl, inr, ℕ, ◌+◌, ◌<◌, Bool, true, false, cond, List, [], ◌∷◌, Option, None, Some, IsSome, IsSomeAnd, All, Ordering, Less, Equal, Greater, refl, sym, ap, subst, ◌∙◌, arith}
 use Rattle.std.specs.BTreeMap.{insert_entry}
 use Rattle.std.specs.Cmp.{nat_cmp_is, IsEquivalence}
@@ -49,7 +49,7 @@ no-number n is = absurd (let no : ⊥ = cc in no)
 one-number : (n m : ℕ) → Some n ≡ Some m → n ≡ m
 one-number n m is = cc
 
--- entries under numbers, of which none passes a test
+-- entries whose numbers all fail a test
 module _ {X : Type 0} (p : ℕ → Bool) where
   none-more : (n : ℕ) (x : X) → p n ≡ false → (es : List (ℕ × X)) → NonePasses p es → NonePasses p (insert_entry nat_cmp es n x)
   none-more n x other [] h = (other, tt)
@@ -74,7 +74,7 @@ module _ {X : Type 0} (p : ℕ → Bool) where
     by false rest = (h.0, rest)
 
 module _ {X : Type 0} where
-  -- no two are under one number once there is one more, under a number above all, or one less
+  -- numbers stay distinct when one above all others is added, or one is removed
   distinct-more : (n : ℕ) (x : X) (es : List (ℕ × X)) → All (λ m. m < n) (keys_of es) → IsDistinct is_number (keys_of es) → IsDistinct is_number (keys_of (insert_entry nat_cmp es n x))
   distinct-more n x [] below d = IsDistinct-cons is_number n [] tt d
   distinct-more n x (e ∷ es) below d =
@@ -98,11 +98,11 @@ module _ {X : Type 0} where
         let less = remove_entry t es in
         IsDistinct-cons is_number e.0 (keys_of less) (recursion_from_All Other (keys_of less) (All-map-remove_entry t (λ x. x.0) Other es others)) rest
 
-  -- a number that is taken out is not there any more
+  -- a number that is removed is not found any more
   removed-gone : (n : ℕ) (es : List (ℕ × X)) → IsDistinct is_number (keys_of es) → lookup (is_number n) (remove_entry (is_number n) es) ≡ None
   removed-gone n es d = lookup-remove_entry laws (is_number n) (λ x y is. laws.congr n x y is) n es d ∙ ap (λ b. cond b None (lookup (is_number n) es)) (laws.refl n)
 
-  -- what holds of all numbers holds of one that is found
+  -- a property of all numbers is a property of one that is found
   found-holds : (P : ℕ → Type 0) (n : ℕ) (es : List (ℕ × X)) → All P (keys_of es) → IsSome (lookup (is_number n) es) → P n
   found-holds P n es all some = All-contains P (keys_of es) n all (Contains-keys_from_lookup (tells_apart exact_unsigned) n es some)
 
@@ -115,7 +115,7 @@ some-and P None h = absurd h
 some-and P (Some x) h = refl
 
 module _ {K : Type 0} where
-  -- what a step does to the jobs: nothing; one is begun; the job of a number is another; or a number is spent
+  -- what a step does to the jobs: nothing, or it begins one, replaces the job of a number, or spends a number
   abbrev Turns : World K → World K → Type 0
   Turns old new = ((new.begun ≡ old.begun) × (new.jobs ≡ old.jobs))
       ⊎ (((job : JobRecord K) × (new.begun ≡ old.begun + 1) × (new.jobs ≡ one_more old.jobs old.begun job))
@@ -134,7 +134,7 @@ module _ {K : Type 0} where
   one-above : (jobs : Waiting K) (begun : ℕ) → All (λ n. n < begun) (keys_of jobs) → All (λ n. n < begun + 1) (keys_of jobs)
   one-above jobs begun given = All-weaker (λ n. n < begun) (λ n. n < begun + 1) (λ n lt. omega (arith, lt)) (keys_of jobs) given
 
-  -- numbers stay distinct
+  -- a step keeps the numbers distinct
   turned-numbered : (old new : World K) → Turns old new → AreNumbered old → AreNumbered new
   turned-numbered old new (inl h) a = numbered-of new old.begun old.jobs h.0 h.1 a.given a.distinct
   turned-numbered old new (inr (inl h)) a =
@@ -151,7 +151,7 @@ module _ {K : Type 0} where
       (All-map-remove_entry (is_number h.0) (λ x. x.0) (λ n. n < old.begun) old.jobs a.given)
       (distinct-less (is_number h.0) old.jobs a.distinct)
 
-  -- what is spent stays spent
+  -- a spent number stays spent
   turned-spent : (n : ℕ) (old new : World K) → Turns old new → IsSpent n old → IsSpent n new
   turned-spent n old new (inl h) s = spent-of n new old.begun old.jobs h.0 h.1 s.given s.gone
   turned-spent n old new (inr (inl h)) s =
@@ -167,7 +167,7 @@ module _ {K : Type 0} where
       spent-of n new old.begun (without_job old.jobs h.0) h.1 h.2 s.given
       (lookup-none (is_number n) (without_job old.jobs h.0) (none-less (is_number n) (is_number h.0) old.jobs none))
 
-  -- the end of a job spends its number
+  -- ending a job spends its number
   end-spent : (n : ℕ) (old new : World K) → AreNumbered old → IsSome (job_at old.jobs n) → new.begun ≡ old.begun → new.jobs ≡ without_job old.jobs n → IsSpent n new
   end-spent n old new a some counted are =
       spent-of n new old.begun (without_job old.jobs n) counted are
@@ -184,7 +184,7 @@ module _ {K : Type 0} where
     gone = ap (λ (w : World L). lookup (is_number n) w.jobs) h.world;
   }
 
-  -- what each step does to the jobs
+  -- each step changes the jobs in one of these ways
   module _ (old new : World K) where
     table-turns : new ≡ record old { state = new.state } → Turns old new
     table-turns is = inl (ap (λ (w : World K). w.begun) is, ap (λ (w : World K). w.jobs) is)
@@ -208,7 +208,7 @@ module _ {K : Type 0} where
         (λ served k. inr (inr (inr (n, ap (λ (w : World K). w.begun) k.world, ap (λ (w : World K). w.jobs) k.world))))
         (λ e k. maybe-turns n (spends (Err e)) (ap (λ (w : World K). w.begun) k.world) (ap (λ (w : World K). w.jobs) k.world)) h
 
-    -- what an end does to its job: it is there and is spent, or it may be spent if it is refused
+    -- what the end of a job does to it: an accepted end spends its number, and a refused one may spend it
     abbrev Ends : ℕ → Reply → Type 0
     Ends n given = Replies (λ served. IsSome (job_at old.jobs n) × (new.begun ≡ old.begun) × (new.jobs ≡ without_job old.jobs n))
         (λ e. (new.begun ≡ old.begun) × (new.jobs ≡ cond (spends (Err e)) (without_job old.jobs n) old.jobs)) given
@@ -250,17 +250,17 @@ module _ {K : Type 0} (content : K → List ℕ) (number_of : K → ℕ) where
   pub step-spent : (n : ℕ) (old : World K) (s : Step) (given : Reply) (new : World K) → IsSpent n old → IsStep content number_of old s given new → IsSpent n new
   step-spent n old s given new is h = turned-spent n old new (step-turns old s given new h) is
 
-  pub run-spent : (n : ℕ) (old : World K) (steps : List Step) (replies : List Reply) (new : World K) → IsSpent n old → IsRun content number_of old steps replies new → IsSpent n new
-  run-spent n old [] [] new is h = subst (IsSpent n) (sym h) is
-  run-spent n old [] (given ∷ replies) new is h = absurd h
-  run-spent n old (s ∷ steps) [] new is h = absurd h
-  run-spent n old (s ∷ steps) (given ∷ replies) new is h = run-spent n h.0 steps replies new (step-spent n old s given h.0 is h.1) h.2
+  pub run-spent : (is_of : K → List ℕ → Type 0) (n : ℕ) (old : World K) (steps : List Step) (replies : List Reply) (new : World K) → IsSpent n old → IsRun is_of content number_of old steps replies new → IsSpent n new
+  run-spent is_of n old [] [] new is h = subst (IsSpent n) (sym h) is
+  run-spent is_of n old [] (given ∷ replies) new is h = absurd h
+  run-spent is_of n old (s ∷ steps) [] new is h = absurd h
+  run-spent is_of n old (s ∷ steps) (given ∷ replies) new is h = run-spent is_of n h.0 steps replies new (step-spent n old s given h.0 is h.1) h.3
 
-  pub run-numbered : (old : World K) (steps : List Step) (replies : List Reply) (new : World K) → AreNumbered old → IsRun content number_of old steps replies new → AreNumbered new
-  run-numbered old [] [] new a h = subst AreNumbered (sym h) a
-  run-numbered old [] (given ∷ replies) new a h = absurd h
-  run-numbered old (s ∷ steps) [] new a h = absurd h
-  run-numbered old (s ∷ steps) (given ∷ replies) new a h = run-numbered h.0 steps replies new (turned-numbered old h.0 (step-turns old s given h.0 h.1) a) h.2
+  pub run-numbered : (is_of : K → List ℕ → Type 0) (old : World K) (steps : List Step) (replies : List Reply) (new : World K) → AreNumbered old → IsRun is_of content number_of old steps replies new → AreNumbered new
+  run-numbered is_of old [] [] new a h = subst AreNumbered (sym h) a
+  run-numbered is_of old [] (given ∷ replies) new a h = absurd h
+  run-numbered is_of old (s ∷ steps) [] new a h = absurd h
+  run-numbered is_of old (s ∷ steps) (given ∷ replies) new a h = run-numbered is_of h.0 steps replies new (turned-numbered old h.0 (step-turns old s given h.0 h.1) a) h.3
 
   step-ends : (old : World K) (s : Step) (n : ℕ) → end_of s ≡ Some n → (given : Reply) (new : World K) → IsStep content number_of old s given new → Ends old new n given
   step-ends old (step.Commit m) n is given new h = subst (λ (k : ℕ). Ends old new k given) (one-number m n is) (ended-ends old new (Commits number_of old.state) (CommitRefusal number_of old.state) m given h)
@@ -287,7 +287,7 @@ module _ {K : Type 0} (content : K → List ℕ) (number_of : K → ℕ) where
   pub stale-spent : (old : World K) → AreNumbered old → (s : Step) (n : ℕ) → end_of s ≡ Some n → IsSome (job_at old.jobs n) → (new : World K) → IsStep content number_of old s (reply.Refused refusal.StaleJob) new → IsSpent n new
   stale-spent old a s n is some new h = (let k = step-ends old s n is (reply.Refused refusal.StaleJob) new h in end-spent n old new a some k.0 k.1)
 
-  -- a step that names a spent number is stale
+  -- a step that names a spent number is refused as stale
   named-none : (old : World K) (found : Option ℕ) → IsSomeAnd found (λ n. IsSpent n old) → IsSomeAnd found (λ n. job_at old.jobs n ≡ None)
   named-none old None h = absurd h
   named-none old (Some n) h = ap flattened h.gone

@@ -1,4 +1,4 @@
--- A job number under which no job stands.
+-- A job number that no job has.
 use Rattle.std.proofs.Common.{◌≡◌, ℕ, List, Option, None, Some, IsSomeAnd, sym, ap, ◌∙◌}
 use Rattle.far_types.specs.declared.refusal.Refusal.{Refusal}
 use Rattle.far_types.specs.declared.refusal.Refusal.TheVariants as refusal
@@ -17,7 +17,7 @@ use Rattle.far_frame.specs.Worlds.{World, IsCarry, IsNoCarry, IsEnded, IsNotEnde
 none-some : {A : Type 0} (x : A) → Some x ≡ None → ⊥
 none-some x h = cc
 
--- a step that does not serve, and is refused for one reason alone, is refused for it
+-- a step that cannot serve, and has only one reason to be refused, is refused for that reason
 pub refused-so : (due : Refusal) (serves : Reply → Type 0) (refuses : Refusal → Type 0) (given : Reply) → ((served : Reply) → serves served → ⊥) → ((why : Refusal) → refuses why → why ≡ due) → Replies serves refuses given → given ≡ reply.Refused due
 refused-so due serves refuses (reply.Refused why) f g h = ap reply.Refused (g why h)
 refused-so due serves refuses (reply.Place place) f g h = absurd (f (reply.Place place) h)
@@ -49,7 +49,7 @@ module _ {K : Type 0} where
         (λ served k. none-some k.carried.job (sym k.carried.waits ∙ none))
         (λ e k. none-why CarryRefusal (job_at old.jobs n) e none k.refused) h
 
-    -- a step that carries or ends a job is stale if no job stands under its number
+    -- a step that carries or ends a job is refused as stale if no job has its number
     pub spent : (old : World K) (s : Step) → IsSomeAnd (job_of s) (λ n. job_at old.jobs n ≡ None) → (given : Reply) (new : World K) → IsStep content number_of old s given new → given ≡ reply.Refused refusal.StaleJob
     spent old (step.Carry n) none given new h = carry-spent n old new given none h
     spent old (step.Commit n) none given new h = ended-spent n old new given (Commits number_of old.state) (CommitRefusal number_of old.state) none h

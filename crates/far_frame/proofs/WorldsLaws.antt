@@ -1,4 +1,4 @@
--- What always holds of a world holds after each step, and what is known if one is refused.
+-- The invariant of a world holds after each step, and the reasons of refusals.
 use Rattle.std.proofs.Common.{◌≡◌, ℕ, Bool, true, false, cond, List, Option, Some, None, refl, sym, ap, subst, ◌∙◌, IfSome, IfErr, OnOk, OnErr, Result, IsSomeAnd, ◌⊎◌, ◌↔◌, inl, inr}
 use Rattle.std.specs.Prelude.{IsErrOf}
 use Rattle.std.specs.declared.result.Result.TheVariants.{Ok, Err}
@@ -22,7 +22,7 @@ none-is-some x h = cc
 same-some : {A : Type 0} (x y : A) → Some x ≡ Some y → x ≡ y
 same-some x y h = cc
 
--- a refusal that is due may come
+-- a call may return the due refusal
 pub due-may : (due : Option Refusal) (e : Refusal) → Some e ≡ due → MayRefuse due true e
 due-may (Some d) e h = same-some e d h
 due-may None e h = absurd (none-is-some e (sym h))
@@ -33,7 +33,7 @@ no-stale e r is m s = (let same = sym is ∙ s in cc)
 no-full : {A : Type 0} (e : Refusal) (r : Result A Refusal) → r ≡ Err e → e ≡ refusal.NoMemory → r ≡ Err refusal.RegionFull → ⊥
 no-full e r is m s = (let same = sym is ∙ s in cc)
 
--- why an install is refused, lack of memory too
+-- why an install is refused, including for lack of memory
 pub install-refused : {A : Type 0} (r : Result A Refusal) (accepted roomless : Type 0) → (IsErrOf r refusal.StaleJob ↔ (¬ accepted)) → (IsErrOf r refusal.RegionFull ↔ (accepted × roomless)) → IfErr r (λ e. (e ≡ refusal.StaleJob) ⊎ ((e ≡ refusal.RegionFull) ⊎ (e ≡ refusal.NoMemory)))
     → IfErr r (λ e. ((e ≡ refusal.StaleJob) × ¬ accepted) ⊎ (((e ≡ refusal.RegionFull) × accepted × roomless) ⊎ ((e ≡ refusal.NoMemory) × ¬ (¬ accepted) × ¬ roomless)))
 install-refused (Ok done) accepted roomless stale full is = is
@@ -53,7 +53,7 @@ module _ {K : Type 0} (is_of : K → List ℕ → Type 0) (id : List ℕ) where
   here-in (Some None) job h k = absurd (none-is-some job k)
   here-in (Some (Some found)) job h k = subst (IsJobAt is_of id) (same-some found job k) h
 
-  -- the job of a number is of the store
+  -- the job with a number is of the store
   pub job-here : (waiting : Waiting K) (n : ℕ) (job : JobRecord K) → AreJobsAt is_of id waiting → job_at waiting n ≡ Some job → IsJobAt is_of id job
   job-here waiting n job all is = here-in (lookup (is_number n) waiting) job (IfSome-lookup_from_All IsHere (is_number n) waiting all) is
 
@@ -70,14 +70,14 @@ module _ {K : Type 0} (is_of : K → List ℕ → Type 0) (id : List ℕ) where
   ended-here true waiting n all = without-here waiting n all
   ended-here false waiting n all = all
 
-  -- a step on the table leaves the world what it is
+  -- a step on the table keeps the invariant of the world
   pub table-moved : (old new : State K) (jobs : Waiting K) → ((of : List ℕ) → AreAt is_of of old.rows → AreAt is_of of new.rows) → IsWorld is_of id old jobs → IsWorld is_of id new jobs
   table-moved old new jobs here w = record { rows_at = here id w.rows_at; jobs_at = w.jobs_at }
 
   pub rows-stayed : (old new : State K) (jobs : Waiting K) → new.rows ≡ old.rows → IsWorld is_of id old jobs → IsWorld is_of id new jobs
   rows-stayed old new jobs same w = record { rows_at = subst (AreAt is_of id) (sym same) w.rows_at; jobs_at = w.jobs_at }
 
--- an end as a step
+-- the end of a job, as a step
 module _ {K : Type 0} (ends : WorkOf K → State K → Type 0) (why : WorkOf K → Refusal → Type 0) (n : ℕ) (old new : World K) where
   pub ended-step : (ended : Result Unit Refusal) → OnOk ended (IsSomeAnd (job_at old.jobs n) (λ job. ends job.work new.state)) → IfErr ended (RefusalAt (λ (job : JobRecord K). why job.work) (job_at old.jobs n))
       → OnErr ended (new.state ≡ old.state) → new ≡ record old { state = new.state; jobs = cond (spends ended) (without_job old.jobs n) old.jobs }

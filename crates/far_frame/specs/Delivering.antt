@@ -1,4 +1,4 @@
--- Contents that a host delivers: for which ticket, and what the store finds out about the bytes.
+-- Contents that a host delivers: for which ticket, and how the store checks the bytes.
 use Rattle.std.specs.Prelude.{◌≡◌, ℕ, List, [], ◌∷◌, Option, None, Some, IfSome, IsSomeAnd}
 use Rattle.std.specs.Option.{option_and_then}
 use Rattle.far_types.specs.declared.refusal.Refusal.{Refusal}

@@ -91,8 +91,8 @@ module _ {K : Type 0} where
   Refuses old s given new = (new ≡ old) × WhyRefused old s given
 
   module _ (content : K → List ℕ) where
-    -- an accepted step: nothing refuses it, and its reply and its effect are those of the plain table. An answer is computed from scratch
-    -- from the rows as they are now
+    -- an accepted step: no refusal is due, and its reply and its effect are those of the plain table. An answer is computed from scratch
+    -- over the current rows
     abbrev pub Accepts : State K → Step → Reply → State K → Type 0
     Accepts old (step.Edit e) given new = (given ≡ edit_reply old.table e)
         × Alters (λ before after. IsEdited content before e after) old new

@@ -1,4 +1,4 @@
--- Jobs that move objects: what they are, and how they begin, are carried and end.
+-- Jobs that move objects: their parts, and how they begin, are carried and end.
 use Rattle.std.specs.Prelude.{◌≡◌, ◌≢◌, ◌⊎◌, ℕ, ◌==◌, Bool, true, false, List, [], ◌∷◌, Option, None, Some, IsTrue, IsSome, IsSomeAnd}
 use Rattle.std.specs.List.{list_any}
 use Rattle.far_types.specs.declared.name.Name.{Name}
@@ -30,7 +30,7 @@ pub record JobRecord (K : Type 0) : Type 0 where
   pub name : Option Name
   pub work : WorkOf K
 
--- the refusal has one of these numbers
+-- the refusal has one of these codes
 abbrev pub IsOneOf : List ℕ → Refusal → Type 0
 IsOneOf numbers refusal = IsTrue (list_any (λ number. number == refusal_number refusal) numbers)
 
@@ -161,7 +161,7 @@ module _ {K : Type 0} where
     MayMerge (work.Offloaded build) = IsMergeable number_of (live old) build
     MayMerge _ = ⊥
 
-    -- the job is a carried evacuation that is accepted: its object is away
+    -- the job is a carried evacuation that is accepted: its object is evicted
     abbrev pub Commits : WorkOf K → State K → Type 0
     Commits (work.Carried carried) new = Alters (IsMoved (IsCommitted number_of carried)) old new
     Commits _ new = ⊥

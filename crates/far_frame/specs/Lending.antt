@@ -21,7 +21,7 @@ use Rattle.far_frame.specs.declared.step.Reply.{Reply}
 use Rattle.far_frame.specs.declared.step.Reply.TheVariants as reply
 use Rattle.far_frame.specs.State.{State}
 
--- adjacent places of one row group: the cells of a column there, and whether each place is alive
+-- adjacent places of one row group: the cells of a column at these places, and whether each place is alive
 pub record Piece : Type 0 where
   pub cells : List Cell
   pub flags : List Bool
@@ -92,8 +92,8 @@ module _ {K : Type 0} where
   after_touch_all r column lent = fold
       (λ rows g. option_map_or (after_touch rows) (object_at rows column g) rows) r lent
 
-  -- why lending a part of a column is refused: there is no such column, the places do not all exist, or the object of a row group with some
-  -- of them is away. The refusal names the first such object
+  -- why lending a part of a column is refused: there is no such column, the places do not all exist, or the object of a row group with
+  -- some of them is away. The refusal names the first such object
   abbrev pub lend_refusal : Rows K → ℕ → ℕ → ℕ → Option Refusal
   lend_refusal r column from to = first_of
       (no_column r column ∷ no_range r from to

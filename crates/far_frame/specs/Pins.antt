@@ -1,4 +1,4 @@
--- Pins: which steps change an object's pins, and that an object with a pin is local.
+-- Pins: which steps change an object's pins, and that a pinned object is local.
 use Rattle.std.specs.Prelude.{◌≡◌, ◌≢◌, Bool, true, false}
 use Rattle.far_scopes.specs.Movement.{is_local}
 use Rattle.far_rows.specs.declared.object.Object.{Object}

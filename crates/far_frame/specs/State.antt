@@ -7,8 +7,8 @@ use Rattle.far_rows.specs.Rows.{Rows}
 use Rattle.far_rows.specs.Opening.{empty_rows}
 use Rattle.far_table.specs.State.{LiveState}
 
--- all that a step on the table can see or change: the plain table, the rows over the objects that have its places, and the access history
--- of each column, which is its last 8 row groups, oldest first
+-- all that a step on the table can see or change: the plain table, the rows over the objects that have its places, and for each column
+-- the last 8 row groups that were accessed, oldest first
 pub record State (K : Type 0) : Type 0 where
   pub table : Table
   pub rows : Rows K

@@ -9,7 +9,7 @@ use Rattle.far_table.specs.Offloading.{offload_refusal}
 use Rattle.far_table.specs.Watching.{aggregate_at}
 use Rattle.far_frame.specs.State.{live}
 use Rattle.far_frame.specs.Jobs.{IsEvacJob, IsFetchJob, IsOffloadJob, Commits, CommitRefusal, Installs, InstallRefusal, Merges, MergeRefusal}
-use Rattle.far_frame.specs.Worlds.{World, IsBegun, IsNotBegun, IsCarry, IsNoCarry, IsEnded, IsNotEnded}
+use Rattle.far_frame.specs.Worlds.{World, HasOwnTickets, IsBegun, IsNotBegun, IsCarry, IsNoCarry, IsEnded, IsNotEnded}
 
 module _ {K : Type 0} (content : K → List ℕ) (number_of : K → ℕ) (old : World K) where
   -- only the state changes: not the jobs, the store or the faults
@@ -51,12 +51,15 @@ module _ {K : Type 0} (content : K → List ℕ) (number_of : K → ℕ) (old : 
       (λ served. IsEnded (Merges number_of old.state) n old served new)
       (λ why. IsNotEnded (MergeRefusal number_of old.state) n old why new) given
 
-module _ {K : Type 0} (content : K → List ℕ) (number_of : K → ℕ) where
-  -- the world `old` becomes `new` by these steps with these replies, one for each
+module _ {K : Type 0} (is_of : K → List ℕ → Type 0) (content : K → List ℕ)
+    (number_of : K → ℕ) where
+  -- the world `old` becomes `new` by these steps with these replies, one for each. After each step every ticket is of the world's store, also
+  -- one that a carry got
   abbrev pub IsRun : World K → List Step → List Reply → World K → Type 0
   IsRun old [] [] new = new ≡ old
   IsRun old [] (given ∷ replies) new = ⊥
   IsRun old (s ∷ steps) [] new = ⊥
   IsRun old (s ∷ steps) (given ∷ replies) new = (mid : World K)
       × IsStep content number_of old s given mid
+      × HasOwnTickets is_of mid
       × IsRun mid steps replies new

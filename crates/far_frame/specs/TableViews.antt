@@ -1,4 +1,4 @@
--- The table in a world as its user sees it, and what is always true of a table and its objects.
+-- The table in a world as its user sees it, and the invariant of a table and its objects.
 use Rattle.std.specs.Prelude.{◌≡◌, ℕ, Bool, true, false, List, map, length}
 use Rattle.std.specs.Option.{option_map_or}
 use Rattle.far_types.specs.Bounds.{AreLimits}
@@ -15,7 +15,7 @@ use Rattle.far_rows.specs.Rows.{Rows, AreRows}
 use Rattle.far_frame.specs.State.{State}
 use Rattle.far_frame.specs.TableRefusals.{TableState}
 
--- whether a word says that its object is away
+-- whether a word is remote
 abbrev pub is_remote : Pointer → Bool
 is_remote (Local at dirty hot far) = false
 is_remote Remote = true
@@ -30,7 +30,7 @@ module _ {K : Type 0} where
   abbrev pub gone_at : Rows K → ℕ → ℕ → Bool
   gone_at r c g = option_map_or (is_gone r) (object_at r c g) false
 
-  -- how many pins the object of a row group of a column has
+  -- the number of pins of the object of a row group of a column
   abbrev pub pins_of_group : Rows K → ℕ → ℕ → ℕ
   pins_of_group r c g = option_map_or (pins_at r) (object_at r c g) 0
 
@@ -42,7 +42,7 @@ module _ {K : Type 0} where
     pins = pins_of_group s.rows;
   }
 
-  -- what is always true of a table, its rows and their objects
+  -- the invariant of a table, its rows and their objects
   pub record IsKept (content : K → List ℕ) (s : State K) : Type 0 where
     pub limits : AreLimits s.table.limits
     pub rows : AreRows content s.rows

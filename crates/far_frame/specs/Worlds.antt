@@ -26,11 +26,15 @@ pub record World (K : Type 0) : Type 0 where
   pub faults : ℕ
 
 module _ {K : Type 0} where
-  -- what is always true: every ticket is of the world's store
+  -- the invariant: every ticket is of the world's store
   pub record IsWorld (is_of : K → List ℕ → Type 0) (id : List ℕ) (state : State K)
       (jobs : Waiting K) : Type 0 where
     pub rows_at : AreAt is_of id state.rows
     pub jobs_at : AreJobsAt is_of id jobs
+
+  -- every ticket of this world is of its store
+  abbrev pub HasOwnTickets : (K → List ℕ → Type 0) → World K → Type 0
+  HasOwnTickets is_of world = IsWorld is_of world.store world.state world.jobs
 
   -- as many jobs were begun as the limits allow
   abbrev pub used_up : World K → Option Refusal

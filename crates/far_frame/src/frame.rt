@@ -88,7 +88,7 @@ impl<S: FarTickets> Model for Frame<S> {
 }
 
 impl<S: FarTickets> Frame<S> {
-    /// Makes an empty table. `number` tells its jobs from those of other tables. Allocates all memory for elements at once.
+    /// Makes an empty table. `number` distinguishes its jobs from those of other tables. Allocates all memory for elements at once.
     ///
     /// Refused with the first of these that applies:
     ///

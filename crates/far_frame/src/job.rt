@@ -164,7 +164,7 @@ impl<S: FarTickets> Job<S> {
 
 impl<S: FarStore> Job<S> {
     /// Carries the job: an eviction puts its far form into the store, a fetch reads the content of its ticket, and an
-    /// offloaded build reads those of its tickets. Borrows no table, so it may run while any other step is served.
+    /// offloaded build reads the contents of its tickets. Borrows no table, so it may run while any other step is served.
     ///
     /// Refused with one of these; the job is then returned unchanged:
     ///

@@ -38,18 +38,18 @@ ghost use Rattle.far_frame.specs.Runs.{end_of, is_movement, is_refused, job_of, 
 ghost use Rattle.far_frame.specs.Waiting.{job_at, without_job};
 ghost use Rattle.far_frame.specs.State.{State, live};
 ghost use Rattle.far_frame.specs.Steps.{IsStep, IsRun};
-ghost use Rattle.far_frame.specs.Worlds.{AreNumbered, IsSpent, World};
+ghost use Rattle.far_frame.specs.Worlds.{AreNumbered, HasOwnTickets, IsSpent, IsWorld, World};
 ghost use Rattle.far_frame.specs.TableRefusals.{TableState};
 ghost use Rattle.far_frame.specs.TableRuns.{ArePinnedLocal, IsTableRun, IsTableStep};
 ghost use Rattle.far_frame.specs.TableViews.{IsKept, table_of};
 
 use far_store::FarTickets;
 
-/// After any list of steps, the rows are those of the plain list after the accepted edits, whatever was registered, scanned
-/// and asked in between.
+/// After any list of steps, the table has the rows of the plain list after the accepted edits, whatever aggregates were
+/// registered, scanned and asked in between.
 pub fn rows_are_those_of_the_plain_list<S: FarTickets>()
     ensures { (old : World S.Ticket) → (steps : List Step) → (replies : List Reply)
-        → (new : World S.Ticket) → IsRun S.content S.number_of old steps replies new
+        → (new : World S.Ticket) → IsRun S.is_of S.content S.number_of old steps replies new
         → new.state.table.places ≡ plain_rows steps replies old.state.table.places }
 {}
 
@@ -196,7 +196,7 @@ pub fn a_pinned_object_stays<S: FarTickets, N: FarTickets>()
         → (o : Object) → pins_at new.state.rows o ≡ pins_at old.state.rows o }
     ensures run { (old : World S.Ticket) → (steps : List Step) → (replies : List Reply)
         → (new : World S.Ticket) → ArePinnedHere old.state.rows
-        → IsRun S.content S.number_of old steps replies new
+        → IsRun S.is_of S.content S.number_of old steps replies new
         → ArePinnedHere new.state.rows }
     ensures opened { (schema : List Kind) → (limits : Limits) → (number : ℕ)
         → ArePinnedHere (empty_rows {K = S.Ticket} schema limits number) }
@@ -319,7 +319,7 @@ pub fn a_number_names_one_job<S: FarTickets, N: FarTickets>()
     ensures opened { (old : World S.Ticket) → old.jobs ≡ [] → AreNumbered old }
     ensures run { (old : World S.Ticket) → (steps : List Step) → (replies : List Reply)
         → (new : World S.Ticket) → AreNumbered old
-        → IsRun S.content S.number_of old steps replies new
+        → IsRun S.is_of S.content S.number_of old steps replies new
         → AreNumbered new }
     ensures accepted { (old : World S.Ticket) → AreNumbered old
         → (s : Step) → (n : ℕ) → end_of s ≡ Some n
@@ -333,7 +333,7 @@ pub fn a_number_names_one_job<S: FarTickets, N: FarTickets>()
         → IsSpent n new }
     ensures spent { (n : ℕ) → (old : World S.Ticket) → (steps : List Step) → (replies : List Reply)
         → (new : World S.Ticket) → IsSpent n old
-        → IsRun S.content S.number_of old steps replies new
+        → IsRun S.is_of S.content S.number_of old steps replies new
         → IsSpent n new }
     ensures named { (old : World S.Ticket) → (s : Step) → IsSomeAnd (job_of s) (λ n. IsSpent n old)
         → (given : Reply) → (new : World S.Ticket) → IsStep S.content S.number_of old s given new
@@ -344,13 +344,28 @@ pub fn a_number_names_one_job<S: FarTickets, N: FarTickets>()
         → IsSpent n new }
 {}
 
-/// Serving two lists of steps one after the other is the same as serving them joined.
+/// Serving two lists of steps in turn is the same as serving the joined list.
 pub fn runs_join<S: FarTickets>()
     ensures { (old : World S.Ticket) → (steps : List Step) → (replies : List Reply)
         → (mid : World S.Ticket) → (more : List Step) → (others : List Reply)
-        → (new : World S.Ticket) → IsRun S.content S.number_of old steps replies mid
-        → IsRun S.content S.number_of mid more others new
-        → IsRun S.content S.number_of old (steps ++ more) (replies ++ others) new }
+        → (new : World S.Ticket) → IsRun S.is_of S.content S.number_of old steps replies mid
+        → IsRun S.is_of S.content S.number_of mid more others new
+        → IsRun S.is_of S.content S.number_of old (steps ++ more) (replies ++ others) new }
+{}
+
+/// All tickets of a world are of its store, after any run: those of objects, and those in jobs, also one that a carry got. A
+/// run does not change the store.
+///
+/// So tickets of equal numbers have equal contents (`FarTickets::same`). A merge compares numbers alone: if it is accepted,
+/// its build read what the objects hold.
+pub fn a_run_keeps_to_its_store<S: FarTickets>()
+    ensures store { (old : World S.Ticket) → (steps : List Step) → (replies : List Reply)
+        → (new : World S.Ticket) → IsRun S.is_of S.content S.number_of old steps replies new
+        → new.store ≡ old.store }
+    ensures tickets { (old : World S.Ticket) → (steps : List Step) → (replies : List Reply)
+        → (new : World S.Ticket) → HasOwnTickets S.is_of old
+        → IsRun S.is_of S.content S.number_of old steps replies new
+        → IsWorld S.is_of old.store new.state new.jobs }
 {}
 
 /// A step of a world is also a step of its table in a user's words.
@@ -366,7 +381,7 @@ pub fn a_pinned_chunk_is_local()
         → IsTableRun old steps replies new → ArePinnedLocal old → ArePinnedLocal new }
 {}
 
-/// After any run of a table in a user's words, the rows are those of the plain list after the accepted edits.
+/// After any run of a table in a user's words, it has the rows of the plain list after the accepted edits.
 pub fn table_rows_are_those_of_the_plain_list()
     ensures { (old : TableState) → (steps : List Step) → (replies : List Reply) → (new : TableState)
         → IsTableRun old steps replies new

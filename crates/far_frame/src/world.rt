@@ -7,7 +7,7 @@ ghost use Rattle.far_frame.specs.Steps.{IsStep, IsRun};
 ghost use Rattle.far_frame.specs.TableRefusals.{due};
 ghost use Rattle.far_frame.specs.TableRuns.{IsTableStep, IsTableRun};
 ghost use Rattle.far_frame.specs.TableViews.{table_of};
-ghost use Rattle.far_frame.specs.Worlds.{IsSpent};
+ghost use Rattle.far_frame.specs.Worlds.{HasOwnTickets, IsSpent};
 
 mod carrying;
 mod delivering;
@@ -103,6 +103,14 @@ impl<S: FarStore> World<S> {
         &self.store
     }
 
+    /// For the proof: shows that every ticket of the world is of its store. Does nothing.
+    #[inline(always)]
+    pub fn keeps(&self)
+        ensures { HasOwnTickets S.is_of self.now }
+    {
+        let _store = &self.store;
+    }
+
     /// Returns how many faults of its stores the world has counted since `new`. Allocates nothing.
     pub fn faults(&self) -> u64
         ensures { result ≡ self.now.faults }
@@ -159,17 +167,21 @@ impl<S: FarStore> World<S> {
         self.frame.record_lending(column, from, to)
     }
 
-    /// Serves one step. It always has a reply. If that is a refusal, no row, column, aggregate or object changed.
+    /// Serves one step. It always has a reply. If that is a refusal, no row, column, aggregate or object changed. Every ticket
+    /// is then of the world's store, also one that a carry got.
     pub fn serve(&mut self, step: Step) -> Reply
         requires few { self.old.faults < 2 ^ 63 }
         ensures step { IsStep S.content S.number_of self.old step result self.new }
+        ensures here { HasOwnTickets S.is_of self.new }
         ensures table { IsTableStep (table_of self.old.state) step result
             (table_of self.new.state) }
         ensures faults { self.new.faults ≤ self.old.faults + 1 }
     {
         // For the proof: shows the invariant of the table.
         self.frame.keeps();
-        self.serve_step(step)
+        let reply = self.serve_step(step);
+        self.keeps();
+        reply
     }
 
     /// Serves one step, by the function for its kind.
@@ -216,12 +228,14 @@ impl<S: FarStore> World<S> {
 /// - Each edit's reply is the plain list's.
 /// - A refused step changes no row, column or answer.
 /// - A spent number of a job stays spent.
+/// - Every ticket is of the world's store.
 ///
 /// Refused only with `NoMemory` (1), before any step. A refused call changes nothing.
 pub fn run<S: FarStore>(world: &mut World<S>, steps: Vec<Step>) -> Result<Vec<Reply>, Refusal>
     requires few { world.old.faults + length steps.items < 2 ^ 63 }
     ensures run { IfOk result
-        (λ replies. IsRun S.content S.number_of world.old steps.items replies.items world.new) }
+        (λ replies. IsRun S.is_of S.content S.number_of world.old steps.items replies.items
+        world.new) }
     ensures table { IfOk result
         (λ replies. IsTableRun (table_of world.old.state) steps.items replies.items
         (table_of world.new.state)) }

@@ -60,10 +60,10 @@ impl<S: FarTickets> Frame<S> {
     ///
     /// Refused with the first of these that applies:
     ///
-    /// - `StaleJob` (20): the job is no offloaded build.
+    /// - `StaleJob` (20): the job is not an offloaded build.
     /// - `NoAggregate` (12): its aggregate is not registered.
     /// - `StaleJob` (20): the job was not carried, or something changed since it began: the aggregate was registered anew,
-    ///   the objects of its columns or the alive flags are others, or the row group was scanned.
+    ///   the objects of its columns or the alive flags differ, or the row group was scanned.
     /// - `NoMemory` (1): an allocation fails.
     ///
     /// A refused call changes nothing.

@@ -21,7 +21,7 @@ impl<S: FarDelivery> World<S> {
     ///
     /// Premise: if the store accepts these bytes as the content of that number, they are that content.
     ///
-    /// Refused with one of these. A refused call changes nothing but the count of faults:
+    /// Refused with one of these. A refused call changes only the count of faults:
     ///
     /// - `StaleJob` (20): there is no such job, or it reads no content of this number, or it was carried.
     /// - `FarFault` (21): these are not the bytes that went out under this number. The fault is counted.
@@ -89,7 +89,7 @@ impl<S: FarDelivery> World<S> {
     ///
     /// Premise: if the store accepts these bytes as the content of the object's copy, they are that content.
     ///
-    /// Refused with the first of these that applies. A refused call changes nothing but the count of faults:
+    /// Refused with the first of these that applies. A refused call changes only the count of faults:
     ///
     /// - `NoColumn` (4): there is no such column.
     /// - `OutOfRange` (14): the row group has no place.

@@ -80,7 +80,7 @@ impl<S: FarStore> World<S> {
         self.frame.begin_offload(&self.store, a, group)
     }
 
-    /// Gives a job that was begun its number. Refused only with `NoMemory` (1). A refused call changes nothing.
+    /// Adds a job that was begun, and returns its number. Refused only with `NoMemory` (1). A refused call changes nothing.
     pub(super) fn add(&mut self, job: Job<S>) -> Result<u64, Refusal>
         requires next { self.old.begun + 1 < 2 ^ 64 }
         requires here { IsJobAt S.is_of self.old.store job }

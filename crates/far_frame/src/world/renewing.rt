@@ -13,7 +13,7 @@ use far_types::Refusal;
 
 impl<S: FarStore> World<S> {
     /// Moves the world to another store: puts the content of each object that is away there. All numbers of jobs that were
-    /// begun are spent, and the numbering goes on.
+    /// begun are spent, and the numbering continues.
     ///
     /// A refused call returns the world, jobs included; only its count of faults may have changed. Refused with one of
     /// these:

@@ -56,7 +56,7 @@ pub(super) fn scan_group<S: FarTickets>(frame: &mut Frame<S>, a: u32, group: u32
     Reply::done_or(frame.scan_group(a, group))
 }
 
-/// Serves the question for an aggregate's answer.
+/// Serves the step that asks for an aggregate's answer.
 pub(super) fn ask<S: FarTickets>(frame: &Frame<S>, a: u32) -> Reply
     ensures { Changes S.content frame.now (Step.Ask a) result frame.now }
 {
@@ -93,7 +93,7 @@ pub(super) fn compact<S: FarTickets>(frame: &mut Frame<S>, kind: Kind, segment: 
     Reply::done_or(frame.compact(kind, segment))
 }
 
-/// Serves the question which row groups of a column to fetch next.
+/// Serves the step that asks which row groups of a column to fetch next.
 pub(super) fn prefetch<S: FarTickets>(frame: &Frame<S>, column: u32) -> Reply
     ensures { Changes S.content frame.now (Step.Prefetch column) result frame.now }
 {

@@ -7,10 +7,10 @@ returns g c =
     let number_of = g.S.FarTickets.number_of in
     record {
       opened = opened-numbered;
-      run = run-numbered content number_of;
+      run = run-numbered content number_of g.S.FarTickets.is_of;
       accepted = accepted-spent content number_of;
       stale = stale-spent content number_of;
-      spent = run-spent content number_of;
+      spent = run-spent content number_of g.S.FarTickets.is_of;
       named = named-stale content number_of;
       migrated = migrated-spent content g.N.FarTickets.content;
     }

@@ -10,7 +10,7 @@ returns g c =
     record {
       stays = step-stays content number_of;
       pins = step-pins content number_of;
-      run = run-holds content number_of;
+      run = run-holds content number_of g.S.FarTickets.is_of;
       opened = opened-holds g.row.S-Ticket.Denot;
       lent = lent-free content number_of;
       committed = pinned-stays content number_of;

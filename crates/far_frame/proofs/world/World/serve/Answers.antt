@@ -9,7 +9,8 @@ returns g c =
     let content = g.S.FarTickets.content in
     let kept = subst (λ (w : World g.row.S-Ticket.Denot). IsKept content w.state) c.self.view_is c.keeps.ensures in
     record {
-      step = c.serve_step.ensures.step;
-      table = step-table content g.S.FarTickets.number_of c.args.self.now c.serve_step.new.self kept c.args.step c.serve_step.result c.serve_step.ensures.step;
-      faults = c.serve_step.ensures.faults;
+      step = c.serve_step-reply.ensures.step;
+      here = c.keeps-2.ensures;
+      table = step-table content g.S.FarTickets.number_of c.args.self.now c.serve_step-reply.new.self kept c.args.step c.serve_step-reply.result c.serve_step-reply.ensures.step;
+      faults = c.serve_step-reply.ensures.faults;
     }
