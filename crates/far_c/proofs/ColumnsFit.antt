@@ -24,7 +24,7 @@ below-length [] k x at = absurd cc
 below-length (y ∷ ys) zero x at = omega arith
 below-length (y ∷ ys) (suc k) x at = (let rest = below-length ys k x at in omega (arith, rest))
 
--- what holds of what an option has
+-- a consequence of a property that an option's value has
 at-some : {A : Type 0} (o : Option A) (P : A → Type 0) (Q : Type 0) → IsSomeAnd o P → ((x : A) → o ≡ Some x → P x → Q) → Q
 at-some (Some x) P Q h f = f x refl h
 at-some None P Q h f = absurd h
@@ -61,17 +61,17 @@ module _ (row rows : ℕ) (c : FcColumn) (below : row < rows) where
   has-row-of Int numbers = numbers-have numbers
   has-row-of Text texts = texts-have texts
 
-  -- a cell of a column of so many rows is there
+  -- each cell of a column with this many rows exists
   pub is-there : IsColumn rows c → ¬ (CellFaultIn row c unread.BadArgument)
   is-there (inl numbers) not = not (numbers-have numbers)
   is-there (inr texts) not = not (texts-have texts)
 
--- and a row of columns that fit
+-- each row of columns that fit exists
 pub row-is-there : (kinds : List Kind) (rows : ℕ) (columns : List FcColumn) (row : ℕ) → AreColumnsOf kinds rows columns → row < rows → ¬ (RowFaultIn columns row unread.BadArgument)
 row-is-there kinds rows columns row fit below fault = at-some (slice_get columns fault.0) (λ c. CellFaultIn row c unread.BadArgument) ⊥ fault.1 (λ c at not.
     at-some (slice_get kinds fault.0) (λ one. IsColumnOf one rows c) ⊥ (fit.each fault.0 c at) (λ one is column. not (has-row-of row rows c below one column)))
 
--- offsets of the right length are right if they ascend
+-- offsets of the right length are valid exactly if they ascend
 pub are-offsets : (rows len : ℕ) (offsets : List ℕ) (sorted : Bool) (last : ℕ) → IsAllAdjacentAnswer (λ x y b. is_some_and is_le (Some (nat_cmp x y)) ≡ b) offsets sorted → slice_get offsets (length offsets - 1) ≡ Some last → length offsets - 1 ≡ rows → last ≤ len
     → IsTrue sorted ↔ AreOffsets rows len offsets
 are-offsets rows len offsets sorted last cases at long within = by sorted (non_decreasing_from_is_sorted offsets sorted cases)
@@ -86,7 +86,7 @@ are-offsets rows len offsets sorted last cases at long within = by sorted (non_d
     by true order = (λ _. record { count = let below = below-length offsets rows last here in omega (arith, below, long); order = order; within = end }, λ _. refl)
     by false other = (λ on. absurd cc, λ are. absurd (let falls = other.2 0 in let rises = are.order other.0 (other.0 + 1) 0 (omega arith) other.1 in omega (arith, falls, rises)))
 
--- and are not if they are of another length, or end behind the bytes
+-- offsets of another length, or with an end past the bytes, are not valid
 pub no-offsets : (rows len : ℕ) (offsets : List ℕ) (last : ℕ) → slice_get offsets (length offsets - 1) ≡ Some last → AreOffsets rows len offsets → (length offsets - 1 ≡ rows) × (last ≤ len)
 no-offsets rows len offsets last at are =
     let count = are.count in
@@ -95,48 +95,48 @@ no-offsets rows len offsets last at are =
     let within = are.within in
     (long, omega (arith, is, within))
 
--- one more is read
+-- one more item is read
 pub first-more : (read : ℕ → Type 0) (n : ℕ) → AreFirstRead read n → read n → AreFirstRead read (n + 1)
 first-more read n before now k below = elim (cases_lt k n) [ inl less ↦ before k less | inr past ↦ subst read (let same : n ≡ k = omega (arith, past, below) in same) now ]
 
--- the columns up to one fit
+-- the first n columns fit
 module _ (kinds : List Kind) (rows : ℕ) (columns : List FcColumn) where
   abbrev pub FitUpTo : ℕ → Type 0
   FitUpTo n = (k : ℕ) (c : FcColumn) → k < n → slice_get columns k ≡ Some c → IsSomeAnd (slice_get kinds k) (λ one. IsColumnOf one rows c)
 
-  -- one more fits
+  -- one more column fits
   pub fits-more : (n : ℕ) (one : Kind) (c : FcColumn) → slice_get kinds n ≡ Some one → slice_get columns n ≡ Some c → IsColumnOf one rows c → FitUpTo n → FitUpTo (n + 1)
   fits-more n one c kind column is before k d below at = elim (cases_lt k n) [ inl less ↦ before k d less at | inr past ↦ here (let same : k ≡ n = omega (arith, past, below) in same) ]
     where
       here : k ≡ n → IsSomeAnd (slice_get kinds k) (λ one'. IsColumnOf one' rows d)
       here same = subst (λ (i : ℕ). IsSomeAnd (slice_get kinds i) (λ one'. IsColumnOf one' rows d)) (sym same) (subst (λ (o : Option Kind). IsSomeAnd o (λ one'. IsColumnOf one' rows d)) (sym kind) (let e : Some c ≡ Some d = sym column ∙ ap (slice_get columns) (sym same) ∙ at in let f : c ≡ d = cc in subst (IsColumnOf one rows) f is))
 
-  -- all fit
+  -- all columns fit
   pub all-fit : (n : ℕ) → length columns ≡ length kinds → length columns ≤ n → FitUpTo n → AreColumnsOf kinds rows columns
   all-fit n count all fit = record {
     count = count;
     each = λ k c at. fit k c (let below = below-length columns k c at in omega (arith, below, all)) at;
   }
 
-  -- they do not, since one does not
+  -- one column does not fit, so they do not all fit
   pub one-does-not : (n : ℕ) (one : Kind) (c : FcColumn) → slice_get kinds n ≡ Some one → slice_get columns n ≡ Some c → ¬ (IsColumnOf one rows c) → ¬ (AreColumnsOf kinds rows columns)
   one-does-not n one c kind column not fit = not (subst (λ (o : Option Kind). IsSomeAnd o (λ one'. IsColumnOf one' rows c)) kind (fit.each n c column))
 
--- a test that gives false does not hold
+-- a test that returns false shows that the property does not hold
 pub not-so : (b : Bool) (P : Type 0) → (IsTrue b ↔ P) → b ≡ false → ¬ P
 not-so b P exact off p = let on : b ≡ true = exact.1 p in absurd cc
 
--- rows are stopped by a text, since they are all there
+-- a row can only be unreadable because of a text, since all rows exist
 pub row-stopped : (columns : List FcColumn) (rows appended code : ℕ) (t : TableState) → AreColumnsOf t.world.state.table.schema rows columns → appended < rows → IsUnreadable (RowFaultIn columns appended) code → IsNotAppended columns rows appended t code
 row-stopped columns rows appended code t fit below (inl text) = inr (text.0, fit, below, text.1)
 row-stopped columns rows appended code t fit below (inr bad) = absurd (row-is-there t.world.state.table.schema rows columns appended fit below bad.1)
 
--- and so are cells
+-- a cell can only be unreadable because of a text, since all cells exist
 pub cell-stopped : (values : FcColumn) (rows set code : ℕ) (t : TableState) → IsColumn rows values → set < rows → IsUnreadable (CellFaultIn set values) code → IsNotSet values rows set t code
 cell-stopped values rows set code t fit below (inl text) = inr (text.0, fit, below, text.1)
 cell-stopped values rows set code t fit below (inr bad) = absurd (is-there set rows values below fit bad.1)
 
--- the table of a handle keeps its last refusal
+-- a call that stops keeps the last refusal of the handle's table
 pub stopped : (why : TableState → ℕ → Type 0) (code : ℕ) (old new : Option TableState) (t u : TableState) → old ≡ Some t → new ≡ Some u → u.refusal ≡ t.refusal → why t code → IsStoppedFor why code old new
 stopped why code old new t u before after same w = (
   ap (option_map (λ (table : TableState). table.refusal)) after ∙ ap Some same ∙ sym (ap (option_map (λ (table : TableState). table.refusal)) before),

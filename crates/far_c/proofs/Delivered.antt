@@ -1,4 +1,4 @@
--- Why bytes that are delivered are not taken.
+-- Why delivered bytes are not taken.
 use Rattle.std.proofs.Common.{◌≡◌, ℕ, true, false, List, Option, None, Some, Result, inl, inr, refl, sym, ap}
 use Rattle.std.specs.Prelude.{[], ◌∷◌, ◌↔◌, ◌⊎◌, IfErr, IsErrOf}
 use Rattle.std.specs.declared.result.Result.TheVariants.{Ok, Err}

@@ -1,4 +1,4 @@
--- A call that ends with what a step gave: if its code is 0, the step is served.
+-- A call whose result is that of a step: if its code is 0, the step is served.
 use Rattle.std.proofs.Common.{◌≡◌, ◌∙◌, ◌≤◌, ℕ, Result, OnOk, OnErr, sym, ap, subst, arith}
 use Rattle.std.specs.Prelude.{IfOk}
 use Rattle.std.specs.declared.result.Result.TheVariants.{Ok, Err}
@@ -14,7 +14,7 @@ pub ended : (s : Step) (outcome : Result Unit Refusal) (given : Reply) (old mid 
 ended s (Ok done) given old mid new code served is same number zero = subst (λ (t : TableState). IsServed s reply.Done old t) (sym same.1) (subst (λ (g : Reply). IsServed s g old mid) is served)
 ended s (Err why) given old mid new code served is same number zero = absurd (let low = number.0 in let none : ¬ (1 ≤ code) = λ h. omega (arith, h, zero) in none low)
 
--- likewise of one that writes what the step gave
+-- a call that also writes the step's result
 pub written : {T : Type 0} (s : Step) (form : T → Reply) (outcome : Result T Refusal) (given : Reply) (old mid new : TableState) (code : ℕ) (to : T) (P : Type 0) → IsServed s given old mid → IfOk outcome (λ x. given ≡ form x) → IfOk outcome (λ x. (code ≡ 0) × (to ≡ x) × (new ≡ mid)) → OnErr outcome (IsRefusal code × P) → code ≡ 0
     → IsServed s (form to) old new
 written s form (Ok x) given old mid new code to P served is same number zero = subst (λ (t : TableState). IsServed s (form to) old t) (sym same.2) (subst (λ (g : Reply). IsServed s g old mid) (is ∙ ap form (sym same.1)) served)

@@ -1,4 +1,4 @@
--- A refusal is one fault at most.
+-- A refusal counts at most one fault.
 use Rattle.std.proofs.Common.{◌≤◌, Bool, true, false, arith}
 use Rattle.std.specs.Prelude.{◌==◌, if◌then◌else◌}
 use Rattle.far_types.specs.declared.refusal.Refusal.{Refusal}

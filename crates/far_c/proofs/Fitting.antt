@@ -1,4 +1,4 @@
--- A step's reply is of the step's own form, and a step that carries no job counts no fault.
+-- The reply of a step has the step's own form, and a step that carries no job counts no fault.
 use Rattle.std.proofs.Common.{◌≡◌, ℕ, List, Option, refl, sym, subst}
 use Rattle.std.specs.Prelude.{⊤}
 use Rattle.far_types.specs.declared.edit.Edit.TheVariants as edit
@@ -19,7 +19,7 @@ use Rattle.far_frame.specs.Worlds.{World, IsBegun, IsNotBegun, IsCarry, IsNoCarr
 use Rattle.far_c.specs.Contents.{content, number_of}
 use Rattle.far_c.specs.Replies.{Fits, GivesDone, GivesJob, IsDone, IsPlace, IsAggregate, IsAnswer, IsJob, IsNext, IsQuiet}
 
--- a reply is of a form if it is whenever the step is served
+-- a reply has a form if it has it whenever the step is served
 formed : (serves form : Reply → Type 0) (refuses : Refusal → Type 0) → ((given : Reply) → serves given → form given) → (given : Reply) → Replies serves refuses given → Replies form (λ (why : Refusal). ⊤) given
 formed s t r f (reply.Refused why) h = tt
 formed s t r f (reply.Place place) h = f (reply.Place place) h
@@ -42,7 +42,7 @@ proposed groups (reply.Ints pieces) h = absurd h
 proposed groups (reply.Texts pieces) h = absurd h
 proposed groups (reply.Job n) h = absurd h
 
--- what holds whether the step is served or refused
+-- a fact that holds whether the step is served or refused
 either : (serves : Reply → Type 0) (refuses : Refusal → Type 0) (P : Type 0) → ((given : Reply) → serves given → P) → ((why : Refusal) → refuses why → P) → (given : Reply) → Replies serves refuses given → P
 either s r p f g (reply.Refused why) h = g why h
 either s r p f g (reply.Place place) h = f (reply.Place place) h
@@ -67,7 +67,7 @@ module _ (old new : World TicketState) where
   of_world : {w : World TicketState} → new ≡ w → w.faults ≡ old.faults → Same
   of_world is same = subst (λ (v : World TicketState). v.faults ≡ old.faults) (sym is) same
 
-  -- a step on the table alone
+  -- a step on the table
   module _ (s : Step) where
     on_table : (form : Reply → Type 0) → ((given : Reply) → Accepts content old.state s given new.state → form given) → (given : Reply) → OnTable content number_of old s given new → Replies form (λ (why : Refusal). ⊤) given
     on_table form f given h = formed (λ g. Accepts content old.state s g new.state) form (λ w. Refuses old.state s w new.state) f given h.0
@@ -86,7 +86,7 @@ module _ (old new : World TicketState) where
     begun_still : (given : Reply) → Replies (λ g. IsBegun begins old g new) (λ w. IsNotBegun due old w new) given → Same
     begun_still = either (λ g. IsBegun begins old g new) (λ w. IsNotBegun due old w new) Same (λ g (a : IsBegun begins old g new). of_world a.world refl) (λ w (a : IsNotBegun due old w new). of_world a.world refl)
 
-  -- a step that ends one
+  -- a step that ends a job
   module _ (ends : WorkOf TicketState → State TicketState → Type 0) (why : WorkOf TicketState → Refusal → Type 0) (n : ℕ) where
     ended_form : (given : Reply) → Replies (λ g. IsEnded ends n old g new) (λ w. IsNotEnded why n old w new) given → GivesDone given
     ended_form = formed (λ g. IsEnded ends n old g new) IsDone (λ w. IsNotEnded why n old w new) (λ g (a : IsEnded ends n old g new). done_form g a.says)

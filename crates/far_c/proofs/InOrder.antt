@@ -1,4 +1,4 @@
--- One more step after those that were served in order.
+-- One more step after steps that were served in order.
 use Rattle.std.proofs.Common.{◌∙◌, ℕ, ◌+◌, sym, ap, subst, add-one}
 use Rattle.far_frame.specs.declared.step.Step.{Step}
 use Rattle.far_frame.specs.declared.step.Reply.{Reply}

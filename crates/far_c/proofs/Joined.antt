@@ -1,4 +1,4 @@
--- Lent pieces of numbers, one behind the other, are the part of their column.
+-- Lent pieces of numbers, one after another, are the part of their column.
 use Rattle.std.proofs.Common.{◌≡◌, ◌∙◌, ℕ, ℤ, ◌-◌, ◌<◌, ◌≤◌, Bool, List, [], ◌∷◌, ◌++◌, length, map, Option, None, Some, Result, refl, sym, ap, subst, arith}
 use Rattle.std.specs.Prelude.{is_some, IfOk}
 use Rattle.std.specs.declared.result.Result.TheVariants.{Ok, Err}
@@ -58,7 +58,7 @@ module _ (table : Table) (some : 0 < table.limits.group) (c from to : ℕ) (low 
   alive-read : flags_in lents ≡ alive_of table.places from to
   alive-read = flags-joined c lents (pieces_of table.places table.limits.group from to) are ∙ ap flags_of (joined-pieces table.places table.limits.group some from to low) ∙ sym (flags-range c table.places from to)
 
--- likewise what a view of a world's table lends
+-- what a view of a world's table lends is the same part
 module _ (view : LiveState TicketState) (state : State TicketState) (old : World TicketState) (is : view ≡ live state) (same : state ≡ old.state) (some : 0 < state.table.limits.group) (c from to : ℕ) where
   whole : view ≡ live old.state
   whole = is ∙ ap live same
@@ -82,7 +82,7 @@ module _ (view : LiveState TicketState) (state : State TicketState) (old : World
       by (Ok lents) lent free = alive-read old.state.table group c from to (ints-low view.rows c from to (sym free)) lents (as-table lents lent)
       by (Err why) lent refused = lent
 
--- the numbers of cells, and whether they have values
+-- the numbers of the cells, and whether each has a value
 module _ (places : List Place) (c from to : ℕ) (numbers : List (Option ℤ)) (cells : map int_cell numbers ≡ part c from to places) where
   pub few-numbers : length numbers ≤ to - from
   few-numbers = (let long = sym (length-map numbers int_cell) in let few = part-few places c from to (map int_cell numbers) cells in omega (arith, long, few))

@@ -32,7 +32,7 @@ use Rattle.far_c.specs.Contents.{content, number_of}
 use Rattle.far_c.specs.Parts.{IsPartLent, alive_of}
 use Rattle.far_c.specs.TableState.{TableState}
 
--- what gives pieces is no refusal
+-- a reply with pieces is not a refusal
 accepted : (of : Option Kind) (pieces : List Piece) (given : Reply) → IsReplyOf of pieces given → IsAccepted given
 accepted of pieces (reply.Ints copies) is = tt
 accepted of pieces (reply.Texts copies) is = tt
@@ -50,7 +50,7 @@ pub part-lent : (column from to : ℕ) (old new : TableState) (r : Result Unit R
 part-lent column from to old new (Ok done) same h = (h.0, accepted (slice_get old.world.state.table.schema column) (lent_part old.world.state.table column from to) h.0 h.1, (h.2, same))
 part-lent column from to old new (Err why) same h = tt
 
--- of tests in their order none holds
+-- if no test of a list applies, the second and the third do not
 second-off : (x y : Bool × Refusal) (rest : List (Bool × Refusal)) → first_of (x ∷ y ∷ rest) ≡ None → y.0 ≡ false
 second-off (true, e) y rest none = absurd cc
 second-off (false, e) (true, f) rest none = absurd cc
@@ -72,7 +72,7 @@ neither false b off = (refl, off)
 not-below : (a b : ℕ) → nat_lt a b ≡ false → b ≤ a
 not-below a b off = elim (cases_lt a b) [ inl less ↦ absurd (let on : true ≡ false = sym (lt-ltb a b less) ∙ off in cc) | inr past ↦ past ]
 
--- the places of a part that is lent are there
+-- each place of a part that is lent exists
 pub part-within : (world : World TicketState) (column from to : ℕ) (r : Result Unit Refusal) → refusal_in r ≡ due (table_of world.state) (step.Lend column from to) → OnOk r (to ≤ length world.state.table.places)
 part-within world column from to (Ok done) is =
     let s = table_of world.state in
@@ -90,14 +90,14 @@ module _ (r : Rows TicketState) (column from to : ℕ) where
   pub ints-low : ints_refusal r column from to ≡ None → from ≤ to
   ints-low none = low-range (third-off (no_column r column) (of_texts r column) (no_range r from to) groups none)
 
-  -- a part that is read can be lent
+  -- a part that can be read can be lent
   pub ints-lent-too : ints_refusal r column from to ≡ None → lend_refusal r column from to ≡ None
   ints-lent-too none = without-second (no_column r column) (of_texts r column) (no_range r from to ∷ groups) none
 
   pub texts-lent-too : texts_refusal r column from to ≡ None → lend_refusal r column from to ≡ None
   texts-lent-too none = without-second (no_column r column) (of_numbers r column) (no_range r from to ∷ groups) none
 
--- how long a part of a column is
+-- the length of a part of a column
 module _ (places : List Place) (c from to : ℕ) where
   pub part-few : (cells : List Cell) → cells ≡ part c from to places → length cells ≤ to - from
   part-few cells are = (let long = ap length are in let few = length-take (to - from) (drop from (column_of c places)) in omega (arith, long, few))
@@ -111,7 +111,7 @@ module _ (places : List Place) (c from to : ℕ) where
   pub flags-long : (flags : List Bool) → flags ≡ alive_of places from to → to ≤ length places → length flags ≡ to - from
   flags-long flags are within = ap length are ∙ length-between (flags_of places) from to (rw (length-map places (λ (place : Place). place.alive)) within)
 
--- a part that is read can be lent
+-- a part that was read through a view can be lent
 module _ (view : LiveState TicketState) (state : State TicketState) (old : World TicketState) (is : view ≡ live state) (same : state ≡ old.state) (column from to : ℕ) where
   pub numbers-may-be-lent : {X : Type 0} (r : Result X Refusal) → refusal_in r ≡ ints_refusal view.rows column from to → OnOk r (lend_refusal old.state.rows column from to ≡ None)
   numbers-may-be-lent (Ok lents) free = subst (λ (v : LiveState TicketState). lend_refusal v.rows column from to ≡ None) (is ∙ ap live same) (ints-lent-too view.rows column from to (sym free))
@@ -121,7 +121,7 @@ module _ (view : LiveState TicketState) (state : State TicketState) (old : World
   texts-may-be-lent (Ok lents) free = subst (λ (v : LiveState TicketState). lend_refusal v.rows column from to ≡ None) (is ∙ ap live same) (texts-lent-too view.rows column from to (sym free))
   texts-may-be-lent (Err why) free = tt
 
--- what follows if a call is done, and what if it is refused for what is not due
+-- consequences of a call that is accepted, and of one that is refused although no refusal is due
 pub on-ok : (r : Result Unit Refusal) (P Q : Type 0) → (P → Q) → OnOk r P → OnOk r Q
 on-ok (Ok done) P Q f h = f h
 on-ok (Err why) P Q f h = h

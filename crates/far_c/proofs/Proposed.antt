@@ -1,4 +1,4 @@
--- A table proposes two row groups at most.
+-- A table proposes at most two row groups.
 use Rattle.std.proofs.Common.{◌≡◌, ◌∙◌, ℕ, ◌+◌, ◌-◌, ◌≤◌, Bool, true, false, ℤ, pos, ◌+ℤ◌, List, [], ◌∷◌, drop, length, take, Option, None, Some, sym, subst, arith}
 use Rattle.std.specs.Prelude.{if◌then◌else◌, min, filter_map}
 use Rattle.std.specs.List.{cons_option}
@@ -14,7 +14,7 @@ use Rattle.far_c.specs.Proposals.{AreProposed, groups_in}
 use Rattle.far_c.specs.Replies.{IsNext}
 use Rattle.far_c.specs.TableState.{TableState}
 
--- no more are kept than there are
+-- filtering a list does not make it longer
 cons-few : (found : Option ℕ) (rest : List ℕ) (n : ℕ) → length rest ≤ n → length (cons_option found rest) ≤ n + 1
 cons-few (Some y) rest n few = omega (arith, few)
 cons-few None rest n few = omega (arith, few)

@@ -1,4 +1,4 @@
--- Why a row is not lent, of the table of a world.
+-- Why a row of a world's table is not lent.
 use Rattle.std.proofs.Common.{◌≡◌, ◌∙◌, ℕ, ◌≤◌, ◌<◌, ◌/◌, Bool, true, false, length, Option, Some, Result, inl, inr, refl, sym, ap, subst}
 use Rattle.std.specs.Prelude.{if◌then◌else◌, nat_lt}
 use Rattle.std.proofs.lemmas.Bool.{cases_lt, le-ltb, lt-ltb}

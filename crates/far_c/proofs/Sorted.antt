@@ -1,4 +1,4 @@
--- What a binary search by key finds among lines whose keys ascend; and that those of an answer do.
+-- A binary search by key among lines whose keys ascend, and that the keys of an answer ascend.
 use Rattle.std.proofs.Common.{◌≡◌, ◌≢◌, ◌∙◌, ℕ, ◌+◌, ◌<◌, ◌≤◌, false, List, [], ◌∷◌, length, get_or, Option, None, Some, Result, Ok, Err, MatchOption, IsSomeAnd, Less, Equal, Greater, is_lt, inl, inr, sym, ap, ap₂, subst, arith}
 use Rattle.std.specs.Cmp.{tied_itself}
 use Rattle.std.specs.Result.{result_ok}
@@ -38,7 +38,7 @@ module _ {A B : Type 0} (lines : List (Option Key × A × B)) (ascend : Ascend (
   key-at : (k : ℕ) (d : Option Key × A × B) → k < length lines → get_or (keys_in lines) k d.0 ≡ (get_or lines k d).0
   key-at k d below = get_or-map (λ (line : Option Key × A × B). line.0) lines k d d.0 below
 
-  -- no line is before the one in front of it, as a binary search asks
+  -- the lines are sorted as a binary search requires
   sorted : IsSortedBy (λ (a b : Option Key × A × B). is_lt (line_cmp a.0 b.0)) lines
   sorted k d low high =
       let inside : k + 1 < length (keys_in lines) = rw (length-map lines (λ (line : Option Key × A × B). line.0)) high in
@@ -48,14 +48,14 @@ module _ {A B : Type 0} (lines : List (Option Key × A × B)) (ascend : Ascend (
   rises : IsNonDecreasingBy (λ (line : Option Key × A × B). ordering_index (line_cmp line.0 key)) lines
   rises = searchable_from_sorted line_total (λ (line : Option Key × A × B). line.0) lines key sorted
 
-  -- a line with this key is neither before nor behind it
+  -- a line with this key is neither before nor after it
   other : (found : Option Key) → found ≡ key → line_cmp found key ≢ Less
   other found is less = (let tied : line_cmp key key ≡ Equal = tied_itself line_total key in let less' = subst (λ (k : Option Key). line_cmp k key ≡ Less) is less in cc)
 
   other' : (found : Option Key) → found ≡ key → line_cmp found key ≢ Greater
   other' found is more = (let tied : line_cmp key key ≡ Equal = tied_itself line_total key in let more' = subst (λ (k : Option Key). line_cmp k key ≡ Greater) is more in cc)
 
-  -- the key of a line that stands at an index
+  -- the key of the line at an index
   line-key : (k : ℕ) (line : Option Key × A × B) → slice_get lines k ≡ Some line → slice_get (keys_in lines) k ≡ Some line.0
   line-key k line at = slice_get-map (λ (line : Option Key × A × B). line.0) lines k ∙ ap (option_map (λ (line : Option Key × A × B). line.0)) at
 

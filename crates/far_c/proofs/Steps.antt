@@ -1,4 +1,4 @@
--- A handle on a table owns what a box of the table owns.
+-- A handle on a table owns exactly what a box of the table owns.
 use mathlib.Core.List.{[]}
 use mir.Syntax.{impl, tnil, dnil}
 use denote.Signature.{Slot, plain}

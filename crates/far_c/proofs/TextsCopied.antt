@@ -1,4 +1,4 @@
--- Texts that are copied one behind the other, with where each begins and whether it is there.
+-- Texts that are copied one after another, with the offset of each and whether it has a value.
 use Rattle.std.proofs.Common.{◌≡◌, ◌∙◌, ℕ, ◌+◌, ◌-◌, ◌<◌, ◌≤◌, Bool, List, [], ◌∷◌, ◌++◌, append_assoc, append-nil, drop, length, map, take, Option, sym, ap, add-one, arith}
 use Rattle.std.specs.Prelude.{set}
 use Rattle.std.proofs.lemmas.List.{length-append, length-map, length-take-le, take_all}
@@ -14,15 +14,15 @@ use Rattle.far_c.proofs.Lending.{part-few, part-long}
 abbrev Lent : Type 0
 Lent = List (Option (List ℕ) × Bool)
 
--- one more is put behind those that are there
+-- writing element k appends it to the first k
 pub put-one : {A : Type 0} (k : ℕ) (xs : List A) (v : A) (tail whole : List A) → k < length xs → take k xs ++ (v ∷ tail) ≡ whole → take (k + 1) (set xs k v) ++ tail ≡ whole
 put-one k xs v tail whole inside is = ap (λ n. take n (set xs k v) ++ tail) (add-one k) ∙ ap (λ l. l ++ tail) (take-suc-set xs k v inside) ∙ append_assoc (take k xs) (v ∷ []) tail ∙ is
 
--- all is there once nothing is left
+-- after the last element the list is complete
 pub all-put : {A : Type 0} (k : ℕ) (xs whole : List A) → length xs ≤ k → take k xs ++ [] ≡ whole → xs ≡ whole
 all-put k xs whole long is = sym (take_all k xs long) ∙ sym (append-nil (take k xs)) ∙ is
 
--- a text more is put into the buffer
+-- copying one more text into the buffer
 module _ (text : Option (List ℕ)) (alive : Bool) (rest lent : Lent) (is : lent ≡ (text, alive) ∷ rest) where
   pub offsets-more : (k at end : ℕ) (offsets whole : List ℕ) → k < length offsets → end ≡ at + length (bytes_of (text_cell text)) → take k offsets ++ offsets_of at (cells_in lent) ≡ whole
       → take (k + 1) (set offsets k at) ++ offsets_of end (cells_in rest) ≡ whole
@@ -48,7 +48,7 @@ module _ (text : Option (List ℕ)) (alive : Bool) (rest lent : Lent) (is : lent
         ap (λ n. take n new ++ texts_of (cells_in rest)) ends ∙ ap (λ l. take (at + length shown) l ++ texts_of (cells_in rest)) made
         ∙ put-as-it-is at had shown (texts_of (cells_in rest)) whole fits behind
 
-    -- if it does not fit, nor do all
+    -- if a text does not fit, the texts do not all fit
     pub too-long : at ≤ length had → length had < at + length shown → length had < length whole
     too-long low short =
         let all = sym (ap length behind) ∙ length-append (take at had) (shown ++ texts_of (cells_in rest)) in
@@ -56,7 +56,7 @@ module _ (text : Option (List ℕ)) (alive : Bool) (rest lent : Lent) (is : lent
         let second = length-append shown (texts_of (cells_in rest)) in
         omega (arith, all, first, second, short)
 
--- nothing is left: what the buffers have
+-- after the last text the buffers are complete
 pub texts-there : (cells : List Cell) (k at : ℕ) (offsets bytes : List ℕ) (valid : List Bool) → k < length offsets → length offsets ≤ k + 1 → at ≤ length bytes → length valid ≤ k
     → take k offsets ++ offsets_of at [] ≡ offsets_of 0 cells → take at bytes ++ [] ≡ texts_of cells → take k valid ++ [] ≡ map has_value cells → AreTextsOf cells (set offsets k at) bytes valid
 texts-there cells k at offsets bytes valid inside last low long starts texts flags = record {
@@ -68,7 +68,7 @@ texts-there cells k at offsets bytes valid inside last low long starts texts fla
   valid = all-put k valid (map has_value cells) long flags;
 }
 
--- how many texts a part has
+-- the number of texts in a part
 module _ (places : List Place) (c from to : ℕ) (lent : Lent) (cells : cells_in lent ≡ part c from to places) where
   pub few-texts : length lent ≤ to - from
   few-texts = (let long = sym (length-map lent (λ (t : Option (List ℕ) × Bool). text_cell t.0)) in let few = part-few places c from to (cells_in lent) cells in omega (arith, long, few))

@@ -1,4 +1,4 @@
--- What an aggregate is, as C has it.
+-- Aggregates as C receives them.
 use Rattle.std.specs.Prelude.{◌≡◌, ℕ, length, min, is_some, unwrap_or}
 use Rattle.far_types.specs.declared.spec.Fold.{Fold}
 use Rattle.far_types.specs.declared.spec.Fold.TheVariants as fold
@@ -10,7 +10,7 @@ abbrev pub fold_code : Fold → ℕ
 fold_code fold.Totals = 0
 fold_code fold.Extrema = 1
 
--- its fold, its columns, and how many tests it has: a table takes at most 4
+-- the aggregate's fold and columns, and the number of its tests: a table allows at most 4
 pub record IsAggregateOf (spec : Spec) (about : FcAggregate) : Type 0 where
   pub fold : about.fold ≡ fold_code spec.fold
   pub value : about.value ≡ spec.value

@@ -1,4 +1,4 @@
--- The answer that stays in a handle, and its lines as C has them.
+-- The answer that a handle holds, and its lines as C receives them.
 use Rattle.std.specs.Prelude.{◌≡◌, ◌<◌, ◌+◌, ◌-◌, ℕ, ℤ, min, List, length, Option, None, Some, IsSomeAnd, slice_get}
 use Rattle.far_types.specs.declared.answer.Answer.{Answer}
 use Rattle.far_types.specs.declared.answer.Answer.TheVariants as answer
@@ -13,19 +13,19 @@ use Rattle.far_c.specs.Contents.{content, number_of}
 use Rattle.far_c.specs.Sums.{AreWordsOf}
 use Rattle.far_c.specs.TableState.{TableState}
 
--- how many lines an answer has
+-- the number of lines of an answer
 abbrev pub lines_in : Answer → ℕ
 lines_in (answer.Totals lines) = length lines
 lines_in (answer.Extrema lines) = length lines
 
--- an aggregate was asked: its answer stays, with so many lines
+-- an aggregate was asked: the handle holds its answer, which has this many lines
 abbrev pub IsAsked : ℕ → ℕ → TableState → TableState → Type 0
 IsAsked a lines old new = IsSomeAnd new.answer
     (λ answer. IsStep content number_of old.world (step.Ask a) (reply.Answer answer) new.world
     × (lines ≡ lines_in answer)
     × (new ≡ record old { world = new.world; answer = Some answer }))
 
--- likewise an answer that is computed from scratch
+-- an aggregate was recounted: the handle holds its answer, which has this many lines
 abbrev pub IsRecounted : ℕ → ℕ → TableState → TableState → Type 0
 IsRecounted a lines old new = IsSomeAnd new.answer
     (λ answer. IsAnswerNow old.world.state.table a answer × (lines ≡ lines_in answer)
@@ -63,11 +63,11 @@ abbrev pub IsPast : Answer → ℕ → Type 0
 IsPast (answer.Totals lines) index = slice_get lines index ≡ None
 IsPast (answer.Extrema lines) index = slice_get lines index ≡ None
 
--- the first so many are the lines of an answer from an index on
+-- the first `count` lines are the lines of an answer from an index on
 abbrev pub AreLinesAt : Answer → ℕ → ℕ → List FcLine → Type 0
 AreLinesAt answer from count lines = (k : ℕ) → k < count
     → IsSomeAnd (slice_get lines k) (λ line. IsLineAt answer (from + k) line)
 
--- how many lines an answer has from an index on, and at most so many as have room
+-- the number of lines of an answer from an index on, but at most `room`
 abbrev pub lines_from : Answer → ℕ → ℕ → ℕ
 lines_from answer from room = min room (lines_in answer - from)

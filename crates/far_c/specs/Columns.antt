@@ -18,7 +18,7 @@ use Rattle.far_c.specs.Contents.{content, number_of}
 use Rattle.far_c.specs.Outcomes.{IsAccepted}
 use Rattle.far_c.specs.TableState.{TableState}
 
--- whether the bit of a byte is set, the lowest first; without a byte it is
+-- whether a bit of a byte is set, counted from the lowest; if there is no byte, it is
 abbrev pub is_set : Option ℕ → ℕ → Bool
 is_set None bit = true
 is_set (Some byte) bit = bit_at byte bit == 1
@@ -27,7 +27,7 @@ is_set (Some byte) bit = bit_at byte bit == 1
 abbrev pub has_value : List ℕ → ℕ → Bool
 has_value valid row = is_set (slice_get valid (row / 8)) (row % 8)
 
--- where a text begins
+-- the offset at which a text begins
 abbrev pub offset_at : List ℕ → ℕ → ℕ
 offset_at offsets row = unwrap_or (slice_get offsets row) 0
 
@@ -54,28 +54,28 @@ abbrev pub set_of : ℕ → List ℕ → FcColumn → ℕ → Step
 set_of column places values index = step.Edit
     (edit.Set (slice_index places index) column (column_cell values index))
 
--- the first steps of some are accepted, in order, as many as this
+-- the first n of these steps are accepted, in order
 abbrev pub AreAccepted : (ℕ → Step) → ℕ → World TicketState → World TicketState → Type 0
 AreAccepted steps zero old new = new ≡ old
 AreAccepted steps (suc n) old new = (mid : World TicketState) × (given : Reply)
     × AreAccepted steps n old mid × IsStep content number_of mid (steps n) given new
     × IsAccepted given
 
--- likewise, of a handle: nothing else changes but the last refusal
+-- the first n of these steps are accepted on a handle, which changes only in its last refusal
 abbrev pub AreServed : (ℕ → Step) → ℕ → TableState → TableState → Type 0
 AreServed steps count old new = AreAccepted steps count old.world new.world
     × (new ≡ record old { world = new.world; refusal = new.refusal })
 
--- the first rows are inserted, in order, as many as this
+-- the first n rows are inserted, in order
 abbrev pub AreAppended : List FcColumn → ℕ → TableState → TableState → Type 0
 AreAppended columns = AreServed (insert_of columns)
 
--- the first cells are set, in order, as many as this
+-- the first n cells are set, in order
 abbrev pub AreSet : ℕ → List ℕ → FcColumn → ℕ → TableState → TableState → Type 0
 AreSet column places values = AreServed (set_of column places values)
 
--- the next step is refused by the refusal of this number, which is kept; or memory ran out before
--- the table was asked
+-- the next step is refused by the refusal with this code, which the handle keeps; or memory ran
+-- out before the table was called
 abbrev pub IsNextRefused : Step → ℕ → TableState → Type 0
 IsNextRefused next code new = IsSomeAnd new.refusal (λ why. (code ≡ refusal_number why)
     × (IsStep content number_of new.world next (reply.Refused why) new.world ⊎ (why ≡ NoMemory)))

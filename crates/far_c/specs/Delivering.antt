@@ -1,4 +1,4 @@
--- Contents that go out, and come back.
+-- Contents that go to the host, and that the host delivers.
 use Rattle.std.specs.Prelude.{◌≡◌, ◌≢◌, ◌⊎◌, ℕ, ◌+◌, List, Option, None, Some, IsSomeAnd}
 use Rattle.far_types.specs.declared.refusal.Refusal.{Refusal}
 use Rattle.far_types.specs.declared.refusal.Refusal.TheVariants as refusal
@@ -16,59 +16,59 @@ use Rattle.far_c.specs.Contents.{content, matches, number_of}
 use Rattle.far_c.specs.Outcomes.{IsUsedUp}
 use Rattle.far_c.specs.TableState.{TableState}
 
--- what goes out for a job: the content of its ticket, under the ticket's number
+-- the content that a job sends to the host, with the number of its ticket
 abbrev pub IsOutgoing : Option (JobRecord TicketState) → ℕ → List ℕ → Type 0
 IsOutgoing found number bytes = IsSomeAnd found
     (λ job. IsSomeAnd (outgoing_of job.work)
     (λ ticket. (number ≡ number_of ticket) × (bytes ≡ content ticket)))
 
--- the number of the content at an index of those that a job has still to read
+-- the number of the content at an index, among those that a job has yet to read
 abbrev pub IsWanted : Option (JobRecord TicketState) → ℕ → ℕ → Type 0
 IsWanted found index number = IsSomeAnd found
     (λ job. IsSomeAnd (number_wanted number_of job.work index) (λ wanted. number ≡ wanted))
 
--- bytes are taken, as the content of the ticket that is wanted. The table and its jobs stay
+-- the bytes are accepted as the content of the wanted ticket. The table and its jobs are unchanged
 abbrev pub IsDelivered : Option TicketState → List ℕ → TableState → TableState → Type 0
 IsDelivered wanted bytes old new = IsContentOf content wanted bytes × (new ≡ old)
 
--- nothing goes out for a job: it is no carried eviction, or its content went out before
+-- a job sends nothing to the host: it is not a carried eviction, or its content was sent before
 abbrev pub HasNothingOut : ℕ → TableState → ℕ → Type 0
 HasNothingOut n table code = (code ≡ 104)
     × IsSomeAnd (job_at table.world.jobs n) (λ job. outgoing_of job.work ≡ None)
 
--- a job has no content at an index of those that it has still to read
+-- a job has no content at an index, among those that it has yet to read
 abbrev pub WantsNoMore : ℕ → ℕ → TableState → ℕ → Type 0
 WantsNoMore n index table code = (code ≡ 104)
     × IsSomeAnd (job_at table.world.jobs n) (λ job. number_wanted number_of job.work index ≡ None)
 
--- why bytes are not taken: none are wanted, or they are others, or memory ran out for those that
--- are
+-- why bytes are not accepted: none are wanted, or they are not the wanted ones, or memory ran out
+-- for the wanted ones
 abbrev pub WhyNotTaken : Option TicketState → List ℕ → Refusal → Type 0
 WhyNotTaken wanted bytes why = ((why ≡ refusal.StaleJob) × (wanted ≡ None))
     ⊎ (((why ≡ refusal.FarFault) × IsOther matches wanted bytes)
     ⊎ ((why ≡ refusal.NoMemory) × (wanted ≢ None) × ¬ (IsOther matches wanted bytes)))
 
--- why bytes are not taken for an object: it is not to be fetched, or they are others, or memory ran
--- out
+-- why bytes are not accepted for an object: it cannot be fetched, or they are not its content, or
+-- memory ran out
 abbrev pub WhyNoCopy : Rows TicketState → ℕ → ℕ → List ℕ → Refusal → Type 0
 WhyNoCopy rows column group bytes why = (fetch_refusal rows column group ≡ Some why)
     ⊎ (((why ≡ refusal.FarFault) × IsOther matches (copy_of rows column group) bytes)
     ⊎ ((why ≡ refusal.NoMemory) × (fetch_refusal rows column group ≡ None)))
 
--- an object is not away; or as many faults were counted as may be
+-- an object is not away, or the limit of counted faults is reached
 abbrev pub IsNotAway : ℕ → ℕ → TableState → ℕ → Type 0
 IsNotAway column group table code = IsUsedUp table code
     ⊎ ((code ≡ 104) × (fetch_refusal table.world.state.rows column group ≡ Some refusal.StaleJob))
 
--- a call that changes the count of faults alone is refused for such a reason, which is kept and has
--- this number
+-- a call that changes only the count of faults is refused for one of these reasons, which the
+-- handle keeps and which has this code
 abbrev pub IsCountedFor : (Refusal → Type 0) → ℕ → TableState → TableState → Type 0
 IsCountedFor reason code old new = IsSomeAnd new.refusal
     (λ why. (code ≡ refusal_number why) × reason why
     × (new.world ≡ record old.world { faults = old.world.faults + faults_of why })
     × (new.answer ≡ old.answer))
 
--- likewise for whatever reason
+-- a call that changes only the count of faults is refused for any reason, which the handle keeps
 abbrev pub IsCounted : ℕ → TableState → TableState → Type 0
 IsCounted code old new = IsSomeAnd new.refusal (λ why. (code ≡ refusal_number why)
     × (new.world ≡ record old.world { faults = old.world.faults + faults_of why })

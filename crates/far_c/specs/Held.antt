@@ -1,4 +1,4 @@
--- What a handle owns: nothing at null, or the table at its pointer and the right to free it.
+-- What a handle owns: nothing if its pointer is null, else the table and the right to free it.
 -- Internal: no public contract cites it.
 use base.Fml.{Fml, ftrue, fex}
 use base.Stored.{Coded}

@@ -1,4 +1,4 @@
--- Jobs as C has them.
+-- Jobs as C receives them.
 use Rattle.std.specs.Prelude.{◌≡◌, ℕ, None}
 use Rattle.std.specs.Option.{MatchOption}
 use Rattle.far_host.specs.HostTickets.{TicketState}
@@ -10,19 +10,19 @@ use Rattle.far_frame.specs.Jobs.{JobRecord, job_kind}
 use Rattle.far_c.specs.declared.jobs.FcJob.{FcJob}
 use Rattle.far_c.specs.TableState.{TableState}
 
--- the number of what a job does
+-- the code of a job's kind
 abbrev pub code_of : JobKind → ℕ
 code_of kind.Evac = 0
 code_of kind.Fetch = 1
 code_of kind.Offload = 2
 
--- what a job is: what it does, whether it was carried, and the object that it moves, if it moves
--- one
+-- the description of a job: its kind, whether it was carried, and the object that it moves, if it
+-- moves one
 abbrev pub IsJobOf : JobRecord TicketState → FcJob → Type 0
 IsJobOf job about = (about.kind ≡ code_of (job_kind job)) × (about.carried ≡ is_carried job.work)
     × MatchOption job.name ((about.column ≡ 0) × (about.group ≡ 0))
     (λ name. (about.column ≡ name.column) × (about.group ≡ name.group))
 
--- there is no object that may go: each that is local has a pin
+-- no object can be evicted: each local one has a pin
 abbrev pub IsWithoutColdest : TableState → ℕ → Type 0
 IsWithoutColdest table code = (code ≡ 104) × (coldest table.world.state.rows ≡ None)

@@ -1,4 +1,4 @@
--- The line of one key, as C has it.
+-- The line of one key, as C receives it.
 use Rattle.std.specs.Prelude.{◌≡◌, ◌⊎◌, ℕ, Option, None, Some, IsSomeAnd, true}
 use Rattle.far_types.specs.declared.cell.Cell.{Cell}
 use Rattle.far_types.specs.declared.key.Key.{Key}
@@ -20,32 +20,32 @@ use Rattle.far_c.specs.Outcomes.{refused_with}
 use Rattle.far_c.specs.TableState.{TableState}
 use Rattle.far_c.specs.Unreadable.{CellFault, IsReadable, IsUnreadable}
 
--- the line of a key, with what was found under it
+-- the line of a key, with the values that were found for it
 abbrev pub IsLine : Option Key → Line → FcLine → Type 0
 IsLine key (line.Totals count sum) given = IsTotalLine (key, count, sum) given
 IsLine key (line.Extrema min max) given = IsExtremaLine (key, min, max) given
 
--- an aggregate has an answer, and in it this line of the key that a cell names, or none
+-- an aggregate answers, and the answer has this line for the key that a cell names, or none
 abbrev pub AnswersCell : Table → ℕ → Cell → Option Line → Type 0
 AnswersCell table a cell = AnswersKey table.places (aggregate_at table a) (key_of cell)
 
--- an aggregate has an answer, and in it a line of the key that a cell names: this one
+-- an aggregate answers, and the answer has this line for the key that a cell names
 abbrev pub HasLine : Table → ℕ → Cell → FcLine → Type 0
 HasLine table a cell given = (found : Line) × AnswersCell table a cell (Some found)
     × IsLine (key_of cell) found given
 
--- why there is no line: the cell that names its key is not read, or the aggregate has an answer and
--- in it no line of this key
+-- why there is no line: the cell that names its key cannot be read, or the aggregate answers, and
+-- the answer has no line for this key
 abbrev pub HasNoLine : ℕ → FcCell → TableState → ℕ → Type 0
 HasNoLine a key table code = IsUnreadable (CellFault key) code
     ⊎ ((code ≡ 104) × IsReadable key
     × AnswersCell table.world.state.table a (cell_of key) None)
 
--- why an aggregate has no answer, or memory for the key ran out
+-- why an aggregate does not answer, or memory for the key ran out
 abbrev pub MayRefuseKey : Table → ℕ → Refusal → Type 0
 MayRefuseKey table a = MayRefuse (ask_refusal (aggregate_at table a)) true
 
--- the refusal of this number is kept, and nothing else changes
+-- the handle keeps the refusal with this code, and nothing else changes
 abbrev pub IsNotAnswered : ℕ → ℕ → TableState → TableState → Type 0
 IsNotAnswered code a old new = IsSomeAnd new.refusal
     (λ why. (code ≡ refusal_number why) × MayRefuseKey old.world.state.table a why

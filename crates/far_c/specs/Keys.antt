@@ -29,6 +29,6 @@ key_of cell = key_in (Some cell)
 abbrev pub IsKeyAt : List (Option Key) → ℕ → Option Key → Type 0
 IsKeyAt keys index key = slice_get keys index ≡ Some key
 
--- no key is this one
+-- no key in the list is this one
 abbrev pub IsNoKeyOf : List (Option Key) → Option Key → Type 0
 IsNoKeyOf keys key = (index : ℕ) → slice_get keys index ≢ Some key

@@ -1,4 +1,4 @@
--- What a handle is once its table was lent for writing.
+-- A handle after its table was lent for writing.
 -- Internal: no public contract cites it.
 use Rattle.std.specs.Prelude.{Option, Some}
 use Rattle.std.specs.Borrow.{LendsIf, MutBor, Fml}
@@ -11,6 +11,6 @@ use Rattle.far_c.specs.contracts.handle.Handle.{the_row}
 abbrev pub with_table : Handle → TableState → Handle
 with_table h w = record h { table = Some w }
 
--- h ends with the last table after r, and as it was without one
+-- h ends with the table that the borrow r ends with, and is unchanged if there is no borrow
 abbrev pub LendsTable : MutBor Handle → Option (MutBor TableState) → Fml
 LendsTable h r = LendsIf the_row Table.the_row h r (with_table h.now) h.now

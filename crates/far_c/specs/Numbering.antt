@@ -5,12 +5,12 @@ use Rattle.far_frame.specs.Renewing.{IsMigratedTo}
 use Rattle.far_frame.specs.Worlds.{World}
 use Rattle.far_c.specs.Contents.{content}
 
--- the store of a world gives out the numbers below this capacity, and no others
+-- the store of a world gives out exactly the numbers below this capacity
 abbrev pub HasStore : ℕ → World TicketState → Type 0
 HasStore capacity world = (store : HostState) × (store.capacity ≡ capacity)
     × (world.store ≡ id_of store)
 
--- a world goes on with new numbers, below this capacity: its contents are those of a new store
+-- a world continues with new numbers, below this capacity: its contents are in a new store
 abbrev pub IsRenumbered : ℕ → World TicketState → World TicketState → Type 0
 IsRenumbered capacity old new = IsMigratedTo content content new.store old new
     × HasStore capacity new

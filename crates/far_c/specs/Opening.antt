@@ -1,4 +1,4 @@
--- What a table is opened with, as C passes it.
+-- The arguments that open a table, as C passes them.
 use Rattle.std.specs.Prelude.{◌≡◌, ◌⊎◌, ℕ, ◌==◌, cond, List, Option, None, IsSome}
 use Rattle.far_types.specs.declared.cell.Kind.{Kind}
 use Rattle.far_types.specs.declared.cell.Kind.TheVariants as kind
@@ -24,7 +24,7 @@ limits_of l = record {
   text_size = l.text_size;
 }
 
--- no table is opened: the handle is open, or the first kind that is none is refused
+-- no table is opened: the handle is already open, or the first unknown kind is refused
 abbrev pub IsNotOpened : List ℕ → Option TableState → ℕ → Type 0
 IsNotOpened kinds old code = ((code ≡ 101) × IsSome old)
     ⊎ ((code ≡ 103) × (old ≡ None) × FirstFault KindFault IsKind kinds unread.BadArgument)

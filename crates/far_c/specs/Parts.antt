@@ -1,4 +1,4 @@
--- Parts of columns as C has them.
+-- Parts of columns as C receives them.
 use Rattle.std.specs.Prelude.{◌≡◌, ◌+◌, ◌-◌, ◌<◌, ◌⊎◌, ℕ, ℤ, pos, Bool, true, false, List, [], ◌∷◌, map, take, length, Option, slice_range, unwrap_or}
 use Rattle.std.specs.List.{flat_map}
 use Rattle.far_types.specs.declared.cell.Cell.{Cell}
@@ -11,7 +11,7 @@ use Rattle.far_frame.specs.Lending.{flags_of}
 use Rattle.far_c.specs.Outcomes.{IsAccepted, IsServed, IsUnfit}
 use Rattle.far_c.specs.TableState.{TableState}
 
--- the number of a cell, and 0 for any other
+-- the number of a cell, or 0 if it has none
 abbrev pub number_or_zero : Cell → ℤ
 number_or_zero (cell.Int number) = number
 number_or_zero (cell.Text text) = pos 0
@@ -52,12 +52,12 @@ abbrev pub IsPartLent : ℕ → ℕ → ℕ → TableState → TableState → Ty
 IsPartLent column from to old new = (given : Reply) × IsAccepted given
     × IsServed (step.Lend column from to) given old new
 
--- buffers of these lengths are as long as a part of numbers
+-- buffers of these lengths have the length of a part of numbers
 abbrev pub FitNumbers : ℕ → ℕ → ℕ → ℕ → ℕ → Type 0
 FitNumbers from to values valid alive = (values ≡ to - from) × (valid ≡ to - from)
     × (alive ≡ to - from)
 
--- likewise of texts, which have an offset more
+-- buffers of these lengths have the length of a part of texts, which has one more offset
 abbrev pub FitTexts : ℕ → ℕ → ℕ → ℕ → ℕ → Type 0
 FitTexts from to offsets valid alive = (offsets ≡ to - from + 1) × (valid ≡ to - from)
     × (alive ≡ to - from)
@@ -68,17 +68,17 @@ bytes_of (cell.Text text) = text
 bytes_of (cell.Int number) = []
 bytes_of cell.Missing = []
 
--- the texts of some cells, one behind the other
+-- the texts of some cells, one after another
 abbrev pub texts_of : List Cell → List ℕ
 texts_of cells = flat_map bytes_of cells
 
--- where each text begins if the first begins at this offset, and where the last ends
+-- the offsets at which the texts begin, if the first begins at this offset, and the end of the last
 abbrev pub offsets_of : ℕ → List Cell → List ℕ
 offsets_of at [] = at ∷ []
 offsets_of at (c ∷ cells) = at ∷ offsets_of (at + length (bytes_of c)) cells
 
--- buffers have the texts of some cells: where each begins and the last ends; the texts themselves,
--- at the front of the buffer of bytes; and whether each cell has one
+-- buffers have the texts of some cells: the offsets of the texts and the end of the last; their
+-- bytes, at the beginning of the buffer of bytes; and whether each cell has a text
 pub record AreTextsOf (cells : List Cell) (starts text : List ℕ) (flags : List Bool) : Type 0 where
   pub offsets : starts ≡ offsets_of 0 cells
   pub bytes : take (length (texts_of cells)) text ≡ texts_of cells
@@ -88,7 +88,7 @@ pub record AreTextsOf (cells : List Cell) (starts text : List ℕ) (flags : List
 abbrev pub HasNoSpace : List Cell → ℕ → Type 0
 HasNoSpace cells len = len < length (texts_of cells)
 
--- a part of texts is not copied: the buffers do not fit, or that of bytes has no space
+-- a part of texts is not copied: the buffers do not fit, or the buffer of bytes lacks space
 abbrev pub IsNotCopied : Type 0 → ℕ → ℕ → ℕ → ℕ → TableState → ℕ → Type 0
 IsNotCopied fits column from to len table code = IsUnfit fits table code
     ⊎ ((code ≡ 105) × HasNoSpace (part column from to table.world.state.table.places) len)

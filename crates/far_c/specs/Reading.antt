@@ -1,4 +1,4 @@
--- What C reads of a table.
+-- What C reads from a table.
 use Rattle.std.specs.Prelude.{◌≡◌, ◌≢◌, ◌⊎◌, ℕ, ◌/◌, if◌then◌else◌, nat_lt, length, Option, None, Some, is_some, slice_get, unwrap_or, IsSomeAnd}
 use Rattle.far_types.specs.declared.refusal.Refusal.{Refusal}
 use Rattle.far_types.specs.declared.refusal.Refusal.TheVariants as refusal
@@ -14,7 +14,7 @@ use Rattle.far_c.specs.declared.readers.FcDetails.{FcDetails}
 use Rattle.far_c.specs.declared.readers.FcObject.{FcObject}
 use Rattle.far_c.specs.declared.readers.FcSpace.{FcSpace}
 
--- what an object is
+-- the state of an object, as C receives it
 pub record IsObjectOf (state : ObjectState) (object : FcObject) : Type 0 where
   pub local : object.local ≡ state.local
   pub dirty : object.dirty ≡ state.dirty
@@ -24,14 +24,14 @@ pub record IsObjectOf (state : ObjectState) (object : FcObject) : Type 0 where
   pub has_copy : object.has_copy ≡ is_some state.copy
   pub copy : object.copy ≡ unwrap_or state.copy 0
 
--- the space of a region
+-- the space of a region, as C receives it
 pub record IsSpaceOf (region : Space) (space : FcSpace) : Type 0 where
   pub used : space.used ≡ region.used
   pub free : space.free ≡ region.free
   pub segments : space.segments ≡ region.segments
   pub size : space.size ≡ region.size
 
--- what a refusal carries
+-- the values that a refusal carries
 abbrev pub CarriesOf : Refusal → FcDetails → Type 0
 CarriesOf (refusal.Building left) details = details.pending ≡ left
 CarriesOf (refusal.Absent column group) details = (details.column ≡ column)
@@ -49,8 +49,8 @@ row_refusal s place = if nat_lt place (length s.table.places)
     then first_of (absents s.rows (place / s.table.limits.group))
     else Some refusal.NoRow
 
--- no row of so many cells is written: the table has another number of columns, or the row another
--- number of cells
+-- a row of `len` cells is not written: the table has another number of columns, or the row has
+-- another number of cells
 abbrev pub IsNoRowOf : Table → ℕ → ℕ → ℕ → Type 0
 IsNoRowOf table place len code = ((code ≡ 103) × (len ≢ length table.schema))
     ⊎ ((code ≡ 104) × IsSomeAnd (slice_get table.places place) (λ found. length found.cells ≢ len))

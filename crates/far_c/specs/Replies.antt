@@ -1,4 +1,4 @@
--- Which replies a step may have.
+-- The replies that a step may have.
 -- Internal: no public contract cites it.
 use Rattle.std.specs.Prelude.{⊤}
 use Rattle.far_types.specs.declared.edit.Edit.TheVariants as edit
@@ -9,7 +9,7 @@ use Rattle.far_frame.specs.declared.step.Reply.{Reply}
 use Rattle.far_frame.specs.declared.step.Reply.TheVariants as reply
 use Rattle.far_frame.specs.Effects.{Replies}
 
--- a reply is a refusal, or of this form
+-- a reply is a refusal, or has this form
 abbrev pub OrRefused : (Reply → Type 0) → Reply → Type 0
 OrRefused form = Replies form (λ (why : Refusal). ⊤)
 
@@ -59,7 +59,7 @@ GivesJob = OrRefused IsJob
 abbrev pub GivesNext : Reply → Type 0
 GivesNext = OrRefused IsNext
 
--- a step has a reply of its own form; what is lent has two
+-- the reply of a step has the step's own form; a lend may have two
 abbrev pub Fits : Step → Reply → Type 0
 Fits (step.Edit (edit.Insert row)) = GivesPlace
 Fits (step.Edit (edit.Set place column cell)) = GivesDone

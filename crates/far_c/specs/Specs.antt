@@ -10,11 +10,11 @@ use Rattle.far_types.specs.declared.spec.Spec.{Spec}
 use Rattle.far_c.specs.declared.spec.FcTest.{FcTest}
 use Rattle.far_c.specs.declared.spec.FcSpec.{FcSpec}
 
--- what is computed
+-- the fold with this code
 abbrev pub fold_of : ℕ → Fold
 fold_of n = cond (n == 0) fold.Totals fold.Extrema
 
--- a comparison of numbers
+-- the comparison of numbers with this code
 abbrev pub op_of : ℕ → Op
 op_of n = cond (n == 0) op.Eq
     (cond (n == 1) op.Ne
@@ -22,7 +22,7 @@ op_of n = cond (n == 0) op.Eq
     (cond (n == 3) op.Le
     (cond (n == 4) op.Gt op.Ge))))
 
--- a test: of a text by 6 and 7, and else of a number
+-- a test: of a text for the codes 6 and 7, otherwise of a number
 abbrev pub test_of : FcTest → Test
 test_of t = cond (t.op == 6) (test.TextIs t.column t.text.now)
     (cond (t.op == 7) (test.TextBegins t.column t.text.now)

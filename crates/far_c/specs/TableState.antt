@@ -1,4 +1,4 @@
--- What an open handle points to.
+-- The state that an open handle points to.
 use Rattle.std.specs.Prelude.{◌≡◌, ℕ, List, [], Option, None}
 use Rattle.far_types.specs.declared.answer.Answer.{Answer}
 use Rattle.far_types.specs.declared.cell.Kind.{Kind}
@@ -10,7 +10,7 @@ use Rattle.far_frame.specs.State.{empty_state}
 use Rattle.far_frame.specs.Worlds.{World}
 use Rattle.far_c.specs.Numbering.{HasStore}
 
--- the table with its jobs, the answer that stays, and the last refusal
+-- the table with its jobs, the answer that the handle holds, and the last refusal
 pub record TableState : Type 0 where
   pub world : World TicketState
   pub answer : Option Answer

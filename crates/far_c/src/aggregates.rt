@@ -85,7 +85,7 @@ pub extern "C" fn fc_scan(handle: &mut Handle, aggregate: u32, group: u32) -> u3
     table.end(outcome)
 }
 
-/// A count and a sum, which is a number of 128 bits in two's complement, in two words.
+/// A count and a sum. The sum has 128 bits in two's complement, in two words.
 #[repr(C)]
 #[derive(Drop)]
 pub struct FcSum {
@@ -94,7 +94,7 @@ pub struct FcSum {
     pub sum_high: i64,
 }
 
-/// Writes the count and the sum of an aggregate of totals without key.
+/// Writes the count and the sum of an aggregate of totals without a key column.
 #[unsafe(no_mangle)]
 pub extern "C" fn fc_plain(handle: &mut Handle, aggregate: u32, sum: &mut FcSum) -> u32
     ensures plain { result ≡ 0
@@ -122,7 +122,7 @@ pub extern "C" fn fc_plain(handle: &mut Handle, aggregate: u32, sum: &mut FcSum)
     OK
 }
 
-/// Writes how many row groups are pending in an aggregate, and the first of them, if there is one.
+/// Writes the number of row groups that are pending in an aggregate, and the first of them, if there is one.
 #[unsafe(no_mangle)]
 pub extern "C" fn fc_pending(
     handle: &mut Handle,
@@ -152,7 +152,7 @@ pub extern "C" fn fc_pending(
     OK
 }
 
-/// What an aggregate is: its fold, its columns, and how many tests it has.
+/// The description of an aggregate: its fold, its columns, and the number of its tests.
 #[repr(C)]
 #[derive(Drop)]
 pub struct FcAggregate {
@@ -163,7 +163,7 @@ pub struct FcAggregate {
     pub has_key: bool,
 }
 
-/// Writes what an aggregate is.
+/// Writes the description of an aggregate.
 #[unsafe(no_mangle)]
 pub extern "C" fn fc_spec_of(handle: &mut Handle, aggregate: u32, about: &mut FcAggregate) -> u32
     ensures about { result ≡ 0

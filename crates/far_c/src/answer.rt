@@ -18,7 +18,7 @@ use crate::words::words;
 use far_frame::Step;
 use far_types::{Answer, ExtremaLines, Key, TotalLines};
 
-/// A line of an answer: a key with what was computed under it. The fold says which of the numbers count.
+/// A line of an answer: a key and its values. The fold says which of the numbers count.
 #[repr(C)]
 #[derive(Drop)]
 pub struct FcLine<'a> {
@@ -33,7 +33,7 @@ pub struct FcLine<'a> {
     pub fold: u32,
 }
 
-/// Asks an aggregate. Its answer stays in the handle; how many lines it has is written.
+/// Asks an aggregate, keeps its answer in the handle, and writes the number of its lines.
 #[unsafe(no_mangle)]
 pub extern "C" fn fc_ask(handle: &mut Handle, aggregate: u32, lines: &mut usize) -> u32
     ensures served { result ≡ 0
@@ -55,7 +55,7 @@ pub extern "C" fn fc_ask(handle: &mut Handle, aggregate: u32, lines: &mut usize)
     }
 }
 
-/// Computes the answer of an aggregate from scratch, whatever is pending in it. It stays in the handle, as that of `fc_ask` does.
+/// Computes the answer of an aggregate from scratch, whatever is pending in it, and keeps it in the handle as `fc_ask` does.
 #[unsafe(no_mangle)]
 pub extern "C" fn fc_recount(handle: &mut Handle, aggregate: u32, lines: &mut usize) -> u32
     ensures served { result ≡ 0
@@ -79,7 +79,7 @@ pub extern "C" fn fc_recount(handle: &mut Handle, aggregate: u32, lines: &mut us
     }
 }
 
-/// Writes a line of the answer that stays in the handle.
+/// Writes a line of the answer in the handle.
 #[unsafe(no_mangle)]
 pub extern "C" fn fc_line_at<'a>(handle: &'a mut Handle, index: usize, line: &mut FcLine<'a>) -> u32
     ensures line { result ≡ 0
@@ -96,7 +96,7 @@ pub extern "C" fn fc_line_at<'a>(handle: &'a mut Handle, index: usize, line: &mu
     lend_line(table, index, line)
 }
 
-// Writes a line of the answer that stays, whose text is lent.
+// Writes a line of the answer in the handle. The line borrows its text.
 fn lend_line<'a>(table: &'a Table, index: usize, line: &mut FcLine<'a>) -> u32
     ensures line { result ≡ 0
         → IsSomeAnd table.now.answer (λ answer. IsLineAt answer index line.new) }
@@ -115,7 +115,7 @@ fn lend_line<'a>(table: &'a Table, index: usize, line: &mut FcLine<'a>) -> u32
     }
 }
 
-/// Writes the index of the line with a key in the answer that stays in the handle.
+/// Writes the index of the line with a key in the answer in the handle.
 #[unsafe(no_mangle)]
 pub extern "C" fn fc_find(handle: &mut Handle, key: &FcCell<'_>, index: &mut usize) -> u32
     ensures found { result ≡ 0

@@ -18,7 +18,7 @@ pub const INT: u32 = 1;
 
 pub const TEXT: u32 = 2;
 
-/// A cell. The number counts if its kind is that of numbers, and the text if it is that of texts.
+/// A cell. Only a cell of kind 1 uses the number, and only one of kind 2 the text.
 #[repr(C)]
 #[derive(Drop)]
 pub struct FcCell<'a> {
@@ -58,7 +58,7 @@ impl<'a> FcCell<'a> {
     }
 }
 
-/// Copies a cell for a table. It allocates for a text alone.
+/// Copies a cell for a table. Allocates only for a text.
 #[inline(always)]
 pub fn copy_cell(alloc: Global, cell: CellRef<'_>) -> Result<Cell, Unread>
     ensures ok { IfOk result (λ made. made ≡ lent_cell cell.entry) }
@@ -86,7 +86,7 @@ pub fn read_row(alloc: Global, spare: Vec<Cell>, cells: &[FcCell<'_>]) -> Result
     Ok(Row::new(made))
 }
 
-/// Writes a cell after the first `at` cells of a list, in the place of one that is no longer needed, if there is one there.
+/// Writes a cell after the first `at` cells of a list, in place of a cell that is no longer needed, if there is one.
 #[inline(always)]
 pub fn write_cell(
     alloc: Global,

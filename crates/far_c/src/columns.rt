@@ -1,4 +1,4 @@
-// Rows that are given column by column.
+// Rows that are passed column by column.
 ghost use Rattle.std.specs.Prelude.{◌≡◌, ◌≤◌, ◌<◌, ◌+◌, ◌↔◌, IfErr, IfNone, IfOk, IfSome, IsSomeAnd, IsTrue, OnOk, length, slice_range};
 ghost use Rattle.far_types.specs.Lent.{lent_cell};
 ghost use Rattle.far_c.specs.ColumnFaults.{AreColumnsOf, AreFirstRead, AreNumbers, AreOffsets, AreTexts, CellFaultIn, HasText, IsColumn, IsColumnOf, IsMask, IsNotAppended, IsReadIn, IsRowRead, RowFaultIn};
@@ -15,7 +15,7 @@ use crate::unread::Unread;
 use far_types::{Cell, CellRef, Edit, Kind, Row};
 use std::alloc::Global;
 
-/// A column of rows to be inserted, or the cells of a column to be set, as Arrow lays columns out.
+/// A column of rows to be inserted, or the cells of a column to be set, in Arrow's layout.
 #[repr(C)]
 #[derive(Drop)]
 pub struct FcColumn<'a> {
@@ -26,7 +26,7 @@ pub struct FcColumn<'a> {
     pub kind: u32,
 }
 
-/// Appends rows that are given column by column, in order, until one is refused. Writes how many were appended.
+/// Appends rows that are passed column by column, in order, until one is refused. Writes the number of appended rows.
 #[unsafe(no_mangle)]
 pub extern "C" fn fc_insert_columns(
     alloc: Global,
@@ -60,7 +60,7 @@ pub extern "C" fn fc_insert_columns(
     insert_rows(alloc, table, columns, rows, inserted)
 }
 
-// Whether there is a column of the right kind and length for each of the table's.
+// Returns whether each column of the table has a column of its kind with `rows` rows.
 fn fit(columns: &[FcColumn<'_>], kinds: &[Kind], rows: usize) -> bool
     ensures { IsTrue result ↔ AreColumnsOf kinds.now rows columns.now }
 {
@@ -75,7 +75,7 @@ fn fit(columns: &[FcColumn<'_>], kinds: &[Kind], rows: usize) -> bool
     true
 }
 
-// Appends rows that fit, one after the other.
+// Appends rows that fit, one after another.
 fn insert_rows(
     alloc: Global,
     table: &mut Table,
@@ -130,14 +130,14 @@ fn read_column_row(
 }
 
 impl<'a> FcColumn<'a> {
-    /// Returns whether the column is of a kind that there is, and has so many rows.
+    /// Returns whether the column is of a known kind, and has `rows` rows.
     pub fn has_rows(&self, rows: usize) -> bool
         ensures { IsTrue result ↔ IsColumn rows self.now }
     {
         self.has_numbers(rows) || self.has_texts(rows)
     }
 
-    // Whether the column is of this kind, and has so many rows.
+    // Returns whether the column is of this kind, and has `rows` rows.
     fn fits(&self, kind: Kind, rows: usize) -> bool
         ensures { IsTrue result ↔ IsColumnOf kind rows self.now }
     {
@@ -147,7 +147,7 @@ impl<'a> FcColumn<'a> {
         }
     }
 
-    // Whether the column has so many numbers.
+    // Returns whether the column has `rows` numbers.
     fn has_numbers(&self, rows: usize) -> bool
         ensures { IsTrue result ↔ AreNumbers rows self.now }
     {
@@ -157,7 +157,7 @@ impl<'a> FcColumn<'a> {
             && is_mask(rows, self.valid)
     }
 
-    // Whether the column has so many texts.
+    // Returns whether the column has `rows` texts.
     fn has_texts(&self, rows: usize) -> bool
         ensures { IsTrue result ↔ AreTexts rows self.now }
     {
@@ -167,7 +167,7 @@ impl<'a> FcColumn<'a> {
             && is_mask(rows, self.valid)
     }
 
-    // The cell of a row, borrowed.
+    // Returns the cell of a row, borrowed.
     #[inline(always)]
     fn cell(&self, row: usize) -> Result<CellRef<'_>, Unread>
         ensures cell { IfOk result (λ cell. lent_cell cell ≡ column_cell self.now row) }
@@ -202,7 +202,7 @@ impl<'a> FcColumn<'a> {
         copy_cell(alloc, self.cell(row)?)
     }
 
-    // The bytes of a row's text.
+    // Returns the bytes of a row's text.
     #[inline(always)]
     fn text(&self, row: usize) -> Option<&[u8]>
         ensures bytes { IfSome result
@@ -217,7 +217,7 @@ impl<'a> FcColumn<'a> {
     }
 }
 
-// Whether there are offsets for so many texts, which ascend and stay within so many bytes.
+// Returns whether there are offsets for `rows` texts, which ascend and are within `len` bytes.
 fn are_offsets(offsets: &[u64], rows: usize, len: usize) -> bool
     ensures { IsTrue result ↔ AreOffsets rows len offsets.now }
 {
@@ -230,14 +230,14 @@ fn are_offsets(offsets: &[u64], rows: usize, len: usize) -> bool
     offsets.is_sorted()
 }
 
-// Whether a mask has a bit for each of so many rows, or is left out.
+// Returns whether a mask has a bit for each of `rows` rows, or is left out.
 fn is_mask(rows: usize, valid: &[u8]) -> bool
     ensures { IsTrue result ↔ IsMask rows valid.now }
 {
     valid.is_empty() || rows.div_ceil(8) <= valid.len()
 }
 
-// Whether a row has a value: its bit is set, or it has no bit.
+// Returns whether a row has a value: its bit is set, or it has no bit.
 #[inline(always)]
 fn has_value(valid: &[u8], row: usize) -> bool
     ensures { result ≡ has_value valid.now row }

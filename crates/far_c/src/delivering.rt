@@ -1,4 +1,4 @@
-// Contents that go out to the calling program, and come back.
+// Contents that go to the calling program and come back.
 ghost use Rattle.std.specs.Prelude.{◌≡◌, ◌≢◌, ◌≤◌, IfSome, IsSome, IsSomeAnd};
 ghost use Rattle.std.specs.Option.{MatchOption};
 ghost use Rattle.far_rows.specs.Copies.{copy_of};
@@ -16,7 +16,7 @@ use crate::handle::Handle;
 use crate::table::Table;
 use far_types::Refusal;
 
-/// Lends the bytes that the program is to keep for a carried eviction, and writes their number.
+/// Lends the bytes that the program has to keep for a carried eviction, and writes their number.
 #[unsafe(no_mangle)]
 pub extern "C" fn fc_outgoing<'a>(
     handle: &'a mut Handle,
@@ -41,7 +41,7 @@ pub extern "C" fn fc_outgoing<'a>(
     lend_outgoing(table, job, number, bytes)
 }
 
-// Lends the bytes that go out for a job, and writes their number.
+// Lends the bytes that a job sends to the program, and writes their number.
 fn lend_outgoing<'a>(table: &'a Table, job: u64, number: &mut u64, bytes: &mut &'a [u8]) -> u32
     requires { IsSome (job_at table.now.world.jobs job) }
     ensures outgoing { result ≡ 0
@@ -59,7 +59,7 @@ fn lend_outgoing<'a>(table: &'a Table, job: u64, number: &mut u64, bytes: &mut &
     OK
 }
 
-/// Writes the number of the content at an index of those that a begun fetch or offload needs.
+/// Writes the number of the content at an index, among those that a begun fetch or offload needs.
 #[unsafe(no_mangle)]
 pub extern "C" fn fc_wanted(handle: &mut Handle, job: u64, index: usize, number: &mut u64) -> u32
     ensures wanted { result ≡ 0
@@ -84,9 +84,9 @@ pub extern "C" fn fc_wanted(handle: &mut Handle, job: u64, index: usize, number:
     }
 }
 
-/// Takes the content of a number for a job that wants it. The bytes are copied.
+/// Takes the content with a number for a job that wants it. Copies the bytes.
 ///
-/// The premise: if these bytes have the length and the SHA-256 of what went out under this number, they are those bytes.
+/// The premise: if these bytes have the length and the digest of the bytes with this number, they are the same bytes.
 #[unsafe(no_mangle)]
 pub extern "C" fn fc_deliver(handle: &mut Handle, job: u64, number: u64, bytes: &[u8]) -> u32
     requires no_collision { IfSome handle.old.table
@@ -114,7 +114,7 @@ pub extern "C" fn fc_deliver(handle: &mut Handle, job: u64, number: u64, bytes: 
     table.end(outcome)
 }
 
-/// Takes the content of an object that is away, for a migration. The bytes are copied. The premise is that of `fc_deliver`.
+/// Takes the content of an object that is away, for a migration. Copies the bytes. The premise is the same as in `fc_deliver`.
 #[unsafe(no_mangle)]
 pub extern "C" fn fc_deliver_copy(handle: &mut Handle, column: u32, group: u32, bytes: &[u8]) -> u32
     requires no_collision { IfSome handle.old.table
@@ -144,7 +144,7 @@ pub extern "C" fn fc_deliver_copy(handle: &mut Handle, column: u32, group: u32, 
     }
 }
 
-/// Goes on with new numbers below `capacity`, and frees what was noted of the old ones.
+/// Continues with new numbers below `capacity`, and frees the notes of the old ones.
 #[unsafe(no_mangle)]
 pub extern "C" fn fc_migrate(handle: &mut Handle, capacity: u64) -> u32
     ensures migrated { result ≡ 0

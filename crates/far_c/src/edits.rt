@@ -46,7 +46,7 @@ pub extern "C" fn fc_insert(
     table.give(outcome, place)
 }
 
-/// Puts a cell into a column of a place.
+/// Sets the cell of a place in a column.
 #[unsafe(no_mangle)]
 pub extern "C" fn fc_set(
     alloc: Global,

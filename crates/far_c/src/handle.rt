@@ -1,4 +1,4 @@
-// What C holds of a table: a pointer to it, or null.
+// The handle that C holds of a table: a pointer to it, or null.
 ghost use Rattle.std.specs.Prelude.{◌≡◌, ◌↔◌, Option, Some, None, IsSome, IsTrue};
 ghost use Rattle.std.specs.Option.{MatchOption};
 ghost use Rattle.std.specs.Borrow.{sem};
@@ -24,7 +24,7 @@ impl Model for Handle {
     ghost also_owns = { λ h. held h.alloc h.at h.table };
 }
 
-// Its table goes along: no other handle, and no thread, knows where that is.
+// The table goes along: no other handle and no thread knows its address.
 unsafe impl Send for Handle {}
 
 impl Handle {
@@ -32,8 +32,8 @@ impl Handle {
 
     /// Lends the table, if the handle is open.
     ///
-    /// An export that lends to its caller then has a function `lend_..` that takes the table by `&`, and so leaves it as it is. No
-    /// clause of the export says this: what the handle is while the loan lasts can be named only in a proof by hand of each.
+    /// An export that lends to its caller then has a function `lend_..` that takes the table by `&`, and so leaves it unchanged. No
+    /// clause of the export says this: only a proof by hand of each export could name the handle during the loan.
     pub fn table(&mut self) -> Option<&mut Table>
         ensures* writes_back { sem 𝓛 (LendsTable self.entry result) }
         ensures value { MatchOption result (self.old.table ≡ None)
@@ -56,7 +56,7 @@ impl Handle {
         }
     }
 
-    /// Returns a handle on nothing.
+    /// Returns a closed handle.
     fn closed(alloc: Global) -> Handle
         ensures { result.table ≡ None }
     {

@@ -1,4 +1,4 @@
-// Jobs: objects that go away, come back, or are built into an aggregate.
+// Jobs: objects that are evicted or fetched, and row groups that are built into an aggregate.
 ghost use Rattle.std.specs.Prelude.{◌≡◌, ◌≢◌, ◌≤◌, [], None, Some, IsSomeAnd, length};
 ghost use Rattle.far_frame.specs.Ending.{IsColdestBegun, no_job};
 ghost use Rattle.far_frame.specs.Waiting.{job_at, without_job};
@@ -77,7 +77,7 @@ pub extern "C" fn fc_begin_offload(
     table.give(outcome, job)
 }
 
-/// Carries a job: gives the content of an eviction its number, or reads what was delivered for a fetch or an offload.
+/// Carries a job: draws a number for the content of an eviction, or reads the delivered contents of a fetch or an offload.
 #[unsafe(no_mangle)]
 pub extern "C" fn fc_carry(handle: &mut Handle, job: u64) -> u32
     ensures served { result ≡ 0
@@ -129,7 +129,7 @@ pub extern "C" fn fc_install(handle: &mut Handle, job: u64) -> u32
     table.end(outcome)
 }
 
-/// Ends a carried offload: the row group is built in.
+/// Ends a carried offload: the row group is scanned.
 #[unsafe(no_mangle)]
 pub extern "C" fn fc_merge(handle: &mut Handle, job: u64) -> u32
     ensures served { result ≡ 0
@@ -168,7 +168,7 @@ pub extern "C" fn fc_begin_coldest(handle: &mut Handle, job: &mut u64) -> u32
     }
 }
 
-/// Gives up a job, whatever its phase.
+/// Drops a job, whatever its phase.
 #[unsafe(no_mangle)]
 pub extern "C" fn fc_give_up(handle: &mut Handle, job: u64) -> u32
     ensures given_up { result ≡ 0
@@ -202,7 +202,7 @@ pub extern "C" fn fc_fault(handle: &mut Handle, job: u64) -> u32
     table.refuse(refusal)
 }
 
-/// A job: what it does, whether it was carried, and the object that it moves.
+/// The description of a job: its kind, whether it was carried, and the object that it moves.
 #[repr(C)]
 #[derive(Drop)]
 pub struct FcJob {
@@ -212,7 +212,7 @@ pub struct FcJob {
     pub group: u32,
 }
 
-/// Writes what a job is.
+/// Writes the description of a job.
 #[unsafe(no_mangle)]
 pub extern "C" fn fc_job_of(handle: &mut Handle, job: u64, about: &mut FcJob) -> u32
     ensures about { result ≡ 0
@@ -250,7 +250,7 @@ fn code_of(kind: JobKind) -> u32
     }
 }
 
-/// Writes how many jobs were begun, and how many of them are not over.
+/// Writes the number of jobs that were begun, and how many of them have not ended.
 #[unsafe(no_mangle)]
 pub extern "C" fn fc_jobs(handle: &mut Handle, begun: &mut u64, waiting: &mut u64) -> u32
     ensures begun { result ≡ 0 → IsSomeAnd handle.old.table (λ old. begun.new ≡ old.world.begun) }

@@ -19,7 +19,7 @@ use far_aggregates::Line;
 use far_types::{CellRef, Refusal};
 use std::alloc::Global;
 
-/// Writes the line of a key in the answer of an aggregate. No other line is made, and the answer that stays in the handle is left alone.
+/// Writes the line of a key in the answer of an aggregate. Makes no other line, and leaves the answer in the handle unchanged.
 #[unsafe(no_mangle)]
 pub extern "C" fn fc_ask_key<'a>(
     alloc: Global,
@@ -56,7 +56,7 @@ pub extern "C" fn fc_ask_key<'a>(
     }
 }
 
-// Returns the line of the key that a cell names. A text is copied into a key first. If that fails, what refuses the ask comes before.
+// Returns the line of the key that a cell names. A text is copied into a key first; if that fails, a refusal of the ask comes first.
 fn found_under(
     alloc: Global,
     table: &Table,
@@ -77,7 +77,7 @@ fn found_under(
     }
 }
 
-// Makes a line, which lends the key's text where the caller has it.
+// Makes a line, which borrows the key's text from the caller.
 fn line_of<'a>(key: CellRef<'a>, found: Line) -> FcLine<'a>
     ensures { IsLine (key_of (lent_cell key.entry)) found result }
 {
@@ -109,7 +109,7 @@ fn line_of<'a>(key: CellRef<'a>, found: Line) -> FcLine<'a>
     line
 }
 
-// The kind, the number and the text of the key that a cell names.
+// Returns the kind, the number and the text of the key that a cell names.
 fn parts_of(key: CellRef<'_>) -> (u32, i64, &[u8])
     ensures { IsKey (key_of (lent_cell key.entry)) result.0 result.1 result.2.now }
 {

@@ -9,8 +9,8 @@ use crate::handle::Handle;
 use crate::sorted_answer::SortedAnswer;
 use crate::table::Table;
 
-/// Writes lines of the answer that stays in the handle, from an index on, as many as there are and have room; and how many these are.
-/// Texts of keys are lent.
+/// Writes lines of the answer in the handle, from an index on, as many as there are and fit the buffer, and writes their number.
+/// Lends the texts of keys.
 #[unsafe(no_mangle)]
 pub extern "C" fn fc_lines<'a>(
     handle: &'a mut Handle,
@@ -36,7 +36,7 @@ pub extern "C" fn fc_lines<'a>(
     lend_lines(table, from, lines, count)
 }
 
-// Writes lines of the answer that stays, whose texts are lent, and how many these are.
+// Writes lines of the answer in the handle, and their number. The lines borrow their texts.
 fn lend_lines<'a>(table: &'a Table, from: usize, lines: &mut [FcLine<'a>], count: &mut usize) -> u32
     ensures lines { result ≡ 0
         → IsSomeAnd table.now.answer (λ answer. AreLinesAt answer from count.new lines.new) }
@@ -54,7 +54,7 @@ fn lend_lines<'a>(table: &'a Table, from: usize, lines: &mut [FcLine<'a>], count
     OK
 }
 
-// Writes the lines of an answer from an index on that have room, and returns how many these are.
+// Writes the lines of an answer from an index on that fit the buffer, and returns their number.
 fn write_lines<'a>(answer: &'a SortedAnswer, from: usize, lines: &mut [FcLine<'a>]) -> usize
     ensures lines { AreLinesAt answer.now from result lines.new }
     ensures count { result ≡ lines_from answer.now from (length lines.old) }

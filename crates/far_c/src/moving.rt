@@ -14,7 +14,7 @@ use crate::opening::read_kind;
 use crate::replies;
 use far_frame::Step;
 
-/// Pins an object once more.
+/// Adds a pin to an object.
 #[unsafe(no_mangle)]
 pub extern "C" fn fc_pin(handle: &mut Handle, column: u32, group: u32) -> u32
     ensures served { result ≡ 0
@@ -30,7 +30,7 @@ pub extern "C" fn fc_pin(handle: &mut Handle, column: u32, group: u32) -> u32
     table.end(outcome)
 }
 
-/// Removes one pin of an object.
+/// Removes a pin from an object.
 #[unsafe(no_mangle)]
 pub extern "C" fn fc_unpin(handle: &mut Handle, column: u32, group: u32) -> u32
     ensures served { result ≡ 0
@@ -83,7 +83,7 @@ pub extern "C" fn fc_saw(handle: &mut Handle, column: u32, group: u32) -> u32
     table.end(outcome)
 }
 
-/// Writes which row groups of a column to fetch next, and how many they are: at most two.
+/// Writes the row groups of a column to fetch next, and their number: at most two.
 #[unsafe(no_mangle)]
 pub extern "C" fn fc_proposals(
     handle: &mut Handle,
@@ -115,7 +115,7 @@ pub extern "C" fn fc_proposals(
     }
 }
 
-// Writes the first of some row groups, as many as have room, and returns how many.
+// Writes the first of these row groups, as many as fit the buffer, and returns their number.
 fn write_groups(found: &[u32], groups: &mut [u32]) -> usize
     ensures count { result ≡ min (length found.now) (length groups.old) }
     ensures groups { take result groups.new ≡ take (length groups.old) found.now }

@@ -95,12 +95,12 @@ fn lent_numbers<'a>(
         (λ why. ints_refusal table.now.world.state.rows column from to ≡ Some why) }
 {
     let frame = table.world().frame();
-    // For the proof: a row group has a place.
+    // For the proof: shows that a row group has a place.
     let _limits = frame.limits();
     frame.scope().ints(column, from, to)
 }
 
-// Copies lent pieces, one after another. What they do not fill of the buffers stays.
+// Copies lent pieces, one after another. The rest of the buffers is unchanged.
 fn copy_pieces(
     lents: Lents<'_, HostStore>,
     values: &mut [i64],
@@ -128,7 +128,7 @@ fn copy_pieces(
     }
 }
 
-// Copies numbers to a place of two buffers: their values, with 0 for a missing one, and whether they have one.
+// Copies numbers to a place of two buffers: their values, with 0 for a missing one, and whether each has a value.
 fn copy_numbers(numbers: &[Option<i64>], values: &mut [i64], valid: &mut [bool], at: usize)
     requires values { at + length numbers.now ≤ length values.old }
     requires valid { at + length numbers.now ≤ length valid.old }
@@ -143,7 +143,7 @@ fn copy_numbers(numbers: &[Option<i64>], values: &mut [i64], valid: &mut [bool],
     write_numbers(numbers, &mut values[at..end], &mut valid[at..end]);
 }
 
-// It is one pass, since reading the numbers from memory is what takes the time.
+// One pass is enough, since most of the time goes to reading the numbers from memory.
 fn write_numbers(numbers: &[Option<i64>], values: &mut [i64], valid: &mut [bool])
     requires values { length values.old ≡ length numbers.now }
     requires valid { length valid.old ≡ length numbers.now }

@@ -1,4 +1,4 @@
-// Tables that are opened and closed.
+// Opens and closes tables.
 ghost use Rattle.std.specs.Prelude.{◌≡◌, ◌≢◌, ◌≤◌, ◌⊎◌, None, Some, IsSome, IsSomeAnd, IfErr, IfOk, OnOk, map};
 ghost use Rattle.std.specs.List.{All};
 ghost use Rattle.std.specs.Option.{MatchOption};
@@ -42,7 +42,7 @@ impl FcLimits {
         }
     }
 
-    /// The limits as C has them.
+    /// Returns the limits as C receives them.
     pub fn of(limits: &Limits) -> FcLimits
         ensures { limits_of result ≡ limits.now }
     {
@@ -92,7 +92,7 @@ pub extern "C" fn fc_open(
     }
 }
 
-/// The kind that C passes by its number.
+/// Returns the kind with this number.
 pub fn read_kind(kind: u32) -> Option<Kind>
     ensures { MatchOption result (¬ (IsKind kind)) (λ made. (made ≡ kind_of kind) × IsKind kind) }
 {

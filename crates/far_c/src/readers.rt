@@ -1,4 +1,4 @@
-// What a table is, and what it holds.
+// Reads the description of a table, and its state.
 ghost use Rattle.std.specs.Prelude.{◌≡◌, ◌≢◌, ◌≤◌, [], None, Some, length, option_map, slice_get, IsSomeAnd};
 ghost use Rattle.far_rows.specs.Moving.{object_at, object_refusal};
 ghost use Rattle.far_frame.specs.Objects.{space_at, state_of};
@@ -15,7 +15,7 @@ use crate::opening::{FcLimits, read_kind};
 use crate::table::Table;
 use far_types::{Kind, Refusal};
 
-/// Writes how many places there are, removed rows among them.
+/// Writes the number of places, including removed rows.
 #[unsafe(no_mangle)]
 pub extern "C" fn fc_places(handle: &mut Handle, places: &mut u32) -> u32
     ensures places { result ≡ 0
@@ -31,7 +31,7 @@ pub extern "C" fn fc_places(handle: &mut Handle, places: &mut u32) -> u32
     OK
 }
 
-/// Writes how many columns there are.
+/// Writes the number of columns.
 #[unsafe(no_mangle)]
 pub extern "C" fn fc_columns(handle: &mut Handle, columns: &mut u32) -> u32
     ensures columns { result ≡ 0
@@ -86,7 +86,7 @@ pub extern "C" fn fc_limits_of(handle: &mut Handle, limits: &mut FcLimits) -> u3
     OK
 }
 
-/// An object: the chunk of one column in one row group.
+/// The state of an object: the chunk of one column in one row group.
 #[repr(C)]
 #[derive(Drop)]
 pub struct FcObject {
@@ -99,7 +99,7 @@ pub struct FcObject {
     pub has_copy: bool,
 }
 
-/// Writes what an object is.
+/// Writes the state of an object.
 #[unsafe(no_mangle)]
 pub extern "C" fn fc_object_of(
     handle: &mut Handle,
@@ -170,7 +170,7 @@ pub extern "C" fn fc_space_of(handle: &mut Handle, kind: u32, space: &mut FcSpac
     OK
 }
 
-/// Writes how many faults were counted since the table was opened.
+/// Writes the number of faults that were counted since the table was opened.
 #[unsafe(no_mangle)]
 pub extern "C" fn fc_faults(handle: &mut Handle, faults: &mut u64) -> u32
     ensures faults { result ≡ 0
@@ -185,7 +185,7 @@ pub extern "C" fn fc_faults(handle: &mut Handle, faults: &mut u64) -> u32
     OK
 }
 
-/// The last refusal, and what it carries.
+/// The last refusal, and the values that it carries.
 #[repr(C)]
 #[derive(Drop)]
 pub struct FcDetails {
@@ -211,7 +211,7 @@ pub extern "C" fn fc_last_refusal(handle: &mut Handle, details: &mut FcDetails) 
 }
 
 impl FcDetails {
-    // What a refusal carries.
+    // Returns the values that a refusal carries.
     fn of(refusal: Option<Refusal>) -> FcDetails
         ensures { AreDetailsOf refusal result }
     {

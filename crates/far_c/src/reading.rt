@@ -38,7 +38,7 @@ pub extern "C" fn fc_is_alive(handle: &mut Handle, place: u32, alive: &mut bool)
     }
 }
 
-/// Writes the cells of a place, removed or not. Texts are lent.
+/// Writes the cells of a place, removed or not. Lends their texts.
 #[unsafe(no_mangle)]
 pub extern "C" fn fc_row<'a>(handle: &'a mut Handle, place: u32, cells: &mut [FcCell<'a>]) -> u32
     ensures row { result ≡ 0
@@ -64,7 +64,7 @@ pub extern "C" fn fc_row<'a>(handle: &'a mut Handle, place: u32, cells: &mut [Fc
     lend_row(table, place, cells)
 }
 
-// Writes the cells of a place, whose texts are lent. Its row can be lent: the caller has tried.
+// Writes the cells of a place, which borrow their texts. The row can be lent: the caller has checked.
 fn lend_row<'a>(table: &'a Table, place: u32, cells: &mut [FcCell<'a>]) -> u32
     requires { row_refusal table.now.world.state place ≡ None }
     ensures row { result ≡ 0
@@ -109,7 +109,7 @@ fn write_row<'a>(row: &LentRow<'a>, cells: &mut [FcCell<'a>])
 }
 
 impl<'a> FcCell<'a> {
-    // The cell as C has it.
+    // Returns the cell as C receives it.
     fn of(cell: CellRef<'a>) -> FcCell<'a>
         ensures { cell_of result ≡ lent_cell cell.entry }
     {
@@ -163,7 +163,7 @@ pub extern "C" fn fc_text<'a>(
     lend_text(table, column, place, text, valid)
 }
 
-// Lends the text of a place. It can be lent: the caller has tried.
+// Lends the text of a place. It can be lent: the caller has checked.
 fn lend_text<'a>(
     table: &'a Table,
     column: u32,

@@ -1,11 +1,11 @@
-// Replies, apart into what they give and why they refuse.
+// Splits replies into their values and the reasons of their refusals.
 ghost use Rattle.std.specs.Prelude.{◌≡◌, IfOk, IfErr, OnOk};
 ghost use Rattle.far_c.specs.Replies.{IsRefusedReply, GivesDone, GivesPlace, GivesAggregate, GivesAnswer, GivesJob, GivesNext};
 
 use far_frame::Reply;
 use far_types::{Answer, Refusal};
 
-// Why a step was refused.
+// Returns why a step was refused.
 fn refusal(reply: Reply) -> Refusal
     requires { IsRefusedReply reply }
     ensures { reply ≡ Reply.Refused result }

@@ -1,4 +1,4 @@
-// Cells of one column, which are put into many places.
+// Sets cells of one column at many places.
 ghost use Rattle.std.specs.Prelude.{◌≡◌, ◌≤◌, ◌<◌, IfSome, IsSomeAnd, length};
 ghost use Rattle.far_c.specs.ColumnFaults.{AreFirstRead, CellFaultIn, IsColumn, IsNotSet, IsReadIn};
 ghost use Rattle.far_c.specs.Columns.{AreSet, IsNextRefused, set_of};
@@ -13,7 +13,7 @@ use crate::table::Table;
 use far_types::Edit;
 use std::alloc::Global;
 
-/// Puts values into a column of many places, in order, until one is refused. Writes how many were put.
+/// Sets a column at many places, in order, until one is refused. Writes the number of cells that were set.
 #[unsafe(no_mangle)]
 pub extern "C" fn fc_set_column(
     alloc: Global,
@@ -48,7 +48,7 @@ pub extern "C" fn fc_set_column(
     set_cells(alloc, table, column, places, values, set)
 }
 
-// Puts values that fit into a column, one after the other.
+// Sets values that fit a column, one after another.
 fn set_cells(
     alloc: Global,
     table: &mut Table,

@@ -1,4 +1,4 @@
-// The answer that stays in a handle.
+// The answer in a handle.
 ghost use Rattle.std.specs.Prelude.{◌≡◌};
 ghost use Rattle.std.specs.Option.{MatchOption};
 ghost use Rattle.far_types.specs.Keys.{line_cmp};
@@ -43,7 +43,7 @@ impl SortedAnswer {
         &self.answer
     }
 
-    /// Returns how many lines there are.
+    /// Returns the number of lines.
     pub fn len(&self) -> usize
         ensures { result ≡ lines_in self.now }
     {
@@ -81,7 +81,7 @@ fn extrema_at(lines: &[(Option<Key>, i64, i64)], key: CellRef<'_>) -> Option<usi
     lines.binary_search_by(|line| compared(&line.0, key)).ok()
 }
 
-// Compares the key of a line with the one that a cell names.
+// Compares the key of a line with the key that a cell names.
 fn compared(key: &Option<Key>, named: CellRef<'_>) -> Ordering
     ensures { result ≡ line_cmp key.now (key_of (lent_cell named.entry)) }
 {

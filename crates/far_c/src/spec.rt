@@ -19,7 +19,7 @@ pub struct FcTest<'a> {
     pub op: u32,
 }
 
-/// An aggregate: what it computes, of which column, by which key column, over the rows that pass its tests.
+/// An aggregate: its fold, its value column, its key column, and the tests that the folded rows pass.
 #[repr(C)]
 #[derive(Drop)]
 pub struct FcSpec<'a> {
@@ -30,12 +30,12 @@ pub struct FcSpec<'a> {
     pub has_key: bool,
 }
 
-/// The numbers of the folds.
+/// The codes of the folds.
 pub const TOTALS: u32 = 0;
 
 pub const EXTREMA: u32 = 1;
 
-/// The numbers of the comparisons of texts. Those of numbers are 0 to 5.
+/// The codes of the comparisons of texts. The codes 0 to 5 compare numbers.
 const TEXT_IS: u32 = 6;
 
 const TEXT_BEGINS: u32 = 7;
@@ -72,7 +72,7 @@ impl<'a> FcTest<'a> {
     }
 }
 
-// The comparison of a number.
+// Returns the comparison of numbers with this code.
 fn read_op(op: u32) -> Option<Op>
     ensures { MatchOption result (5 < op) (λ made. (made ≡ op_of op) × (op ≤ 5)) }
 {

@@ -1,4 +1,4 @@
-// What an open handle points to.
+// The state that an open handle points to.
 ghost use Rattle.std.specs.Prelude.{◌≡◌, ◌<◌, ◌≤◌, ◌^◌, ◌↔◌, [], None, Some, IfOk, IfErr, IsTrue, OnOk, OnErr, option_copied};
 ghost use Rattle.far_types.specs.Refusals.{number_of as refusal_number};
 ghost use Rattle.far_frame.specs.State.{empty_state};
@@ -16,11 +16,11 @@ use far_types::{Answer, Cell, Edit, Limits, Refusal, Schema};
 use std::alloc::Global;
 use std::marker::Model;
 
-/// As many faults are counted before no job is carried any more.
+/// The number of counted faults after which no job is carried any more.
 const MAX_FAULTS: u64 = 1 << 62;
 
-/// A table with its jobs, over a store whose contents the calling program keeps; the answer that stays for its lines to be read;
-/// and the last refusal.
+/// A table with its jobs, over a store whose contents the calling program keeps; the answer whose lines may be read; and the last
+/// refusal.
 #[derive(Drop)]
 pub struct Table {
     alloc: Global,
@@ -85,7 +85,7 @@ impl Table {
         self.world.serve(step)
     }
 
-    /// Serves an edit. It is inlined, so that a caller that knows the kind of its edit goes straight to that.
+    /// Serves an edit. It is inlined, so that a caller that knows the kind of its edit calls only the code for this kind.
     #[inline(always)]
     pub fn edit(&mut self, edit: Edit) -> Reply
         ensures served { IsServed (Step.Edit edit) result self.old self.new }
@@ -94,7 +94,7 @@ impl Table {
         self.world.edit(edit)
     }
 
-    /// Returns how many faults were counted.
+    /// Returns the number of faults that were counted.
     pub fn faults(&self) -> u64
         ensures { result ≡ self.now.world.faults }
     {
@@ -131,7 +131,7 @@ impl Table {
         }
     }
 
-    /// Ends a call with this outcome, as `end` does, and writes what it gives.
+    /// Ends a call with this outcome, as `end` does, and writes its value.
     pub fn give<T: Copy>(&mut self, outcome: Result<T, Refusal>, to: &mut T) -> u32
         ensures ok { IfOk outcome
             (λ given. (result ≡ 0) × (to.new ≡ given) × (self.new ≡ self.old)) }
@@ -158,7 +158,7 @@ impl Table {
         }
     }
 
-    /// Returns cells that are no longer needed: the row of a later edit may be made in their memory.
+    /// Returns cells that are no longer needed, whose memory the row of a later edit can reuse.
     pub fn spare_cells(&mut self) -> Vec<Cell>
         ensures { self.new ≡ self.old }
     {
@@ -172,14 +172,14 @@ impl Table {
         self.refusal
     }
 
-    /// Borrows the answer that stays.
+    /// Borrows the answer in the handle.
     pub fn answer(&self) -> Option<&SortedAnswer>
         ensures { option_copied result ≡ self.now.answer }
     {
         self.answer.as_ref()
     }
 
-    /// Keeps an answer, in place of the one before, and returns how many lines it has.
+    /// Keeps an answer in place of the earlier one, and returns the number of its lines.
     pub fn keep(&mut self, answer: Answer) -> usize
         requires { Ascend (keys_of answer) }
         ensures lines { result ≡ lines_in answer }

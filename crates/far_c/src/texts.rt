@@ -16,7 +16,7 @@ use far_host::HostStore;
 use far_texts::TextCells;
 use far_types::Refusal;
 
-/// Writes how many bytes the texts of the places `from` up to `to` of a column have.
+/// Writes the number of bytes of the texts of the places `from` up to `to` of a column.
 #[unsafe(no_mangle)]
 pub extern "C" fn fc_texts_size(
     handle: &mut Handle,
@@ -66,7 +66,7 @@ fn lent_texts<'a>(
     table.world().frame().scope().texts(column, from, to)
 }
 
-// How many bytes texts have: 2^64 - 1 if they have more.
+// Returns the number of bytes of texts, or 2^64 - 1 if they have more.
 fn size_of_texts(texts: TextCells<'_, HostStore>) -> usize
     ensures { result ≡ min (length (texts_of (cells_in texts.entry))) (2 ^ 64 - 1) }
 {
@@ -79,8 +79,8 @@ fn size_of_texts(texts: TextCells<'_, HostStore>) -> usize
     size
 }
 
-/// Copies the texts of the places `from` up to `to` of a column, one after another, where each begins and the last ends, whether
-/// each place has one, and whether it is alive.
+/// Copies the texts of the places `from` up to `to` of a column, one after another, with their offsets, whether each place has a
+/// text, and whether it is alive.
 #[unsafe(no_mangle)]
 pub extern "C" fn fc_texts(
     handle: &mut Handle,
@@ -126,8 +126,8 @@ pub extern "C" fn fc_texts(
     }
 }
 
-// Copies texts into buffers, and records that they were read. Returns whether the buffer of their bytes has the space; if not, nothing
-// is recorded.
+// Copies texts into buffers, and records that they were read. Returns whether the buffer of their bytes has the space; if not,
+// records nothing.
 fn read_texts(
     table: &mut Table,
     column: u32,
@@ -198,7 +198,7 @@ fn copy_texts(
     true
 }
 
-// Whether a place has a text, and the bytes of that.
+// Returns whether a place has a text, and the text's bytes.
 fn parts_of(text: Option<&str>) -> (bool, &[u8])
     ensures valid { result.0 ≡ has_value (text_cell (option_copied text.entry)) }
     ensures bytes { result.1.now ≡ bytes_of (text_cell (option_copied text.entry)) }
@@ -209,7 +209,7 @@ fn parts_of(text: Option<&str>) -> (bool, &[u8])
     }
 }
 
-// Copies a text to a place of a buffer. Returns where it ends, or nothing if the buffer has no space for it.
+// Copies a text to a place of a buffer. Returns where it ends, or `None` if the buffer has no space for it.
 fn copy_text(text: &[u8], bytes: &mut [u8], at: usize) -> Option<usize>
     requires { at ≤ length bytes.old }
     ensures end { MatchOption result (length bytes.old < at + length text.now)

@@ -1,10 +1,10 @@
-// Why what C passes cannot be read.
+// Why arguments of C cannot be read.
 use std::alloc::{AllocError, AllocFailed};
 
-/// Why what C passes is nothing that a table takes.
+/// Why an argument of C cannot be read.
 #[derive(Clone, Copy, PartialEq, Eq)]
 pub enum Unread {
-    /// A kind, a fold or a comparison is none of those that there are.
+    /// A kind, a fold or a comparison is not valid.
     BadArgument,
     /// A text is not valid UTF-8.
     NoUtf8,

@@ -1,4 +1,4 @@
-// Numbers of 128 bits as C has them.
+// Numbers of 128 bits as C receives them.
 ghost use Rattle.far_c.specs.Sums.{AreWordsOf};
 
 /// Returns the words of a number in two's complement, the low one first.

@@ -1,4 +1,4 @@
--- What follows if a call leaves the rows as they are, whatever its outcome.
+-- A call that keeps the rows, whatever its outcome.
 use Rattle.std.proofs.Common.{◌≡◌, ℕ, List, Result, IfOk, IfErr, sym, subst}
 use Rattle.std.specs.declared.result.Result.TheVariants.{Ok, Err}
 use Rattle.far_rows.specs.Rows.{Rows}

@@ -1,6 +1,6 @@
 #![tactic(auto)]
 //! Tests of the table, as scripts that one function plays call by call. Whatever a script of the shell can show is in
-//! examples/, and tools/random-tables draws random scripts. A value that owns much is dropped by a call of `drop`: the
+//! examples/, and tests/random-tables draws random scripts. A value that owns much is dropped by a call of `drop`: the
 //! proof of a function that drops a table itself is long.
 
 #[cfg(test)]

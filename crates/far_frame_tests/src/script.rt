@@ -92,7 +92,7 @@ pub fn play_over<S: FarStore, R: Threads + Sync>(
     }
 }
 
-// Returns the same for one store after the other.
+// Returns the same for one store after another.
 fn play_in_turn<S: FarStore, R: Threads + Sync>(
     rt: &R,
     alloc: Global,

@@ -4,7 +4,7 @@ use Rattle.std.specs.Prelude.{◌≡◌, ◌<◌, ℕ, List, [], ◌∷◌, leng
 use Rattle.far_host.specs.ContentDigest.{content_digest}
 use Rattle.far_host.specs.Spots.{group_of, LiesAt}
 
--- how many numbers the store gives out, and its notes: the slots of their groups, in order
+-- the number of tickets that the store may give out, and its notes: the slots of their groups, in order
 pub record HostState : Type 0 where
   pub capacity : ℕ
   pub notes : List ℕ
@@ -29,7 +29,7 @@ pub record TicketState : Type 0 where
 abbrev pub IsNoted : TicketState → List ℕ → Type 0
 IsNoted ticket notes = LiesAt notes (group_of ticket.number) ticket.group
 
--- the ticket is of the store with this id: its number is below the capacity, and its note is there
+-- the ticket is of the store with this id: its number is below the capacity, and its note is in the store
 abbrev pub IsOf : TicketState → List ℕ → Type 0
 IsOf ticket [] = ⊥
 IsOf ticket (capacity ∷ notes) = (ticket.number < capacity) × IsNoted ticket notes

@@ -29,10 +29,10 @@ pub(crate) type Group = Row<Chunk>;
 // The cost of a number, in bytes.
 const _: () = prove!(size_of::<OnceSlot<Note, Anything>>() == 56);
 
-/// The notes of a store. A note is written once and stays. Contracts see the ids of the groups' slots, which no other store has.
+/// The notes of a store. A note is written once and never changes. Contracts see the ids of the groups' slots, which no other store has.
 ///
-/// Chunks are made as their numbers are drawn, and each group has twice the chunks of the one before it. So an unused store costs almost
-/// nothing, whatever its capacity. Later at most one chunk is not full, and the groups take less than a byte a number.
+/// Chunks are made as their numbers are drawn, and each group has twice the chunks of the one before it. So an unused store costs
+/// almost nothing, whatever its capacity. Later at most one chunk is not full, and the groups take less than a byte a number.
 #[derive(Drop)]
 pub(crate) struct Notes {
     groups: Row<Group>,
@@ -54,8 +54,7 @@ impl Notes {
         })
     }
 
-    /// Makes the chunk of a number, unless it exists. Returns `None` if there is no memory for it, or another thread is making it right
-    /// now.
+    /// Makes the chunk of a number, unless it exists. Returns `None` if there is no memory for it, or another thread is making it.
     pub(crate) fn reserve(&self, alloc: Global, number: u64) -> Option<()> {
         let spot = Spot::of(number);
         let slot = self.groups.get(spot.group)?;
@@ -64,7 +63,7 @@ impl Notes {
         Some(())
     }
 
-    /// Writes the note of a number. Returns `None` if there is no memory for its chunk, or another thread is making it right now.
+    /// Writes the note of a number. Returns `None` if there is no memory for its chunk, or another thread is making the chunk.
     pub(crate) fn write(&self, alloc: Global, number: u64, note: Note) -> Option<HostTicket>
         ensures noted { IfSome result (λ ticket. IsNoted ticket self.now) }
         ensures number { IfSome result (λ ticket. ticket.number ≡ number) }
@@ -97,8 +96,8 @@ impl Notes {
     }
 }
 
-// Makes `length` slots in this slot, unless they exist. If two threads make them at once, one discards its own and uses the other's. If
-// the other's are still being written, returns `None`, since no call here waits.
+// Makes `length` slots in this slot, unless they exist. If two threads make them at once, one discards its own and uses the slots
+// of the other. Returns `None` if the other thread is still writing them, since no call here waits.
 fn made<T: Drop>(
     alloc: Global,
     slot: &OnceSlot<Row<T>, Anything>,

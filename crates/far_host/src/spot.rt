@@ -2,10 +2,10 @@
 ghost use Rattle.std.specs.Prelude.{◌≡◌};
 ghost use Rattle.far_host.specs.Spots.{group_of, chunk_of, place_of};
 
-/// How many notes a chunk has.
+/// The number of notes in a chunk.
 pub(crate) const CHUNK: usize = 256;
 
-/// How many groups there are: enough for every number of 64 bits.
+/// The number of groups: enough for every number of 64 bits.
 pub(crate) const GROUPS: usize = 57;
 
 /// The location of a number's note: its group, its chunk in the group, and its index in the chunk. Group `g` has `2 ^ g` chunks, which

@@ -71,7 +71,7 @@ impl Model for HostStore {
 }
 
 impl HostStore {
-    /// Makes an empty store that gives out the numbers below `capacity`. Refused only with `NoMemory` (1).
+    /// Makes an empty store whose numbers are below `capacity`. Refused only with `NoMemory` (1).
     pub fn new(alloc: Global, capacity: u64) -> Result<HostStore, Refusal>
         ensures capacity { IfOk result (λ s. s.capacity ≡ capacity) }
         ensures memory { IfErr result (λ e. e ≡ Refusal.NoMemory) }
@@ -84,7 +84,7 @@ impl HostStore {
         })
     }
 
-    /// Returns how many numbers were given out. Allocates nothing.
+    /// Returns the number of tickets that were given out. Allocates nothing.
     pub fn drawn(&self) -> u64
         ensures { result ≤ self.now.capacity }
     {

@@ -1,5 +1,4 @@
-// Tests of what no clause says: that contents are put, delivered and read, and where notes are stored. Bytes that differ from those
-// that were put are refused.
+// Tests of what no clause says: that contents are put, delivered and read, that other bytes are refused, and where notes are stored.
 ghost use Rattle.std.specs.Prelude.{◌≡◌, IfOk, length};
 ghost use Rattle.far_host.specs.ContentDigest.{content_digest};
 ghost use Rattle.far_host.specs.HostTickets.{IsOf, HasNoCollision, id_of};

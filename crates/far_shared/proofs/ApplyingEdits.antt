@@ -64,7 +64,7 @@ module _ {K : Type 0} (content : K → List ℕ) (old new : Whole K) (column_ind
   pub made-free : (e : Edit) (given : Reply) → Accepts content old (step.Edit e) given new → edit_refusal old.table e ≡ None
   made-free e given h = plain-accepts (live old) e h.1.changed.due
 
-  -- the reply to an edit that is made is the plain table's
+  -- an accepted edit has the plain table's reply and effect
   pub made-accepted : (e : Edit) (given : Reply) → Accepts content old (step.Edit e) given new → Accepts content old (step.Edit e) (edit_reply old.table e) new
   made-accepted e given h = (refl, h.1)
 

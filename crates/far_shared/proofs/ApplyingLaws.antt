@@ -1,4 +1,4 @@
--- What is known of an edit of a session, from what the stripe says of it.
+-- The effect of a session's edit, from the effect on its stripe.
 use Rattle.std.proofs.Common.{◌≡◌, List, [], ◌∷◌, ◌++◌, length, sym, ap, subst, ◌∙◌, Result, IfOk, IfErr, OnOk, OnErr}
 use Rattle.std.specs.declared.result.Result.TheVariants.{Ok, Err}
 use mathlib.Core.List.{IsPrefix}
@@ -13,7 +13,7 @@ use Rattle.far_shared.specs.declared.stripe.Applied.{Applied}
 
 module _ (p : Planned) (before : SessionState) (e : Edit) (after : SessionState) (log now : List Entry) (prefix : IsPrefix before.seen log) (by : after.by ≡ before.by)
     (own : by_session after.by after.seen ≡ after.mine) (legal : IsLegal p after.seen) (whole : after.seen ≡ now) where
-  -- an edit that was accepted
+  -- an accepted edit extends the history and the session's own entries
   pub extends : (r : Result Applied Refusal) → OnOk r ((now ≡ log ++ entry before.by e ∷ []) × (after.mine ≡ before.mine ++ entry before.by e ∷ []))
       → IfOk r (λ a. a.number ≡ length now) → IfOk r (λ a. a.place ≡ place_of (replay p log) e) → IfOk r (Extends p before e after)
   extends (Ok applied) longer number place = record {
@@ -29,7 +29,7 @@ module _ (p : Planned) (before : SessionState) (e : Edit) (after : SessionState)
   }
   extends (Err given) longer number place = tt
 
-  -- an edit that was refused
+  -- a refused edit leaves both as they are
   pub is-refused : (r : Result Applied Refusal) → OnErr r ((now ≡ log) × (after.mine ≡ before.mine)) → IfErr r (WhyNot (replay p log) e) → IfErr r (IsRefused p before e after)
   is-refused (Ok applied) unchanged why = tt
   is-refused (Err given) unchanged why =

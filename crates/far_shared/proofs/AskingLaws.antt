@@ -1,4 +1,4 @@
--- What four stripes answer together.
+-- The joint answer of four stripes.
 use Rattle.std.proofs.Common.{◌≡◌, inl, inr, ℕ, ◌<◌, ◌^◌, List, Option, Some, IfSome, IfOk, IfErr, OnOk, Result, refl, sym, ap, subst, ◌∙◌}
 use Rattle.std.specs.Prelude.{option_map}
 use Rattle.std.specs.declared.result.Result.TheVariants.{Ok, Err}
@@ -16,7 +16,7 @@ use Rattle.far_shared.specs.Stripes.{IsStripe}
 use Rattle.far_shared.proofs.FoursPending.{four-few, not-past}
 use Rattle.far_shared.proofs.JobsRefusals.{if-err}
 
--- the gauge is the same in two stripes
+-- the gauge has the same specification in any two stripes
 gauge-like : (p : Planned) (log more : List Entry) (one other : Table) → IsStripe p log one → IsStripe p more other → AreLike 0 one other
 gauge-like p log more one other is also =
     (p.gauge, ap (option_map (λ (aggregate : Registered). aggregate.spec)) is.gauge, ap (option_map (λ (aggregate : Registered). aggregate.spec)) also.gauge, is.schema ∙ sym also.schema)
@@ -25,7 +25,7 @@ module _ (p : Planned) (zero one two three : List Entry) (t0 t1 t2 t3 : Table) (
   gauge-left : pending_in_all 0 t0 t1 t2 t3 ≡ 0
   gauge-left = rw is0.gauge (rw is1.gauge (rw is2.gauge (rw is3.gauge refl)))
 
-  -- the gauge answers, running out of memory aside
+  -- the gauge answers, unless memory runs out
   pub gauge-answers : (given : Refusal) → FourRefusal 0 t0 t1 t2 t3 given → given ≡ refusal.NoMemory
   gauge-answers given (inl none) =
       absurd (none.1 (record { second = gauge-like p zero one t0 t1 is0 is1; third = gauge-like p zero two t0 t2 is0 is2; fourth = gauge-like p zero three t0 t3 is0 is3 }))
@@ -33,7 +33,7 @@ module _ (p : Planned) (zero one two three : List Entry) (t0 t1 t2 t3 : Table) (
   gauge-answers given (inr (alike, inl (inr memory))) = memory.1
   gauge-answers given (inr (alike, inr past)) = past.1
 
-  -- a number of 32 bits tells how many row groups are left
+  -- the number of pending row groups in four stripes fits 32 bits
   pub four-left : (a : ℕ) → pending_in_all a t0 t1 t2 t3 < 2 ^ 32
   four-left a = four-few _ _ _ _ (is0.few a) (is1.few a) (is2.few a) (is3.few a)
 
@@ -45,7 +45,7 @@ module _ (p : Planned) (zero one two three : List Entry) (t0 t1 t2 t3 : Table) (
   rows-left : all_rows t0 t1 t2 t3 ≡ all_rows (replay p zero) (replay p one) (replay p two) (replay p three)
   rows-left = rw is0.places (rw is1.places (rw is2.places (rw is3.places refl)))
 
-  -- what four stripes answer
+  -- the joint answer of four stripes is the answer over the rows of their histories
   pub is-answer : (a : ℕ) (answer : Answer) → IsLegal p zero → IsLegal p one → IsLegal p two → IsLegal p three → AreAlike a t0 t1 t2 t3
       → IfSome (spec_at t0 a) (λ (spec : Spec). answer ≡ answer_over spec (all_rows t0 t1 t2 t3)) → IsAnswer p a answer
   is-answer a answer l0 l1 l2 l3 alike is = record {

@@ -1,4 +1,4 @@
--- Threads may share four tables under their locks, if the store's tickets may go from thread to thread and be shared.
+-- Four tables under their locks may be sent to and shared by threads, if the store's tickets may.
 use denote.RattleType.{RattleType}
 use denote.Struct.Struct.{Struct}
 use denote.Struct.Declared as declared
@@ -20,7 +20,7 @@ use Rattle.far_shared.specs.contracts.stripe.Stripe as stripe
 use Rattle.far_shared.proofs.shared.Count.TheSendSync as count
 use Rattle.far_shared.specs.contracts.shared.Shared as shared
 
--- ---- a struct, by its fields
+-- ---- a struct may be sent or shared if its fields may
 struct_sends : (T : declared.Declared) → AllSend (declared.fields T) → IsSend (declared.row T)
 struct_sends T s = recorded_send (Struct (declared.shape T)) T.D T.to T.to_one (struct_send (declared.shape T) s)
 

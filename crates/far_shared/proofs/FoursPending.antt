@@ -1,4 +1,4 @@
--- How many row groups are still pending in the aggregates of a table.
+-- The number of row groups that are pending in the aggregates of a table.
 use Rattle.std.proofs.Common.{◌≡◌, ℕ, zero, suc, ◌+◌, ◌*◌, ◌/◌, ◌-◌, ◌<◌, ◌≤◌, ◌^◌, true, false, List, [], ◌∷◌, length, Option, None, Some, refl, sym, subst, arith, mul-le-mul_left}
 use Rattle.std.proofs.Math.Nat.{div-lt_iff_lt-mul, mul-one}
 use Rattle.std.specs.Prelude.{replicate, slice_get, slice_set}
@@ -23,7 +23,7 @@ no-more n m same = omega (arith, same)
 one-less : (n m : ℕ) → n + 1 ≡ m → n ≤ m
 one-less n m less = omega (arith, less)
 
--- the row groups that are left in four stripes are a number of 32 bits
+-- the number of pending row groups in four stripes fits 32 bits
 pub four-few : (a b c d : ℕ) → a ≤ 2 ^ 24 → b ≤ 2 ^ 24 → c ≤ 2 ^ 24 → d ≤ 2 ^ 24 → a + b + c + d < 2 ^ 32
 four-few a b c d one two three four = omega (arith, one, two, three, four)
 
@@ -33,7 +33,7 @@ not-past n few past = omega (arith, few, past)
 below-next : (places size wide next : ℕ) → 1 ≤ size → places ≤ wide → next ≡ wide + size → places + size - 1 < next
 below-next places size wide next some wider is = omega (arith, some, wider, is)
 
--- no more row groups hold places than there are places
+-- there are at most as many row groups with places as places
 groups-few : (size places : ℕ) → 1 ≤ size → groups size places ≤ places
 groups-few size places some =
     let wider : places * 1 ≤ places * size = mul-le-mul_left {m = 1} {n = size} places some in
@@ -44,7 +44,7 @@ groups-few size places some =
     let less : (places + size - 1) / size < places + 1 = (div-lt_iff_lt-mul {k = size} {x = places + size - 1} {y = places + 1} many).1 below in
     omega (arith, less)
 
--- of an aggregate that is registered now no more are left
+-- a new aggregate has at most as many pending row groups as places
 pub left-registered : (spec : Spec) (table : Table) → 1 ≤ table.limits.group → pending_in (Some (registered_now spec table)) ≤ length table.places
 left-registered spec table some =
     subst (λ n. n ≤ length table.places) (sym (count-replicate (groups table.limits.group (length table.places)))) (groups-few table.limits.group (length table.places) some)
@@ -52,13 +52,13 @@ left-registered spec table some =
 abbrev no_aggregate : Option Registered
 no_aggregate = None
 
--- if nothing is registered, nothing is left
+-- in a table without aggregates no row group is pending
 pub empty-few : (n a : ℕ) → pending_in (flattened (slice_get (replicate n no_aggregate) a)) ≤ 2 ^ 24
 empty-few zero a = zero-least (2 ^ 24)
 empty-few (suc n) zero = zero-least (2 ^ 24)
 empty-few (suc n) (suc a) = empty-few n a
 
--- few are left of each, once another stands under a number of which few are left
+-- if each aggregate has at most 2 ^ 24 pending row groups, so it is after another one is written
 pub set-few : (xs : List (Option Registered)) (a b : ℕ) (x : Option Registered) → pending_in x ≤ 2 ^ 24 → ((k : ℕ) → pending_in (flattened (slice_get xs k)) ≤ 2 ^ 24)
     → pending_in (flattened (slice_get (slice_set xs a x) b)) ≤ 2 ^ 24
 set-few [] a b x here few = few b
@@ -67,7 +67,7 @@ set-few (y ∷ ys) zero (suc b) x here few = few (suc b)
 set-few (y ∷ ys) (suc a) zero x here few = few zero
 set-few (y ∷ ys) (suc a) (suc b) x here few = set-few ys a b x here (λ k. few (suc k))
 
--- no more are left of any, once one stands under a number of which no more are left
+-- if an aggregate is replaced by one with at most as many pending row groups, no number grows
 pub set-fewer : (xs : List (Option Registered)) (a b : ℕ) (x : Option Registered) → pending_in x ≤ pending_in (flattened (slice_get xs a)) → pending_in (flattened (slice_get (slice_set xs a x) b)) ≤ pending_in (flattened (slice_get xs b))
 set-fewer [] a b x less = no-more _ _ refl
 set-fewer (y ∷ ys) zero zero x less = less
@@ -75,7 +75,7 @@ set-fewer (y ∷ ys) zero (suc b) x less = no-more _ _ refl
 set-fewer (y ∷ ys) (suc a) zero x less = no-more _ _ refl
 set-fewer (y ∷ ys) (suc a) (suc b) x less = set-fewer ys a b x less
 
--- a row group that is scanned is one less
+-- scanning a row group leaves at most as many pending
 pub scanned-fewer : (aggregate : Option Registered) (g : ℕ) → is_pending_in aggregate g ≡ true → pending_in (entry_after_scan g aggregate) ≤ pending_in aggregate
 scanned-fewer None g left = absurd (let off : false ≡ true = left in cc)
 scanned-fewer (Some r) g left = one-less _ _ (left-cleared r.pending g left)

@@ -1,4 +1,4 @@
--- Lines of answers that are put together.
+-- Merging the lines of answers.
 use Rattle.std.proofs.Common.{◌≡◌, ℕ, ◌≤◌, ◌==◌, false, cond, List, [], ◌∷◌, ◌++◌, length, map, refl, sym, ap, ◌∙◌, subst, arith, Option, None, Some}
 use Rattle.std.specs.Prelude.{ℤ, option_map}
 use Rattle.std.specs.List.{AllByRecursion, filter_map}
@@ -33,14 +33,14 @@ of_entries m = same _ _ (λ q. fin.get-from_entries line_total (fin.entries m) q
 entries_distinct : {V : Type 0} (m : ByKey V) → HaveDistinctKeys (fin.entries m)
 entries_distinct m = sorted_distinct (fin.entries m) (keys-ascend m)
 
--- all that stands by key in one map, added to another
+-- adding all entries of a map to another joins the two maps
 with_map : {V : Type 0} (join : V → V → V) (m n : ByKey V) → with_all join m (fin.entries n) ≡ joined join m n
 with_map join m n = with_all-joined join m (fin.entries n) (entries_distinct n) ∙ ap (joined join m) (of_entries n)
 
 some_rows : (n m : ℕ) → n ≡ m → 1 ≤ m → (n == 0) ≡ false
 some_rows n m e h = grind (arith, nat_tests)
 
--- each line of totals stands for rows
+-- each line of totals counts at least one row
 counted : (ps : List Pair) (es : List (Option Key × (ℕ × ℤ))) → AllByRecursion (λ (e : Option Key × (ℕ × ℤ)). (e.1 ≡ count_sum (values_of e.0 ps)) × (1 ≤ length (values_of e.0 ps))) es → count_sums_in (map (λ (entry : Option Key × (ℕ × ℤ)). (entry.0, entry.1.0, entry.1.1)) es) ≡ es
 counted ps [] h = refl
 counted ps (e ∷ es) h =
@@ -48,13 +48,13 @@ counted ps (e ∷ es) h =
     (some_rows e.1.0 (length (values_of e.0 ps)) (ap (λ t. t.0) h.0.0) h.0.1)
     ∙ ap (λ rest. e ∷ rest) (counted ps es h.1)
 
--- but for the line of no rows
+-- the line for no rows adds nothing
 without_zero : (key : Option ℕ) (lines : List (Option Key × ℕ × ℤ)) → count_sums_in (or_zero key lines) ≡ count_sums_in lines
 without_zero None [] = refl
 without_zero None (line ∷ lines) = refl
 without_zero (Some column) lines = refl
 
--- the lines of an answer, added to the totals of some pairs
+-- adding the lines of an answer to the totals of some pairs makes the totals of all
 pub with_totals : (key : Option ℕ) (some others : List Pair) (m : ByKey (ℕ × ℤ)) (lines : List (Option Key × ℕ × ℤ)) → m ≡ totals some → lines ≡ or_zero key (total_lines (totals others)) → with_all add_count_sums m (count_sums_in lines) ≡ totals (some ++ others)
 with_totals key some others m lines e h =
     (λ i. with_all add_count_sums (e i) (count_sums_in (h i)))
@@ -66,7 +66,7 @@ lines_round_trip : (es : List (Option Key × (ℤ × ℤ))) → min_maxes_in (ma
 lines_round_trip [] = refl
 lines_round_trip (e ∷ es) = ap (λ rest. e ∷ rest) (lines_round_trip es)
 
--- and to the extrema of some
+-- adding the lines of an answer to the extrema of some pairs makes the extrema of all
 pub with_extrema : (some others : List Pair) (m : ByKey (ℤ × ℤ)) (lines : List (Option Key × ℤ × ℤ)) → m ≡ extrema some → lines ≡ extrema_lines (extrema others) → with_all join_min_maxes m (min_maxes_in lines) ≡ extrema (some ++ others)
 with_extrema some others m lines e h =
     (λ i. with_all join_min_maxes (e i) (min_maxes_in (h i)))
@@ -84,7 +84,7 @@ four_lists [] b c d = three b c d where
   three (x ∷ b) c d = ap (λ l. x ∷ l) (three b c d)
 four_lists (x ∷ a) b c d = ap (λ l. x ∷ l) (four_lists a b c d)
 
--- a list of no element
+-- a list of length 0 is empty
 pub nothing : {A : Type 0} (n : ℕ) (xs : List A) → n ≡ length xs → n ≡ 0 → xs ≡ []
 nothing n [] e z = refl
 nothing n (x ∷ xs) e z = absurd (omega (arith, e, z))
@@ -94,7 +94,7 @@ pairs-append spec a b =
     ap (filter_map (λ row. pair_in spec (cells_of row))) (filter-append (λ row. keeps spec.filter (cells_of row)) a b)
     ∙ filter_map-append (λ row. pair_in spec (cells_of row)) (kept spec a) (kept spec b)
 
--- an answer over four lists of rows, from their pairs
+-- the answer over four lists of rows is the answer over their pairs
 pub over_four : (spec : Spec) (f : Fold) (a b c d : List (List Cell)) → spec.fold ≡ f → answer_of f spec.key (pairs_of spec a ++ (pairs_of spec b ++ (pairs_of spec c ++ pairs_of spec d))) ≡ answer_over spec (a ++ (b ++ (c ++ d)))
 over_four spec f a b c d e =
     ap (answer_of f spec.key)
@@ -126,12 +126,12 @@ kind_of fold.Extrema key pairs = tt
 pub is_of : (spec : Spec) (rows : List (List Cell)) (given : Answer) → given ≡ answer_over spec rows → IsOf spec.fold given
 is_of spec rows given e = subst (IsOf spec.fold) (sym e) (kind_of spec.fold spec.key (pairs_of spec rows))
 
--- what an aggregate that is registered answers
+-- the answer of a registered aggregate is the answer over the rows
 pub answers_spec : (places : List Place) (aggregate : Option Registered) (spec : Spec) (given : Answer) → option_map (λ (r : Registered). r.spec) aggregate ≡ Some spec → Answers places aggregate given → given ≡ answer_over spec (rows_of places)
 answers_spec places None spec given e h = absurd h
 answers_spec places (Some r) spec given e h = let same : r.spec ≡ spec = cc in h.1 ∙ ap (λ s. answer_over s (rows_of places)) same
 
--- and then nothing is left
+-- an aggregate that answers has no pending row group
 pub answers_scanned : (places : List Place) (aggregate : Option Registered) (given : Answer) → Answers places aggregate given → 0 ≡ pending_in aggregate
 answers_scanned places None given h = absurd h
 answers_scanned places (Some r) given h = sym h.0

@@ -1,4 +1,4 @@
--- Reports of chunks.
+-- Reports of chunks: there are few, and together they count the whole list.
 use Rattle.std.proofs.Common.{◌≡◌, ℕ, ◌+◌, ◌*◌, ◌/◌, ◌%◌, ◌<◌, ◌≤◌, min, max, List, [], ◌∷◌, length, get_or, map, sum_by, sum, sym, ◌∙◌, refl, arith, mul-le-mul_right, mul_comm, lt_of_mul-lt-mul_right, subst}
 use Rattle.std.proofs.lemmas.List.Sums.{sum_by-cons}
 use Rattle.std.proofs.lemmas.List.{get_or-map, length-map}
@@ -14,7 +14,7 @@ sum-mapped : {X : Type 0} (f : X → ℕ) (xs : List X) → sum (map f xs) ≡ s
 sum-mapped f [] = refl
 sum-mapped f (x ∷ xs) = (let e = sum_by-cons f x xs in let d = sum_by-cons (λ (n : ℕ). n) (f x) (map f xs) in let h = sum-mapped f xs in omega arith)
 
--- if each result counts its chunk, all count the whole
+-- if each report counts its chunk, all reports together count the whole list
 pub counts-all : {X R : Type 0} (f : R → ℕ) (size : ℕ) (xs : List X) (rs : List R) (d : R) → 0 < size → length rs ≡ length xs / size + min 1 (length xs % size) → ((n : ℕ) → n < length rs → f (get_or rs n d) ≡ length (slice_chunk xs size n)) → sum_by f rs ≡ length xs
 counts-all f size xs rs d some len each =
     sym (sum-mapped f rs)
@@ -31,7 +31,7 @@ few-pieces count workers each long pieces is enough last =
     let fewer : pieces < workers + 1 = lt_of_mul-lt-mul_right long less in
     omega (arith, fewer)
 
--- so many chunks of at most so many
+-- there are at most as many chunks as workers
 pub few-chunks : (count workers each size chunks : ℕ) → 0 < workers → each ≡ count / workers + min 1 (count % workers) → size ≡ max each 1 → chunks ≡ count / size + min 1 (count % size) → chunks ≤ workers
 few-chunks count workers each size chunks some is long many =
     let some-size : 0 < size = omega (arith, long) in

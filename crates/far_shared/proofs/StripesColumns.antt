@@ -1,4 +1,4 @@
--- What calls keep of the rows over objects: an index for each column, and the number that their objects bear.
+-- Calls that keep a table's columns: an index for each column, and the number of its objects.
 use Rattle.std.proofs.Common.{◌≡◌, ℕ, suc, ◌+◌, Bool, true, false, if◌then◌else◌, List, [], ◌∷◌, length, refl, sym, ap, subst, ◌∙◌, Option, None, Some, IfSome, IsSomeAnd, Result, IfOk, IfErr}
 use Rattle.std.specs.Prelude.{ℤ, option_map, slice_get}
 use Rattle.std.specs.Option.{option_map_or}
@@ -39,7 +39,7 @@ use Rattle.far_frame.specs.Jobs.{WorkOf, Commits, Installs, Merges}
 use Rattle.far_frame.specs.State.{State}
 use Rattle.far_shared.specs.Stripes.{AreRowsOf, KeepsColumns}
 
--- there is an index for each kind
+-- there is one index for each kind
 pub column_indexes-length : (numbers texts : ℕ) (kinds : List Kind) → length (column_indexes_from numbers texts kinds) ≡ length kinds
 column_indexes-length numbers texts [] = refl
 column_indexes-length numbers texts (kind.Int ∷ kinds) = ap suc (column_indexes-length (numbers + 1) texts kinds)
@@ -82,7 +82,7 @@ module _ {K : Type 0} where
       by true is = ap (λ (m : Movement ℕ K). m.number) (moved.begun is) ∙ all-after_create-number r.text_objects r.texts _
       by false is = let h = moved.replaced is in ap (λ (m : Movement ℕ K). m.number) h.2 ∙ after_replace-number r.text_objects h.0
 
-  -- rows that are the same
+  -- unchanged rows keep their columns
   pub same-columns : (old new : Rows K) → new ≡ old → KeepsColumns old new
   same-columns old new same = record {
     column_indexes = ap (λ (r : Rows K). r.column_indexes) same;
@@ -90,11 +90,11 @@ module _ {K : Type 0} where
     texts = ap (λ (r : Rows K). r.text_objects.number) same;
   }
 
-  -- rows of a schema stay such rows
+  -- rows of a schema that keep their columns are rows of this schema
   pub still-of : (kinds : List Kind) (n : ℕ) (old new : Rows K) → KeepsColumns old new → AreRowsOf kinds n old → AreRowsOf kinds n new
   still-of kinds n old new kept of = record { column_indexes = ap length kept.column_indexes ∙ of.column_indexes; numbers = kept.numbers ∙ of.numbers; texts = kept.texts ∙ of.texts }
 
-  -- a table begins with such rows
+  -- a new table has rows of its schema
   pub empty-of : (kinds : List Kind) (limits : Limits) (n : ℕ) → AreRowsOf kinds n (empty_rows {K = K} kinds limits n)
   empty-of kinds limits n = record { column_indexes = column_indexes-length 0 0 kinds; numbers = refl; texts = refl }
 
@@ -111,7 +111,7 @@ module _ {K : Type 0} where
   found-set content old new None of place value there moved = absurd (let none : None ≡ Some of = there in cc)
   found-set content old new (Some s) of place value there moved = subst (KeepsColumns old) (sym moved) (set-columns content old s place value)
 
-  -- an edit keeps them
+  -- an edit keeps the columns
   pub edit-columns : (content : K → List ℕ) (old : Rows K) (e : Edit) (new : Rows K) → Moves content old e new → KeepsColumns old new
   edit-columns content old (edit.Insert row) new h = record {
     column_indexes = h.2.column_indexes;
@@ -135,7 +135,7 @@ module _ {K : Type 0} where
   install-columns content old new (by_kind.Texts fetched) h =
       found-arrived (lists_of content old.text_objects fetched.job.object) old new (λ list. record old { text_objects = after_arrive old.text_objects fetched.job.object list }) (λ list. record { column_indexes = refl; numbers = refl; texts = refl }) h
 
-  -- a job that is accepted keeps them
+  -- an accepted job keeps the columns
   pub commits-columns : (number_of : K → ℕ) (old new : State K) (w : WorkOf K) → Commits number_of old w new → KeepsColumns old.rows new.rows
   commits-columns number_of old new (work_of.Evac evac) h = absurd h
   commits-columns number_of old new (work_of.Carried carried) h = subst (KeepsColumns old.rows) (sym h.changed.rows.away) (commit-columns old.rows carried)
@@ -160,7 +160,7 @@ module _ {K : Type 0} where
   merges-columns number_of old new (work_of.Offload build) h = absurd h
   merges-columns number_of old new (work_of.Offloaded build) h = same-columns old.rows new.rows (ap (λ (s : LiveState K). s.rows) h.changed.state)
 
-  -- a call keeps them, whether it is done or refused
+  -- a call keeps the columns, if it does so when accepted and changes nothing when refused
   pub either-columns : {A : Type 0} (r : Result A Refusal) (old new : State K) (P : A → Type 0) (Q : Refusal → Type 0)
       → ((x : A) → P x → KeepsColumns old.rows new.rows) → ((e : Refusal) → Q e → new ≡ old) → IfOk r P → IfErr r Q → KeepsColumns old.rows new.rows
   either-columns (Ok x) old new P Q f g done refused = f x done

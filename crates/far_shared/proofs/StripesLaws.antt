@@ -1,4 +1,4 @@
--- What the table of a stripe shares with the replay of its history.
+-- The table of a stripe and the replay of its history agree.
 use Rattle.std.proofs.Common.{◌≡◌, ℕ, ◌+◌, ◌<◌, ◌≤◌, ◌^◌, Bool, true, false, List, [], ◌∷◌, ◌++◌, length, Option, None, Some, refl, sym, ap, subst, ◌∙◌, arith}
 use Rattle.std.proofs.lemmas.List.{length-append}
 use Rattle.std.specs.Prelude.{ℤ, cond, ◌&&◌, ◌||◌, ◌==◌, nat_lt}
@@ -42,7 +42,7 @@ why-alike one other e given schema limits places edits why =
     (subst (λ (all : List Place). WhyNot (record one { schema = other.schema; limits = other.limits; places = all }) e given) (sym places)
     (subst (λ (n : ℕ). WhyNot (record one { schema = other.schema; limits = other.limits; places = other.places; edits = n }) e given) (sym edits) why)))
 
--- a plan's gauge is plain
+-- the gauge of a plan is ungrouped
 pub plan-plain : (p : Planned) → IsPlan p → is_plain p.gauge ≡ true
 plan-plain p is = by (is_plain p.gauge) is.allowed
   where
@@ -50,7 +50,7 @@ plan-plain p is = by (is_plain p.gauge) is.allowed
     by true free = refl
     by false free = absurd cc
 
--- and may be had over its schema
+-- the gauge of a plan is valid for the plan's schema
 pub plan-checked : (p : Planned) → IsPlan p → spec_refusal p.schema p.gauge ≡ None
 plan-checked p is = by (is_plain p.gauge) (spec_refusal p.schema p.gauge) is.allowed
   where
@@ -59,7 +59,7 @@ plan-checked p is = by (is_plain p.gauge) (spec_refusal p.schema p.gauge) is.all
     by true (Some due) free = absurd cc
     by false due free = absurd cc
 
--- a plain aggregate that was registered first reads its count and its sum
+-- the first registered aggregate, if it is ungrouped, reads its count and sum
 pub plain-read : (spec : Spec) (places : List Place) → is_plain spec ≡ true → plain_in places (Some (first_registered spec)) ≡ Some (folded spec places)
 plain-read spec places plain = by (is_plain spec) plain
   where
@@ -70,7 +70,7 @@ plain-read spec places plain = by (is_plain spec) plain
 abbrev pub reading : ℕ → ℕ × ℤ → Reading
 reading edits x = record { edits = edits; count = x.0; sum = x.1 }
 
--- a reader gives one thing
+-- a reader returns only one value
 pub same-read : (read : Option (ℕ × ℤ)) (x y : ℕ × ℤ) → read ≡ Some x → read ≡ Some y → x ≡ y
 same-read read x y one other = (let both : Some x ≡ Some y = sym one ∙ other in cc)
 
@@ -78,7 +78,7 @@ pub reads-as : (edits : ℕ) (x y : ℕ × ℤ) → x ≡ y → reading edits x 
 reads-as edits x y same = ap (reading edits) same
 
 module _ (p : Planned) (log : List Entry) (table : Table) (is : IsStripe p log table) where
-  -- the table and the replay differ in their aggregates alone
+  -- the table and the replay differ only in their aggregates, so edits have the same refusals and places
   pub same-refusal : (e : Edit) → edit_refusal (replay p log) e ≡ edit_refusal table e
   same-refusal e =
       let schema : (replay p log).schema ≡ table.schema = schema_stays (empty_table p.schema p.limits) log ∙ sym is.schema in
@@ -94,17 +94,17 @@ module _ (p : Planned) (log : List Entry) (table : Table) (is : IsStripe p log t
   same-place (edit.Set at c cell) = refl
   same-place (edit.Remove at) = refl
 
-  -- a stripe has few edits
+  -- a stripe has fewer than 2 ^ 63 edits
   pub few : IsLegal p log → length log < 2 ^ 63
   few legal = omega (arith, few_edits (empty_table p.schema p.limits) log legal (omega arith), is.plan.limits.edits_high)
 
-  -- and few places
+  -- a stripe has at most 2 ^ 24 places
   pub places-few : IsLegal p log → length table.places ≤ 2 ^ 24
   places-few legal =
       subst (λ (all : List Place). length all ≤ 2 ^ 24) (sym is.places)
       (at-most _ _ _ (few-places (empty_table p.schema p.limits) log legal (zero-least p.limits.places)) is.plan.limits.places_high)
 
-  -- an edit more
+  -- the table after one more edit agrees with the longer history
   pub stripe-edited : (by : ℕ) (e : Edit) → IsStripe p (log ++ entry by e ∷ []) (after_edit e table)
   stripe-edited by e =
       let pushed = replay_on-push (empty_table p.schema p.limits) log (entry by e) in record {
@@ -118,7 +118,7 @@ module _ (p : Planned) (log : List Entry) (table : Table) (is : IsStripe p log t
         few = is.few;
       }
 
-  -- what the history with an edit more leaves
+  -- what the gauge reads after one more edit of the history
   pub gauge-edited : (by : ℕ) (e : Edit) (places : List Place) → places ≡ (after_edit e table).places
       → record { edits = length log + 1; count = (folded p.gauge places).0; sum = (folded p.gauge places).1 } ≡ gauge_of p (log ++ entry by e ∷ [])
   gauge-edited by e places now =
@@ -126,7 +126,7 @@ module _ (p : Planned) (log : List Entry) (table : Table) (is : IsStripe p log t
       let count : length log + 1 ≡ length (log ++ entry by e ∷ []) = omega (arith, length-append log (entry by e ∷ [])) in
       rw after (rw count refl)
 
-  -- the stripe, once the edit is made in its table and added to its history
+  -- the stripe after the edit is made in its table and appended to its history
   pub stripe-made : (by : ℕ) (e : Edit) (now : List Entry) (after : Table) → now ≡ log ++ entry by e ∷ [] → after ≡ after_edit e table → IsStripe p now after
   stripe-made by e now after longer changed =
       subst (λ l. IsStripe p l after) (sym longer) (subst (IsStripe p (log ++ entry by e ∷ [])) (sym changed) (stripe-edited by e))
@@ -134,7 +134,7 @@ module _ (p : Planned) (log : List Entry) (table : Table) (is : IsStripe p log t
   pub stripe-same : (now : List Entry) (after : Table) → now ≡ log → after ≡ table → IsStripe p now after
   stripe-same now after same kept = subst (λ l. IsStripe p l after) (sym same) (subst (IsStripe p log) (sym kept) is)
 
-  -- what the gauge reads after the edit is what the longer history leaves
+  -- if the gauge was right before the edit, it is right after it
   pub reads-edited : (by : ℕ) (e : Edit) (before after : Reading) (now : Table) → before ≡ gauge_of p log → now ≡ after_edit e table
       → after ≡ record { edits = before.edits + 1; count = (folded p.gauge now.places).0; sum = (folded p.gauge now.places).1 } → after ≡ gauge_of p (log ++ entry by e ∷ [])
   reads-edited by e before after now returned changed reads =
@@ -142,7 +142,7 @@ module _ (p : Planned) (log : List Entry) (table : Table) (is : IsStripe p log t
       ∙ ap (λ (r : Reading). record { edits = r.edits + 1; count = (folded p.gauge now.places).0; sum = (folded p.gauge now.places).1 }) returned
       ∙ gauge-edited by e now.places (ap (λ (t : Table). t.places) changed)
 
--- a stripe whose rows are kept is such a stripe still
+-- a table that keeps its rows stays the table of the stripe
 pub stripe-unchanged : (p : Planned) (log : List Entry) (old new : Table) → KeepsRows old new → IsStripe p log old → IsStripe p log new
 stripe-unchanged p log old new kept is = record {
   plan = is.plan;

@@ -1,4 +1,4 @@
--- The table of a stripe once an aggregate is registered or forgotten beside its gauge.
+-- The table of a stripe after an aggregate other than the gauge is registered or forgotten.
 use Rattle.std.proofs.Common.{◌≡◌, ◌≢◌, ◌⊎◌, inl, inr, ℕ, zero, suc, ◌+◌, ◌<◌, ◌≤◌, ◌^◌, Bool, true, false, List, [], ◌∷◌, length, Option, None, Some, refl, sym, ap, subst, ◌∙◌, arith}
 use Rattle.std.specs.Prelude.{◌==◌, is_none, replicate, slice_get, slice_set}
 use Rattle.std.specs.Option.{option_or}
@@ -51,12 +51,12 @@ number-in (None ∷ xs) r a first len free = absurd cc
 number-in (Some s ∷ xs) r a first len free = (let within = free-within 1 xs a free in ((λ e. omega (arith, within.0, e)), omega (arith, within.1, len)))
 
 module _ (p : Planned) (log : List Entry) (table : Table) (is : IsStripe p log table) where
-  -- the lowest free number is none of the gauge's
+  -- the lowest free number is not the gauge's
   pub number-free : (a : ℕ) → lowest_free table ≡ Some a → (a ≢ 0) × (a < 32)
   number-free a free = number-in table.aggregates (first_registered p.gauge) a is.gauge is.aggregates free
 
   module _ (a : ℕ) (ne : a ≢ 0) where
-    -- whatever stands under another number than the gauge's, of which few row groups are left
+    -- writing an aggregate under another number than the gauge's, with few pending row groups, keeps the stripe
     pub stripe-with : (x : Option Registered) → pending_in x ≤ 2 ^ 24 → IsStripe p log (with_aggregate a x table)
     stripe-with x few = record {
       plan = is.plan;
@@ -84,7 +84,7 @@ module _ (p : Planned) (log : List Entry) (table : Table) (is : IsStripe p log t
         }
 
 module _ (p : Planned) (log : List Entry) (table : Table) (is : IsStripe p log table) (kinds : List Kind) (spec : Spec) (same : kinds ≡ table.schema) where
-  -- what is said over the table's schema is said over the plan's
+  -- a specification is checked against the table's schema, which is the plan's
   pub check-allowed : spec_refusal kinds spec ≡ None → spec_refusal p.schema spec ≡ None
   check-allowed free = subst (λ schema. spec_refusal schema spec ≡ None) (same ∙ is.schema) free
 
@@ -99,7 +99,7 @@ no-groups : (size : ℕ) → 0 < size → groups size 0 ≡ 0
 no-groups size some = div-eq_of_lt (omega (arith, some))
 
 module _ (p : Planned) (is : IsPlan p) where
-  -- an empty table whose gauge was registered
+  -- an empty table with its gauge is the table of an empty history
   pub stripe-opened : (a : ℕ) → lowest_free (empty_table p.schema p.limits) ≡ Some a → IsStripe p [] (after_register_at a p.gauge (empty_table p.schema p.limits))
   stripe-opened a free = subst (λ n. IsStripe p [] (after_register_at n p.gauge (empty_table p.schema p.limits))) first opened
     where
@@ -127,7 +127,7 @@ module _ (p : Planned) (is : IsPlan p) where
           registered : Spec → List Bool → Registered
           registered spec pending = record { spec = spec; registration = 0; pending = pending }
 
-  -- the gauge is registered, running out of memory aside
+  -- the gauge is registered, unless memory runs out
   pub gauge-free : watch_refusal (empty_table p.schema p.limits) p.gauge ≡ None
   gauge-free = ap (λ (due : Option Refusal). option_or due (first_of ((false, refusal.TooManyAggregates) ∷ (false, refusal.TooManyAggregates) ∷ []))) (plan-checked p is)
 
@@ -143,7 +143,7 @@ module _ (table : Table) (spec : Spec) where
       by None false true may = inr (refl, inl may)
       by None false false may = inr (refl, inr may.0)
 
-  -- what is registered may be had over the schema
+  -- a registered aggregate is valid for the schema
   pub watch-allowed : watch_refusal table spec ≡ None → spec_refusal table.schema spec ≡ None
   watch-allowed free = by (spec_refusal table.schema spec) free
     where
@@ -156,7 +156,7 @@ module _ {K : Type 0} (content : K → List ℕ) (old new : State K) where
   same-rows spec given h = ap (λ (s : LiveState K). s.rows) h.2.changed.state
 
   module _ (is_of : K → List ℕ → Type 0) (id : List ℕ) (here : AreAt is_of id old.rows) where
-    -- objects stay where they are
+    -- registering and forgetting keep all tickets in the store
     pub watched-here : (spec : Spec) (given : Reply) → Accepts content old (step.Watch spec) given new → AreAt is_of id new.rows
     watched-here spec given h = subst (AreAt is_of id) (sym (same-rows spec given h)) here
 
@@ -164,24 +164,24 @@ module _ {K : Type 0} (content : K → List ℕ) (old new : State K) where
     unwatched-here a given h = subst (AreAt is_of id) (sym (ap (λ (s : LiveState K). s.rows) h.1.changed.state)) here
 
   module _ (p : Planned) (log : List Entry) (is : IsStripe p log old.table) where
-    -- the stripe, once an aggregate is registered
+    -- the stripe after an aggregate is registered
     pub stripe-watched : IsLegal p log → (spec : Spec) (given : Reply) → Accepts content old (step.Watch spec) given new → IsStripe p log new.table
     stripe-watched legal spec given h =
         subst (IsStripe p log) (sym (ap (λ (s : LiveState K). s.table) h.2.changed.state)) (stripe-after_register p log old.table is h.0 (number-free p log old.table is h.0 h.2.changed.number).0 spec legal)
 
-    -- its number
+    -- the number of the new aggregate is not the gauge's
     pub number-watched : (spec : Spec) (a : ℕ) → Accepts content old (step.Watch spec) (reply.Aggregate a) new → (a ≢ 0) × (a < 32)
     number-watched spec a h =
         let is-a : reply.Aggregate a ≡ reply.Aggregate h.0 = h.1 in
         let same : h.0 ≡ a = cc in
         subst (λ n. (n ≢ 0) × (n < 32)) same (number-free p log old.table is h.0 h.2.changed.number)
 
-    -- the stripe, once another aggregate than the gauge is forgotten
+    -- the stripe after an aggregate other than the gauge is forgotten
     pub stripe-unwatched : (a : ℕ) (given : Reply) → a ≢ 0 → Accepts content old (step.Unwatch a) given new → IsStripe p log new.table
     stripe-unwatched a given ne h =
         subst (IsStripe p log) (sym (ap (λ (s : LiveState K). s.table) h.1.changed.state)) (stripe-with p log old.table is a ne None (zero-least (2 ^ 24)))
 
-    -- whether it is registered or not, the stripe holds
+    -- the stripe is kept, whether the aggregate is registered or refused
     pub held-watch : IsLegal p log → (is_of : K → List ℕ → Type 0) (id : List ℕ) → AreAt is_of id old.rows → (n : ℕ) → AreRowsOf p.schema n old.rows → (spec : Spec) (r : Result ℕ Refusal)
         → IfOk r (λ a. Accepts content old (step.Watch spec) (reply.Aggregate a) new) → IfErr r (λ e. Refuses old (step.Watch spec) e new)
         → IsStripe p log new.table × AreAt is_of id new.rows × AreRowsOf p.schema n new.rows
@@ -198,7 +198,7 @@ module _ {K : Type 0} (content : K → List ℕ) (old new : State K) where
     held-unwatch is_of id here n of a ne (Err e) done refused =
         subst (λ (s : State K). IsStripe p log s.table × AreAt is_of id s.rows × AreRowsOf p.schema n s.rows) (sym refused.0) (is, here, of)
 
-    -- why it is not registered
+    -- why an aggregate is not registered in the stripe
     pub refused-watched : (spec : Spec) (given : Refusal) → Refuses old (step.Watch spec) given new → WatchRefusal p.schema spec given
     refused-watched spec given h = subst (λ schema. WatchRefusal schema spec given) is.schema (watch-why old.table spec given h.1)
 
@@ -206,7 +206,7 @@ module _ {K : Type 0} (content : K → List ℕ) (old new : State K) where
     is-fresh : old.table ≡ empty_table p.schema p.limits
     is-fresh = ap (λ (s : State K). s.table) fresh
 
-    -- an empty table, once its gauge is registered
+    -- an empty table after its gauge is registered
     pub empty-watched : (is_of : K → List ℕ → Type 0) (given : Reply) → ((id : List ℕ) → AreAt is_of id old.rows) → Accepts content old (step.Watch spec) given new → IsEmpty is_of p n new
     empty-watched is_of given here h = record {
       stripe = subst (IsStripe p []) (sym table) (stripe-opened p is h.0 (subst (λ (t : Table). lowest_free t ≡ Some h.0) is-fresh h.2.changed.number));
@@ -220,7 +220,7 @@ module _ {K : Type 0} (content : K → List ℕ) (old new : State K) where
             ∙ ap (after_register_at h.0 spec) is-fresh
             ∙ ap (λ (x : Spec). after_register_at h.0 x (empty_table p.schema p.limits)) gauge
 
-    -- it is registered, running out of memory aside
+    -- the gauge is registered, unless memory runs out
     pub empty-refused : (given : Refusal) → Refuses old (step.Watch spec) given new → given ≡ refusal.NoMemory
     empty-refused given h =
         let free : watch_refusal old.table spec ≡ None =
@@ -228,6 +228,6 @@ module _ {K : Type 0} (content : K → List ℕ) (old new : State K) where
         let may : MayRefuse None true given = subst (λ (due : Option Refusal). MayRefuse due true given) free h.1 in
         may.0
 
--- a stripe begins with an empty table and an empty history
+-- a new stripe has an empty table and an empty history
 pub empty-stripe : {K : Type 0} (is_of : K → List ℕ → Type 0) (p : Planned) (n : ℕ) (store : List ℕ) (log : List Entry) (s : State K) → log ≡ [] → IsEmpty is_of p n s → IsStripe p log s.table × AreAt is_of store s.rows × AreRowsOf p.schema n s.rows
 empty-stripe is_of p n store log s none empty = (subst (λ l. IsStripe p l s.table) (sym none) empty.stripe, empty.here store, empty.rows)

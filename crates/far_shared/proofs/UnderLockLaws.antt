@@ -1,4 +1,4 @@
--- What a call does under a stripe's lock, from what is known of the states there.
+-- The effects of a call under a stripe's lock, from the states that the lock allows.
 use Rattle.std.proofs.Common.{rules, ◌≡◌, ℕ, zero, suc, ◌<◌, inl, inr, List, Option, None, Some, IsSomeAnd, Result, OnOk, refl, ap, subst, sym, ◌∙◌, arith}
 use Rattle.std.specs.declared.result.Result.TheVariants.{Ok, Err}
 use Rattle.far_store.specs.Faults.{RefusedBy}
@@ -22,7 +22,7 @@ use Rattle.far_shared.specs.declared.work.Building.TheVariants as building
 use Rattle.far_shared.specs.UnderLock.{BeginsEvac, BuildFails, Changed, CompleteFails, EvacuationFails, Found, IsUnder, Registers, Scans}
 use Rattle.far_shared.proofs.WatchingUndo.{held}
 
--- what holds of each stripe
+-- a property of each stripe holds for all numbers below 4
 pub below-four : (P : ℕ → Type 0) → P 0 → P 1 → P 2 → P 3 → (n : ℕ) → n < 4 → P n
 below-four P a b c d zero low = a
 below-four P a b c d (suc zero) low = b
@@ -30,12 +30,12 @@ below-four P a b c d (suc (suc zero)) low = c
 below-four P a b c d (suc (suc (suc zero))) low = d
 below-four P a b c d (suc (suc (suc (suc n)))) low = absurd (omega (arith, low))
 
--- what is known of a stripe under its lock
+-- the invariant of a stripe under its lock
 pub under-lock : {K : Type 0} (p : Planned) (is_of : K → List ℕ → Type 0) (id : List ℕ) (n : ℕ) (log : List Entry) (state : State K) → IsLegal p log → IsStripe p log state.table × AreAt is_of id state.rows × AreRowsOf p.schema n state.rows → IsUnder p is_of id n (held log state)
 under-lock p is_of id n log state legal is = record { legal = legal; stripe = is.0; here = is.1; rows = is.2 }
 
 module _ {K : Type 0} (allows : StripeState K → Type 0) where
-  -- an evacuation of the coldest object has its name
+  -- the job that evacuates the coldest object names this object
   pub coldest-named : (job : JobRecord K) → Found allows (λ s. IsColdestJob s.rows (Some job)) → (name : Name) × (job.name ≡ Some name) × Found allows (λ s. BeginsEvac name s job)
   coldest-named job found = by job.name refl found.at found.allowed found.found
     where
@@ -44,13 +44,13 @@ module _ {K : Type 0} (allows : StripeState K → Type 0) where
       by (Some name) same h allowed is = (name, same, record { at = h; allowed = allowed; found = is })
 
 module _ {K : Type 0} (number_of : K → ℕ) (content : K → List ℕ) (allows : StripeState K → Type 0) where
-  -- an evacuation of the coldest object was not completed
+  -- if the evacuation of the coldest object is not completed, it fails as an evacuation may
   pub not-evacuated : (job : JobRecord K) (given : Refusal) → Found allows (λ s. IsColdestJob s.rows (Some job)) → CompleteFails number_of content allows job given → EvacuationFails number_of content allows given
   not-evacuated job given found why =
       let named = coldest-named allows job found in
       inr (named.0, record { job = job; begun = named.2; why = why })
 
-  -- a scan under the lock, of what was pending before
+  -- a scan under the lock of a row group that was pending before
   module _ (aggregate group : ℕ) (begun : Found allows (λ s. BeginsBuild s (building.Scan aggregate group))) where
     pub scanned : Changed allows (λ old new. Accepts content old (step.ScanGroup aggregate group) reply.Done new) → Scans number_of content allows
     scanned ended = record { aggregate = aggregate; group = group; begun = begun; ended = ended }
@@ -68,7 +68,7 @@ registers {K} allows a spec old new before after free is = record {
   changed = (free, ap (λ (h : StripeState K). h.state) is);
 }
 
--- the same under the number that was found beforehand, of a copy
+-- a registration under the number that was found before, of a copy of the specification
 pub registers-at : {K : Type 0} (allows : StripeState K → Type 0) (a b : ℕ) (copy spec : Spec) (free : Option ℕ) → copy ≡ spec → free ≡ Some a → free ≡ Some b → Registers allows b copy → Registers allows a spec
 registers-at {K} allows a b copy spec free same at found done =
     let both : Some b ≡ Some a = sym found ∙ at in
@@ -81,7 +81,7 @@ pub ends-among : {K A : Type 0} (content : K → List ℕ) (job done : JobRecord
     → RefusedBy (end_refusals (job_kind done)) r → RefusedBy (job_refusals (job_kind job)) r
 ends-among content job done is r refused = search rules
 
--- what a call changed under the lock
+-- a change of the state under the lock
 pub changes-under : {K A : Type 0} (allows : StripeState K → Type 0)
     (changes : State K → State K → Type 0) (old new : StripeState K) (r : Result A Refusal)
     → allows old → allows new → new.log ≡ old.log → OnOk r (changes old.state new.state)

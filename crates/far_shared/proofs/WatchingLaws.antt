@@ -1,4 +1,4 @@
--- What a stripe is once an aggregate was registered or forgotten beside its gauge, or that was refused.
+-- A stripe after an aggregate is registered or forgotten, or after that is refused.
 use Rattle.std.proofs.Common.{◌≡◌, ◌≢◌, inl, inr, ℕ, ◌<◌, List, None, Some, sym, ap, subst, ◌∙◌, Result, IfOk, IfErr, OnOk}
 use Rattle.std.specs.declared.result.Result.TheVariants.{Ok, Err}
 use Rattle.far_types.specs.declared.cell.Kind.{Kind}
@@ -19,11 +19,11 @@ use Rattle.far_shared.specs.Stripes.{IsStripe}
 use Rattle.far_shared.specs.Watching.{WatchRefusal}
 use Rattle.far_shared.proofs.StripesRegistry.{watched-here, unwatched-here, stripe-watched, stripe-unwatched, number-watched, refused-watched, empty-watched, empty-refused}
 
--- why an aggregate with a fault is not registered
+-- why an aggregate with an invalid specification is not registered
 pub faulty : (p : Planned) (schema : List Kind) (spec : Spec) (given : Refusal) → schema ≡ p.schema → spec_refusal schema spec ≡ Some given → WatchRefusal p.schema spec given
 faulty p schema spec given same due = inl (subst (λ kinds. spec_refusal kinds spec ≡ Some given) same due)
 
--- an aggregate without one is refused for lack of memory
+-- why a valid aggregate is not registered
 pub no-memory : (p : Planned) (schema : List Kind) (spec : Spec) (given : Refusal) → schema ≡ p.schema → spec_refusal schema spec ≡ None → given ≡ refusal.NoMemory → WatchRefusal p.schema spec given
 no-memory p schema spec given same free memory = inr (subst (λ kinds. spec_refusal kinds spec ≡ None) same free, inr memory)
 
@@ -62,17 +62,17 @@ module _ {K : Type 0} (content : K → List ℕ) (old new : State K) where
     as-empty : old ≡ empty_state p.schema p.limits n
     as-empty = fresh ∙ ap (λ (r : Planned). empty_state r.schema r.limits n) (sym same)
 
-    -- an empty table, once its gauge is registered
+    -- an empty table after its gauge is registered
     pub gauge-watched : (is_of : K → List ℕ → Type 0) (r : Result ℕ Refusal) → ((id : List ℕ) → AreAt is_of id old.rows) → IfOk r (λ a. Accepts content old (step.Watch spec) (reply.Aggregate a) new) → OnOk r (IsEmpty is_of q n new)
     gauge-watched is_of (Ok a) here done = subst (λ (r : Planned). IsEmpty is_of r n new) same (empty-watched content old new p is n as-empty spec gauge is_of (reply.Aggregate a) here done)
     gauge-watched is_of (Err e) here done = tt
 
-    -- that is refused for lack of memory alone
+    -- the gauge is refused only for lack of memory
     pub gauge-refused : (r : Result ℕ Refusal) → IfErr r (λ e. Refuses old (step.Watch spec) e new) → IfErr r (λ e. e ≡ refusal.NoMemory)
     gauge-refused (Ok a) refused = tt
     gauge-refused (Err e) refused = empty-refused content old new p is n as-empty spec gauge e refused
 
--- what is opened for a plan
+-- a state that is opened for a plan is opened for an equal plan
 pub opened-for : {K : Type 0} (p q : Planned) (n : ℕ) (schema : List Kind) (s : State K) → p ≡ q → schema ≡ p.schema → s ≡ empty_state schema p.limits n → s ≡ empty_state q.schema q.limits n
 opened-for p q n schema s same kinds fresh =
     fresh

@@ -1,4 +1,4 @@
--- Row groups that are scanned change no row, and how that is refused.
+-- Scanning row groups changes no row, and the codes with which it is refused.
 use Rattle.std.proofs.Common.{◌≡◌, ◌≢◌, ℕ, zero, suc, ◌+◌, Bool, true, false, not, List, [], ◌∷◌, length, ap, sym, ◌∙◌, subst, refl, Option, None, Some, IsSomeAnd, Result, IfOk, IfErr, OnOk}
 use Rattle.std.specs.declared.result.Result.TheVariants.{Ok, Err}
 use Rattle.std.specs.Prelude.{◌<◌, ◌≤◌, IsErrOf, is_none, slice_get, slice_set, nat_lt}
@@ -32,7 +32,7 @@ use Rattle.far_shared.specs.Works.{KeepsRows, begun_kind}
 use Rattle.far_shared.proofs.FoursPending.{scanned-fewer, no-more, set-fewer}
 use Rattle.far_shared.proofs.JobsRefusals.{given-one, of-one, first-among, may-among}
 
--- a table that is the same keeps its rows
+-- an unchanged table keeps its rows
 pub same-keeps : (old new : Table) → new ≡ old → KeepsRows old new
 same-keeps old new e = record {
   schema = ap (λ (t : Table). t.schema) e;
@@ -44,7 +44,7 @@ same-keeps old new e = record {
   fewer = λ a. no-more _ _ (ap (λ (t : Table). pending_in (aggregate_at t a)) e);
 }
 
--- what a call says if it is done holds of its result
+-- a consequence of a fact that holds if the call is accepted
 pub either-carried : {A : Type 0} (r : Result A Refusal) (P Q : Type 0) → (P → Q) → OnOk r P → OnOk r Q
 either-carried (Ok x) P Q f is = f is
 either-carried (Err e) P Q f is = tt
@@ -56,12 +56,12 @@ get-set_other (y ∷ xs) zero (suc k) x h = refl
 get-set_other (y ∷ xs) (suc i) zero x h = refl
 get-set_other (y ∷ xs) (suc i) (suc k) x h = get-set_other xs i k x (λ e. h (ap suc e))
 
--- an aggregate of which a row group is left is not one of which none is
+-- an aggregate with a pending row group has a positive number of them
 some-left : (aggregate : Option Registered) (g : ℕ) → is_pending_in aggregate g ≡ true → pending_in aggregate ≡ 0 → ⊥
 some-left None g h none = (let off : false ≡ true = h in cc)
 some-left (Some r) g h none = (let on : is_pending r.pending g ≡ true = h in let off = none_left r.pending g none in cc)
 
--- a row group that is left is scanned
+-- scanning a pending row group keeps the rows
 pub scanned-keeps : (t : Table) (b g : ℕ) → is_pending_in (aggregate_at t b) g ≡ true → KeepsRows t (after_scan_at b g t)
 scanned-keeps t b g h = record {
   schema = refl;
@@ -73,13 +73,13 @@ scanned-keeps t b g h = record {
   fewer = λ a. set-fewer t.aggregates b a (entry_after_scan g (aggregate_at t b)) (scanned-fewer (aggregate_at t b) g h);
 }
 
--- the row group of a build that is accepted was left
+-- the row group of an accepted build was pending
 left-some : (o : Option Registered) (g : ℕ) (P : Registered → Type 0) → ((r : Registered) → P r → is_pending r.pending g ≡ true) → IsSomeAnd o P → is_pending_in o g ≡ true
 left-some None g P f h = absurd h
 left-some (Some r) g P f h = f r h
 
 module _ {K : Type 0} where
-  -- a merge that is accepted changes no row
+  -- an accepted merge keeps the rows
   pub merges-keeps : (number_of : K → ℕ) (old : State K) (w : WorkOf K) (new : State K) → Merges number_of old w new → KeepsRows old.table new.table
   merges-keeps number_of old (work_of.Offloaded build) new h =
       subst (KeepsRows old.table) (sym (ap (λ (s : LiveState K). s.table) h.changed.state))
@@ -90,7 +90,7 @@ module _ {K : Type 0} where
   merges-keeps number_of old (work_of.Fetched fetched) new h = absurd h
   merges-keeps number_of old (work_of.Offload build) new h = absurd h
 
-  -- a job that moves an object changes no table
+  -- a job that moves an object keeps the table
   pub commits-keeps : (number_of : K → ℕ) (old : State K) (w : WorkOf K) (new : State K) → Commits number_of old w new → KeepsRows old.table new.table
   commits-keeps number_of old (work_of.Carried carried) new h = same-keeps old.table new.table h.changed.table
   commits-keeps number_of old (work_of.Evac evac) new h = absurd h
@@ -107,12 +107,12 @@ module _ {K : Type 0} where
   installs-keeps number_of content old (work_of.Offload build) new h = absurd h
   installs-keeps number_of content old (work_of.Offloaded build) new h = absurd h
 
-  -- a call that keeps the rows if it is done, and changes nothing if it is refused
+  -- a call keeps the rows, if it does so when accepted and changes nothing when refused
   pub either-keeps : {A : Type 0} (r : Result A Refusal) (old new : State K) (P : A → Type 0) (Q : Refusal → Type 0) → ((x : A) → P x → KeepsRows old.table new.table) → ((e : Refusal) → Q e → new ≡ old) → IfOk r P → IfErr r Q → KeepsRows old.table new.table
   either-keeps (Ok x) old new P Q f g done refused = f x done
   either-keeps (Err e) old new P Q f g done refused = same-keeps old.table new.table (ap (λ (s : State K). s.table) (g e refused))
 
-  -- a job that is accepted was carried
+  -- an accepted job was carried
   pub commits-carried : (number_of : K → ℕ) (old new : State K) (w : WorkOf K) → Commits number_of old w new → begun_kind w ≡ None
   commits-carried number_of old new (work_of.Evac evac) h = absurd h
   commits-carried number_of old new (work_of.Carried carried) h = refl
@@ -147,7 +147,7 @@ module _ {K : Type 0} where
     scan-left None g free = absurd (let some : Some refusal.NoAggregate ≡ None = free in cc)
     scan-left (Some r) g free = second-free (not (nat_lt g (group_count s.table))) (is_pending r.pending g) refusal.OutOfRange refusal.StaleJob (needed_from s.rows r.spec g 0 s.rows.column_indexes) free
 
-    -- a scan that is accepted changes no row
+    -- an accepted scan keeps the rows
     pub scan-keeps : (new : LiveState K) (a g : ℕ) → IsScanned s new a g → KeepsRows s.table new.table
     scan-keeps new a g h = subst (KeepsRows s.table) (sym (ap (λ (t : LiveState K). t.table) h.state)) (scanned-keeps s.table a g (scan-left (aggregate_at s.table a) g h.due))
 
@@ -160,7 +160,7 @@ module _ {K : Type 0} where
       all-dirty one spec g n [] = tt
       all-dirty one spec g n (column_index ∷ column_indexes) = (one, all-dirty one spec g (n + 1) column_indexes)
 
-    -- how a scan may be refused
+    -- the codes with which a scan or an offload may be refused
     pub scan-numbers : (o : Option Registered) (g : ℕ) (e : Refusal) → MayRefuse (scan_refusal s o g) true e → IsOneOf (12 ∷ 14 ∷ 20 ∷ 16 ∷ 1 ∷ []) e
     scan-numbers None g e h = of-one (12 ∷ 14 ∷ 20 ∷ 16 ∷ 1 ∷ []) refusal.NoAggregate e refl h
     scan-numbers (Some r) g e h =
@@ -186,7 +186,7 @@ within-some (x ∷ xs) zero h = refl
 within-some (x ∷ xs) (suc n) h = within-some xs n (omega (arith, h))
 
 module _ {K A : Type 0} (r : Rows K) (column group : ℕ) (result : Result A Refusal) (is : refusal_in result ≡ fetch_refusal r column group) where
-  -- a fetch of what has no index is refused so
+  -- a fetch of a column that does not exist is refused with `NoColumn`
   pub fetch-column : length r.column_indexes ≤ column → IsErrOf result refusal.NoColumn
   fetch-column past = by result (is_none (slice_get r.column_indexes column)) (is_none (object_at r column group)) (not (absent_in r column group).0) is (past-none r.column_indexes column past)
     where
@@ -195,7 +195,7 @@ module _ {K A : Type 0} (r : Rows K) (column group : ℕ) (result : Result A Ref
       by (Err e) true b d due on = let same : e ≡ refusal.NoColumn = cc in ap (λ (x : Refusal). Err x) same
       by result false b d due on = absurd cc
 
-  -- any other is refused by these
+  -- a fetch of a column that exists is refused only with these codes
   pub fetch-numbers : column < length r.column_indexes → IfErr result (IsOneOf (14 ∷ 20 ∷ []))
   fetch-numbers within = by result (is_none (slice_get r.column_indexes column)) (is_none (object_at r column group)) (not (absent_in r column group).0) is (within-some r.column_indexes column within)
     where

@@ -1,4 +1,4 @@
--- What the four stripes are asked.
+-- The joint answers of the four stripes.
 use Rattle.std.specs.Prelude.{◌≡◌, ◌⊎◌, ℕ, List, Result, IfOk, IfErr, IfSome, OnOk}
 use Rattle.far_types.specs.declared.answer.Answer.{Answer}
 use Rattle.far_types.specs.declared.refusal.Refusal.{Refusal}
@@ -11,7 +11,7 @@ use Rattle.far_sessions.specs.declared.view.Entry.{Entry}
 use Rattle.far_shared.specs.Fours.{AreAlike, LeftRefusal, all_rows, pending_in_all, spec_at}
 use Rattle.far_shared.specs.Stripes.{IsStripe}
 
--- an answer over all rows that four legal histories leave. Under number 0 it is the gauge's
+-- an answer over all rows that four legal histories leave. Under number 0 it is the answer of the gauge
 pub record IsAnswer (p : Planned) (a : ℕ) (answer : Answer) : Type 0 where
   pub zero : List Entry
   pub one : List Entry
@@ -23,7 +23,7 @@ pub record IsAnswer (p : Planned) (a : ℕ) (answer : Answer) : Type 0 where
   pub is : answer
       ≡ answer_over spec (all_rows (replay p zero) (replay p one) (replay p two) (replay p three))
 
--- the table is what some legal history leaves
+-- the table is the replay of some legal history
 pub record IsLeft (p : Planned) (table : Table) : Type 0 where
   pub log : List Entry
   pub legal : IsLegal p log
@@ -35,8 +35,8 @@ AskRefusal a zero one two three given = ((given ≡ refusal.NoAggregate)
     × ¬ (AreAlike a zero one two three))
     ⊎ (AreAlike a zero one two three × LeftRefusal (pending_in_all a zero one two three) given)
 
--- the answer of four tables that legal histories leave, under a number: all of them have the same aggregate there with nothing
--- pending. The answer is over the rows of the four, one table after the other. Or it is refused as for these four
+-- the joint answer of four tables that legal histories leave, under a number: all of them have the same aggregate there with nothing
+-- pending, and the answer is over the rows of the four, one table after another. Or it is refused as for these four
 pub record IsAsked (p : Planned) (a : ℕ) (result : Result Answer Refusal) : Type 0 where
   pub zero : Table
   pub one : Table

@@ -1,4 +1,4 @@
--- What a shared table ends with.
+-- The tables of a closed shared table.
 use Rattle.std.specs.Prelude.{ℕ, List}
 use Rattle.far_types.specs.Table.{Table}
 use Rattle.far_sessions.specs.Histories.{Planned, IsLegal}
@@ -7,7 +7,7 @@ use Rattle.far_sessions.specs.Closing.{IsSettled}
 use Rattle.far_sessions.specs.Known.{Known}
 use Rattle.far_shared.specs.Stripes.{IsStripe}
 
--- the table of stripe k is what a legal history leaves, whose entries are just those that these sessions know as their own there
+-- the table of stripe k is the replay of a legal history, whose entries are exactly those that these sessions know as their own there
 pub record IsClosed (p : Planned) (k : ℕ) (sessions : List Known) (table : Table) : Type 0 where
   pub log : List Entry
   pub legal : IsLegal p log

@@ -1,4 +1,4 @@
--- What a shared table begins with.
+-- The beginning of a shared table.
 use Rattle.std.specs.Prelude.{◌≡◌, ℕ, List, []}
 use Rattle.atomic_table.specs.Seated.{TableId}
 use Rattle.far_rows.specs.Jobs.{AreAt}
@@ -6,7 +6,7 @@ use Rattle.far_frame.specs.State.{State}
 use Rattle.far_sessions.specs.Histories.{Planned}
 use Rattle.far_shared.specs.Stripes.{AreRowsOf, IsStripe}
 
--- the cells of the four stripes
+-- the ids of the cells of the four stripes
 pub record CellIds : Type 0 where
   pub zeroth : TableId
   pub first : TableId
@@ -20,7 +20,7 @@ HaveNames ids names = (ids.zeroth ≡ names 0)
     × (ids.second ≡ names 2)
     × (ids.third ≡ names 3)
 
--- the table of an empty history, with its gauge, as stripe n. It has no tickets, so they are all of any store
+-- stripe n as it is opened: an empty table with its gauge. It has no tickets, so they are of any store
 pub record IsEmpty {K : Type 0} (is_of : K → List ℕ → Type 0) (p : Planned) (n : ℕ)
     (s : State K) : Type 0 where
   pub stripe : IsStripe p [] s.table

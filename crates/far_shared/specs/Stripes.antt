@@ -1,4 +1,4 @@
--- What lies under the lock of a stripe.
+-- The state under the lock of a stripe.
 use Rattle.std.specs.Prelude.{◌≡◌, ℕ, ◌≤◌, ◌^◌, List, [], length, Some}
 use Rattle.far_types.specs.declared.cell.Kind.{Kind}
 use Rattle.far_types.specs.declared.spec.Spec.{Spec}
@@ -11,12 +11,12 @@ use Rattle.far_sessions.specs.declared.view.Entry.{Entry}
 use Rattle.far_shared.specs.Fours.{pending_in}
 use Rattle.far_shared.specs.Plans.{IsPlan}
 
--- what contracts see of a stripe: its history, and its table with its objects and aggregates
+-- the history of a stripe, and its table with its objects and aggregates
 pub record StripeState (K : Type 0) : Type 0 where
   pub log : List Entry
   pub state : State K
 
--- an aggregate that was registered first of all, before there was a row: nothing was ever still pending in it
+-- an aggregate that was registered before all others, in an empty table: no row group was ever pending in it
 abbrev pub first_registered : Spec → Registered
 first_registered spec = record { spec = spec; registration = 0; pending = [] }
 
@@ -26,14 +26,14 @@ pub record AreRowsOf {K : Type 0} (schema : List Kind) (n : ℕ) (r : Rows K) : 
   pub numbers : r.number_objects.number ≡ n
   pub texts : r.text_objects.number ≡ n
 
--- a call keeps the indexes of the columns and the number
+-- a call keeps the indexes of the columns, and the number
 pub record KeepsColumns {K : Type 0} (old new : Rows K) : Type 0 where
   pub column_indexes : new.column_indexes ≡ old.column_indexes
   pub numbers : new.number_objects.number ≡ old.number_objects.number
   pub texts : new.text_objects.number ≡ old.text_objects.number
 
--- the table is the replay of the history, and its aggregate 0 is the gauge of the plan, with nothing pending. Others may be
--- registered too. In none of them are more row groups pending than a table may have places
+-- the table is the replay of the history, and its aggregate 0 is the gauge of the plan, with nothing pending. Other aggregates may be
+-- registered, each with at most as many pending row groups as a table may have places
 pub record IsStripe (p : Planned) (log : List Entry) (table : Table) : Type 0 where
   pub plan : IsPlan p
   pub schema : table.schema ≡ p.schema

@@ -1,5 +1,5 @@
--- What a call that takes a stripe's lock does under it. A clause cannot name the state that was under the lock. So it says that there are
--- states as the lock allows them, over which the call made its step.
+-- The effect of a call that takes a stripe's lock. A clause cannot name the state under the lock, so it says that the lock allows
+-- states between which the call made its step.
 use Rattle.std.specs.Prelude.{◌≡◌, ◌⊎◌, ℕ, Bool, true, false, List, Option, None, Some}
 use Rattle.far_types.specs.declared.name.Name.{Name}
 use Rattle.far_types.specs.declared.refusal.Refusal.{Refusal}
@@ -20,7 +20,7 @@ use Rattle.far_shared.specs.declared.work.Building.TheVariants as building
 use Rattle.far_shared.specs.declared.work.Work.{Work}
 use Rattle.far_shared.specs.declared.work.Work.TheVariants as work
 
--- a state that the lock of stripe n allows: what a legal history leaves, in objects of this stripe and of the store with this id
+-- a state that the lock of stripe n allows: the replay of a legal history, in objects of this stripe and of the store with this id
 pub record IsUnder {K : Type 0} (p : Planned) (is_of : K → List ℕ → Type 0) (id : List ℕ) (n : ℕ)
     (h : StripeState K) : Type 0 where
   pub legal : IsLegal p h.log
@@ -43,13 +43,13 @@ module _ {K : Type 0} where
   BeginsOffload s job = BeginsBuild s (building.Offload job)
 
 module _ {K : Type 0} (allows : StripeState K → Type 0) where
-  -- a state under the lock has this
+  -- some state under the lock has this property
   pub record Found (has : State K → Type 0) : Type 0 where
     pub at : StripeState K
     pub allowed : allows at
     pub found : has at.state
 
-  -- a state under the lock becomes another one by this step. The history stays
+  -- some state under the lock becomes another one by this change, and the history is unchanged
   pub record Changed (changes : State K → State K → Type 0) : Type 0 where
     pub old : StripeState K
     pub new : StripeState K
@@ -61,7 +61,7 @@ module _ {K : Type 0} (allows : StripeState K → Type 0) where
   abbrev pub Begins : Work → Option (JobRecord K) → Type 0
   Begins begun job = Found (λ s. BeginsWork s begun job)
 
-  -- why it does not begin
+  -- why a work does not begin
   abbrev pub BeginFails : Work → Refusal → Type 0
   BeginFails begun given = Found (λ s. BeginRefusal s begun given)
 
@@ -99,39 +99,39 @@ module _ {K : Type 0} (number_of : K → ℕ) (content : K → List ℕ)
   CompleteFails job given = CarryRefusal job given ⊎ IsRejected job given
 
   module _ (begins : State K → JobRecord K → Type 0) where
-    -- a job begins like this and is completed
+    -- a job that begins in this way is completed
     pub record IsDone : Type 0 where
       pub job : JobRecord K
       pub begun : Found allows (λ s. begins s job)
       pub ended : Completes job
 
-    -- a job begins like this and is not completed
+    -- a job that begins in this way is not completed
     pub record IsUndone (given : Refusal) : Type 0 where
       pub job : JobRecord K
       pub begun : Found allows (λ s. begins s job)
       pub why : CompleteFails job given
 
-  -- the coldest object was local and has gone; or there was none that may go
+  -- the coldest object was local and is evicted, or there was none that may be evicted
   abbrev pub Evacuates : Option Name → Type 0
   Evacuates None = Found allows (λ s. coldest s.rows ≡ None)
   Evacuates (Some name) = IsDone (BeginsEvac name)
 
-  -- why the coldest object does not go
+  -- why the coldest object is not evicted
   abbrev pub EvacuationFails : Refusal → Type 0
   EvacuationFails given = (given ≡ refusal.NoMemory)
       ⊎ ((name : Name) × IsUndone (BeginsEvac name) given)
 
-  -- the object of this name was away and is back
+  -- the object with this name was away and is fetched
   abbrev pub Fetches : Name → Type 0
   Fetches name = IsDone (BeginsFetch name)
 
-  -- why it does not come back
+  -- why the object with this name is not fetched
   abbrev pub FetchFails : Name → Refusal → Type 0
   FetchFails name given =
       Found allows (λ s. fetch_refusal s.rows name.column name.group ≡ Some given)
       ⊎ IsUndone (BeginsFetch name) given
 
-  -- a pending row group, of which all that its aggregate needs was local, is scanned
+  -- a pending row group whose needed columns are local is scanned
   pub record Scans : Type 0 where
     pub aggregate : ℕ
     pub group : ℕ
@@ -139,33 +139,33 @@ module _ {K : Type 0} (number_of : K → ℕ) (content : K → List ℕ)
     pub ended : Changed allows
         (λ old new. Accepts content old (step.ScanGroup aggregate group) reply.Done new)
 
-  -- such a row group is not scanned
+  -- a pending row group whose needed columns are local is not scanned
   pub record ScanFails (given : Refusal) : Type 0 where
     pub aggregate : ℕ
     pub group : ℕ
     pub begun : Found allows (λ s. BeginsBuild s (building.Scan aggregate group))
     pub why : Found allows (λ s. WhyRefused s (step.ScanGroup aggregate group) given)
 
-  -- a pending row group was built into its aggregate; or none was pending
+  -- a pending row group was built into its aggregate, or none was pending
   abbrev pub Builds : Bool → Type 0
   Builds false = Found allows IsAllScanned
   Builds true = Scans ⊎ IsDone BeginsOffload
 
-  -- why none is built
+  -- why no pending row group is built
   abbrev pub BuildFails : Refusal → Type 0
   BuildFails given = Found allows (λ s. BuildRefusal s given)
       ⊎ (ScanFails given ⊎ IsUndone BeginsOffload given)
 
 module _ {K : Type 0} (number_of : K → ℕ) (content : K → List ℕ)
     (allows : ℕ → StripeState K → Type 0) where
-  -- a work is done on the stripe that it names
+  -- a work is done on its stripe
   abbrev pub Serves : Work → Type 0
   Serves (work.Evacuate stripe) = (gone : Option Name)
       × Evacuates number_of content (allows stripe) gone
   Serves (work.Fetch stripe name) = Fetches number_of content (allows stripe) name
   Serves (work.Build stripe) = (built : Bool) × Builds number_of content (allows stripe) built
 
-  -- why it is not done
+  -- why a work is not done
   abbrev pub ServeFails : Work → Refusal → Type 0
   ServeFails (work.Evacuate stripe) given =
       EvacuationFails number_of content (allows stripe) given

@@ -1,4 +1,4 @@
--- Work in the background: how it begins and ends, and what it keeps.
+-- Work in the background: how it begins and ends, and what it leaves unchanged.
 use Rattle.std.specs.Prelude.{◌≡◌, ◌+◌, ◌<◌, ◌≤◌, ℕ, true, false, List, [], ◌∷◌, length, Option, None, Some, is_none, IsSome, IsSomeAnd, IfSome, Result, IsErrOf}
 use Rattle.far_types.specs.declared.refusal.Refusal.{Refusal}
 use Rattle.far_types.specs.declared.refusal.Refusal.TheVariants as refusal
@@ -27,54 +27,54 @@ stripe_of (work.Evacuate stripe) = stripe
 stripe_of (work.Fetch stripe name) = stripe
 stripe_of (work.Build stripe) = stripe
 
--- how many columns the schema must have for what a work names
+-- the number of columns that the schema must have for the object that a work names
 abbrev pub columns_for : Work → ℕ
 columns_for (work.Fetch stripe name) = name.column + 1
 columns_for _ = 0
 
--- the numbers of the refusals that a work may begin with, whose columns are there
+-- the codes with which a work may be refused when it begins, if its column exists
 abbrev pub begin_refusals : Work → List ℕ
 begin_refusals (work.Evacuate stripe) = 1 ∷ []
 begin_refusals (work.Fetch stripe name) = 14 ∷ 20 ∷ []
 begin_refusals (work.Build stripe) = 14 ∷ 20 ∷ 1 ∷ []
 
--- the numbers of those that a job may end with
+-- the codes with which a job may be refused when it ends
 abbrev pub end_refusals : JobKind → List ℕ
 end_refusals kind.Evac = 20 ∷ 19 ∷ []
 end_refusals kind.Fetch = 20 ∷ 17 ∷ 1 ∷ []
 end_refusals kind.Offload = 12 ∷ 20 ∷ 1 ∷ []
 
--- the numbers of those that a job may be refused with from its beginning to its end
+-- the codes with which a job may be refused from its beginning to its end
 abbrev pub job_refusals : JobKind → List ℕ
 job_refusals kind.Evac = 21 ∷ 22 ∷ 20 ∷ 19 ∷ 1 ∷ []
 job_refusals kind.Fetch = 21 ∷ 20 ∷ 17 ∷ 1 ∷ []
 job_refusals kind.Offload = 21 ∷ 12 ∷ 20 ∷ 1 ∷ []
 
--- the numbers of those that a work may be refused with as a whole
+-- the codes with which a work may be refused
 abbrev pub work_refusals : Work → List ℕ
 work_refusals (work.Evacuate stripe) = 21 ∷ 22 ∷ 20 ∷ 19 ∷ 1 ∷ []
 work_refusals (work.Fetch stripe name) = 14 ∷ 20 ∷ 21 ∷ 17 ∷ 1 ∷ []
 work_refusals (work.Build stripe) = 14 ∷ 12 ∷ 20 ∷ 16 ∷ 21 ∷ 1 ∷ []
 
--- how many works a report is of
+-- the number of works in a report
 abbrev pub works_in : Report → ℕ
 works_in report = report.done + report.refused
 
--- there are four stripes: of an unknown one a call is refused with 14, and of the others by these numbers
+-- a call on a stripe: an unknown stripe is refused with 14, and the call on a known one only with these codes
 pub record RefusedAt {A : Type 0} (stripe : ℕ) (numbers : List ℕ)
     (result : Result A Refusal) : Type 0 where
   pub unknown : 4 ≤ stripe → IsErrOf result refusal.OutOfRange
   pub known : stripe < 4 → RefusedBy numbers result
 
--- a call needs a schema of this many columns: if this one has fewer, it is refused with 4, and otherwise as at its stripe
+-- a call that needs a schema of `wanted` columns: if there are fewer, it is refused with 4, and otherwise as at its stripe
 pub record RefusedFor {A : Type 0} (columns wanted stripe : ℕ) (numbers : List ℕ)
     (result : Result A Refusal) : Type 0 where
   pub column : columns < wanted → IsErrOf result refusal.NoColumn
   pub unknown : wanted ≤ columns → 4 ≤ stripe → IsErrOf result refusal.OutOfRange
   pub known : wanted ≤ columns → stripe < 4 → RefusedBy numbers result
 
--- the rows of a table are as before, with its schema, its limits, its edits and how many aggregates it has space for. So is
--- each aggregate of which nothing is pending. Of no aggregate is more pending than before
+-- the rows, the schema, the limits, the count of edits and the space for aggregates are as before. So is each aggregate with nothing
+-- pending. No aggregate has more pending row groups than before
 pub record KeepsRows (old new : Table) : Type 0 where
   pub schema : new.schema ≡ old.schema
   pub limits : new.limits ≡ old.limits
@@ -133,29 +133,29 @@ module _ {K : Type 0} (number_of : K → ℕ) (content : K → List ℕ) (old : 
   EndsWork kind.Fetch done new = Installs number_of old content done new
   EndsWork kind.Offload done new = Merges number_of old done new
 
-  -- or it is refused there
+  -- a job of this kind is refused at its end
   abbrev pub EndRefusal : JobKind → WorkOf K → Refusal → Type 0
   EndRefusal kind.Evac done given = CommitRefusal number_of old done given
   EndRefusal kind.Fetch done given = InstallRefusal number_of old content done given
   EndRefusal kind.Offload done given = MergeRefusal number_of old done given
 
 module _ {K : Type 0} (is_of : K → List ℕ → Type 0) (id : List ℕ) where
-  -- what a build holds is of the store with this id
+  -- the tickets in a build are of the store with this id
   abbrev pub IsBuildingAt : Building (JobRecord K) → Type 0
   IsBuildingAt building.Nothing = Unit {0}
   IsBuildingAt (building.Scan a g) = Unit {0}
   IsBuildingAt (building.Offload job) = IsJobAt is_of id job
 
 module _ {K : Type 0} where
-  -- what a job does that was begun; none if it was carried
+  -- the kind of a job that is begun and not yet carried
   abbrev pub begun_kind : WorkOf K → Option JobKind
   begun_kind (work_of.Evac evac) = Some kind.Evac
   begun_kind (work_of.Fetch fetch) = Some kind.Fetch
   begun_kind (work_of.Offload build) = Some kind.Offload
   begun_kind _ = None
 
-  -- a job is begun for a work, described without its table. There may be nothing to send away or to build. An evacuation names
-  -- its object
+  -- a job that a work begins, described without its table. There may be nothing to evict or to build. An evacuation names its
+  -- object
   abbrev pub IsJobOf : Work → Option (JobRecord K) → Type 0
   IsJobOf (work.Evacuate stripe) job = IfSome job
       (λ begun. (begun_kind begun.work ≡ Some kind.Evac) × IsSome begun.name)
@@ -163,7 +163,7 @@ module _ {K : Type 0} where
       (λ begun. (begun_kind begun.work ≡ Some kind.Fetch) × (begun.name ≡ Some name))
   IsJobOf (work.Build stripe) job = IfSome job (λ begun. begun_kind begun.work ≡ Some kind.Offload)
 
-  -- a build by a job has an offloaded build that was begun
+  -- a build by a job is an offloaded build that is not yet carried
   abbrev pub IsBuildOf : Building (JobRecord K) → Type 0
   IsBuildOf building.Nothing = Unit {0}
   IsBuildOf (building.Scan a g) = Unit {0}

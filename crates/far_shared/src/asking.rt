@@ -1,4 +1,4 @@
-// What the four stripes are asked together, and how one is read.
+// Asks the four stripes together, and reads one of them.
 ghost use Rattle.std.specs.Prelude.{◌≡◌, ◌<◌, ◌≤◌, IfOk, IfErr};
 ghost use Rattle.far_frame.specs.State.{live};
 ghost use Rattle.far_shared.specs.Asking.{IsAnswer, IsAsked, IsLeft};
@@ -14,7 +14,7 @@ use far_types::{Answer, Refusal};
 use std::alloc::Global;
 use std::sync::{RwLockReadGuard, Wait};
 
-/// A stripe under its read lock. While it is held, no edit is made there and no object moves.
+/// A stripe under its read lock. While the guard is held, no edit is made in the stripe, and no object moves.
 #[derive(Drop)]
 pub enum StripeGuard<'a, N: PlanTag, B: TableTag, S: FarTickets> {
     /// Stripe 0.
@@ -28,7 +28,7 @@ pub enum StripeGuard<'a, N: PlanTag, B: TableTag, S: FarTickets> {
 }
 
 impl<N: PlanTag, B: TableTag, S: FarTickets, const I: usize> Stripe<N, B, S, I> {
-    /// Returns a view of the rows. They are what a legal history leaves.
+    /// Returns a view of the rows, which are the replay of a legal history.
     fn view(&self) -> View<'_, S>
         ensures same { result ≡ live self.now.state }
         ensures left { IsLeft N.plan result.table }
@@ -39,7 +39,7 @@ impl<N: PlanTag, B: TableTag, S: FarTickets, const I: usize> Stripe<N, B, S, I> 
 }
 
 impl<'a, N: PlanTag, B: TableTag, S: FarTickets> StripeGuard<'a, N, B, S> {
-    /// Returns a view of the rows of the stripe. They are what a legal history leaves, and the same in each view of a guard.
+    /// Returns a view of the rows of the stripe, which are the replay of a legal history. Each view of a guard has the same rows.
     pub fn view(&self) -> View<'_, S>
         ensures same { result ≡ live (stripe_under self.now).state }
         ensures left { IsLeft N.plan result.table }
@@ -90,16 +90,16 @@ impl<N: PlanTag, B: TableTag, S: FarTickets> Shared<N, B, S> {
     }
 
     /// Returns the answer of an aggregate that the four stripes have under one number, over the rows of the four, one stripe
-    /// after the other. Holds all four read locks.
+    /// after another. Holds all four read locks.
     ///
     /// Refused as `answer_four` is, over the four tables as they are under their locks, with the first of these that applies:
     ///
-    /// - `NoAggregate` (12): one of them lacks the aggregate, or it is not the same in all. That is always so for a number from
+    /// - `NoAggregate` (12): one of them lacks the aggregate, or it is not the same in all. This is always so for a number from
     ///   32 on.
     /// - `Building` (15): row groups are pending. It says how many.
     /// - `NoMemory` (1): an allocation fails.
     ///
-    /// The gauge, whose number is 0, is refused with `NoMemory` alone.
+    /// The gauge, whose number is 0, is refused only with `NoMemory` (1).
     pub fn ask_all<R: Wait>(&self, rt: &R, a: u32) -> Result<Answer, Refusal>
         ensures answer { IfOk result (IsAnswer N.plan a) }
         ensures asked { IsAsked N.plan a result }

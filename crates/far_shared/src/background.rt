@@ -51,7 +51,7 @@ fn serve<N: PlanTag, B: TableTag, S: FarStore, R: Wait>(
     }
 }
 
-// Does some works, one after the other.
+// Does several works, one after another.
 fn serve_all<N: PlanTag, B: TableTag, S: FarStore, R: Wait>(
     rt: &R,
     shared: &Shared<N, B, S>,
@@ -74,7 +74,7 @@ fn serve_all<N: PlanTag, B: TableTag, S: FarStore, R: Wait>(
     report
 }
 
-// Returns how many works a thread gets if at most `workers` threads do them all.
+// Returns the number of works for each thread, if at most `workers` threads do them all.
 fn chunk_for(count: usize, workers: u32) -> usize
     requires { 0 < workers }
     ensures some { 0 < result }
@@ -99,7 +99,7 @@ fn sum_of(reports: &[Report]) -> Report
     sum
 }
 
-// Does works on at most `workers` threads, each of which gets consecutive ones. Returns the report of each.
+// Does works on at most `workers` threads, each of which gets consecutive ones. Returns the report of each thread.
 fn serve_chunks<
     N: PlanTag + Send + Sync,
     B: TableTag + Send + Sync,
@@ -128,7 +128,7 @@ fn serve_chunks<
 
 /// Threads that do work in the background.
 ///
-/// Several threads do a list of works. No lock is held while one waits for the store:
+/// Several threads do a list of works. No lock is held while a thread waits for the store:
 ///
 /// ```
 /// pub fn run<

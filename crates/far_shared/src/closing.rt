@@ -1,4 +1,4 @@
-// How a shared table ends.
+// Closes a shared table.
 ghost use Rattle.std.specs.Prelude.{◌≡◌, IfOk, IfErr, OnOk};
 ghost use Rattle.far_rows.specs.Jobs.{AreAt};
 ghost use Rattle.far_sessions.specs.Histories.{IsLegal};
@@ -16,7 +16,7 @@ use far_store::FarTickets;
 use far_types::Refusal;
 use std::sync::{RwLock, Wait};
 
-/// Ends these sessions. Each history is legal, and has just their own entries.
+/// Ends these sessions. Each history is legal, and has exactly their entries.
 fn end<N: PlanTag, B: TableTag, R: Wait>(
     rt: &R,
     cells: Cells<N, B>,
@@ -44,7 +44,7 @@ fn end<N: PlanTag, B: TableTag, R: Wait>(
 }
 
 impl<N: PlanTag, B: TableTag, S: FarTickets, const I: usize> Stripe<N, B, S, I> {
-    /// Returns the table as it is, and what keeps its history.
+    /// Returns the table, unchanged, and the owner of its history.
     fn into_parts(self) -> (Frame<S>, Keeper<N, B, I>)
         ensures table { result.0 ≡ self.state }
         ensures history { result.1 ≡ self.log }
@@ -56,7 +56,7 @@ impl<N: PlanTag, B: TableTag, S: FarTickets, const I: usize> Stripe<N, B, S, I> 
     }
 }
 
-/// Ends these sessions, and returns the tables of the four stripes. Each is as it was, with its objects and its aggregates.
+/// Ends these sessions, and returns the tables of the four stripes. Each is unchanged, with its objects and its aggregates.
 fn end_stripes<N: PlanTag, B: TableTag, S: FarTickets, R: Wait>(
     rt: &R,
     cells: Cells<N, B>,
@@ -98,7 +98,7 @@ fn end_stripes<N: PlanTag, B: TableTag, S: FarTickets, R: Wait>(
     }
 }
 
-/// Returns what lay under a stripe's lock.
+/// Returns the value under a stripe's lock.
 fn unlocked<N: PlanTag, B: TableTag, S: FarTickets, const I: usize>(
     lock: CachePadded<RwLock<Stripe<N, B, S, I>>>,
 ) -> Stripe<N, B, S, I> {
@@ -138,7 +138,7 @@ impl<N: PlanTag, B: TableTag, S: FarTickets> Shared<N, B, S> {
     }
 }
 
-/// Ends all sessions, and returns the four tables. The entries of each table's history are just those that its sessions
+/// Ends all sessions, and returns the four tables. The entries of each table's history are exactly those that its sessions
 /// know as their own.
 ///
 /// Refused with `OutOfRange` (14) exactly if a session is missing. The shared table and the sessions are then returned.

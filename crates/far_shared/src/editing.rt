@@ -15,7 +15,7 @@ use far_sessions::{PlanTag, Reading};
 use far_store::FarTickets;
 use far_types::{Edit, Refusal};
 
-/// What an accepted edit leaves: the place of the row that it appended, or the one that it names, and what the gauge reads
+/// The result of an accepted edit: the place of the row that it appended, or the place that it names, and the gauge's reading
 /// afterwards.
 #[derive(Drop)]
 pub(crate) struct EditOutcome {
@@ -23,7 +23,7 @@ pub(crate) struct EditOutcome {
     pub(crate) after: Reading,
 }
 
-/// Makes an edit. Returns the place of the row that it appends, or the one that it names.
+/// Makes an edit. Returns the place of the row that it appends, or the place that it names.
 fn make<S: FarTickets>(frame: &mut Frame<S>, edit: Edit) -> Result<u32, Refusal>
     requires column_indexes { length frame.old.rows.column_indexes ≡ length frame.old.table.schema }
     ensures may { OnOk result (edit_refusal frame.old.table edit ≡ None) }
@@ -54,7 +54,7 @@ fn make<S: FarTickets>(frame: &mut Frame<S>, edit: Edit) -> Result<u32, Refusal>
     }
 }
 
-/// Returns what the gauge of a table reads after `edits` edits.
+/// Returns the gauge's reading of a table after `edits` edits.
 fn gauged<N: PlanTag, S: FarTickets>(frame: &Frame<S>, edits: u64) -> Reading
     requires plan { IsPlan N.plan }
     requires gauge { aggregate_at frame.now.table 0 ≡ Some (first_registered N.plan.gauge) }

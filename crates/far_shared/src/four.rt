@@ -31,7 +31,7 @@ fn have_same_kinds(one: &Schema, other: &Schema) -> bool
     true
 }
 
-/// Returns whether two tables have one schema, and the same aggregate under a number.
+/// Returns whether two tables have the same schema, and the same aggregate under a number.
 fn are_like<S: FarTickets>(one: &Frame<S>, other: &Frame<S>, a: u32) -> bool
     ensures { IsTrue result ↔ AreLike a one.now.table other.now.table }
 {
@@ -44,7 +44,7 @@ fn are_like<S: FarTickets>(one: &Frame<S>, other: &Frame<S>, a: u32) -> bool
     spec.is_same(same) && have_same_kinds(one.schema(), other.schema())
 }
 
-/// Returns whether four tables have one schema, and the same aggregate under a number.
+/// Returns whether four tables have the same schema, and the same aggregate under a number.
 fn are_alike<S: FarTickets>(
     one: &Frame<S>,
     two: &Frame<S>,
@@ -58,7 +58,7 @@ fn are_alike<S: FarTickets>(
     are_like(one, two, a) && are_like(one, three, a) && are_like(one, four, a)
 }
 
-/// Returns how many row groups are still pending in an aggregate of a number, and its answer; `None` if it cannot answer.
+/// Returns the number of row groups that are pending in an aggregate, and its answer; `None` if it cannot answer.
 fn asked<S: FarTickets>(frame: &Frame<S>, spec: &Spec, a: u32) -> (u32, Option<Answer>)
     requires { spec_at frame.now.table a ≡ Some spec.now }
     ensures left { result.0 ≡ pending_in (aggregate_at frame.now.table a) }
@@ -66,7 +66,7 @@ fn asked<S: FarTickets>(frame: &Frame<S>, spec: &Spec, a: u32) -> (u32, Option<A
         (λ answer. answer ≡ answer_over spec.now (rows_of frame.now.table.places)) }
     ensures kind { IfSome result.1 (IsOf spec.now.fold) }
 {
-    // For the proof: what the answer is of.
+    // For the proof: names the specification that the answer is of.
     let _spec = spec;
     match frame.ask(a) {
         Ok(answer) => (0, Some(answer)),
@@ -75,7 +75,7 @@ fn asked<S: FarTickets>(frame: &Frame<S>, spec: &Spec, a: u32) -> (u32, Option<A
     }
 }
 
-/// Returns the sum of four numbers; `None` if it is no number of 32 bits. Allocates nothing.
+/// Returns the sum of four numbers, or `None` if it does not fit 32 bits. Allocates nothing.
 fn sum_of(one: u32, two: u32, three: u32, four: u32) -> Option<u32>
     ensures fits { IfSome result (λ n. n ≡ one + two + three + four) }
     ensures past { IfNone result (2 ^ 32 ≤ one + two + three + four) }
@@ -87,10 +87,10 @@ fn sum_of(one: u32, two: u32, three: u32, four: u32) -> Option<u32>
     Some(sum as u32)
 }
 
-/// Refused if any of these row groups is left:
+/// Refused if any of these row groups is pending:
 ///
-/// - with `Building` (15), if their sum is a number of 32 bits. It says how many.
-/// - with `NoMemory` (1), if it is not.
+/// - with `Building` (15), if their sum fits 32 bits. The refusal has the sum.
+/// - with `NoMemory` (1), if it does not.
 fn none_left(one: u32, two: u32, three: u32, four: u32) -> Result<(), Refusal>
     ensures ok { OnOk result (one + two + three + four ≡ 0) }
     ensures refused { IfErr result (AnyRefusal (one + two + three + four)) }
@@ -104,10 +104,10 @@ fn none_left(one: u32, two: u32, three: u32, four: u32) -> Result<(), Refusal>
     Ok(())
 }
 
-/// Returns all four if their row groups are scanned. Refused as the scan was; otherwise with `NoMemory` (1) if one is missing.
+/// Returns all four answers if all row groups are scanned. Refused as the scan was, otherwise with `NoMemory` (1) if one is missing.
 ///
-/// It takes values of any type. For the proof: answers that live where a function may return are long to prove, and here they
-/// cost nothing.
+/// Takes values of any type. For the proof: a function that returns early while answers are alive is long to prove, and here the
+/// type of the answers does not matter.
 fn all_scanned<T: Drop>(
     scanned: Result<(), Refusal>,
     zero: Option<T>,
@@ -159,7 +159,7 @@ fn extrema_lines(answer: Answer) -> ExtremaLines
     }
 }
 
-/// Merges the answers over four parts of the rows into the answer over all of them. Refused with `NoMemory` (1) alone.
+/// Merges the answers over four parts of the rows into the answer over all of them. Refused only with `NoMemory` (1).
 fn merge(
     alloc: Global,
     spec: &Spec,
@@ -204,7 +204,7 @@ fn merge(
 ///
 /// Refused with the first of these that applies:
 ///
-/// - `Building` (15): row groups are pending, and their number is one of 32 bits. It says how many.
+/// - `Building` (15): row groups are pending, and their number fits 32 bits. The refusal has their number.
 /// - `NoMemory` (1): an allocation fails.
 fn answer_alike<S: FarTickets>(
     alloc: Global,
@@ -237,8 +237,8 @@ fn answer_alike<S: FarTickets>(
     }
 }
 
-/// Returns the answer of an aggregate that four tables have under one number, over the rows of the four, one table after the
-/// other.
+/// Returns the answer of an aggregate that four tables have under one number, over the rows of the four, one table after
+/// another.
 ///
 /// Refused with the first of these that applies:
 ///

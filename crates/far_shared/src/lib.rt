@@ -1,5 +1,5 @@
 #![tactic(auto)]
-//! Tables that threads share: four of them, each under a lock with what keeps its history, and a cell for each. Besides edits
+//! Tables that threads share: four of them, each under a lock with the owner of its history, and a cell for each. Besides edits
 //! and questions, they serve work in the background under their locks.
 
 pub mod asking;

@@ -105,9 +105,9 @@ fn scan_under<N: PlanTag, B: TableTag, S: FarTickets, const I: usize, R: Wait>(
     scanned
 }
 
-/// Returns why a job came back, and drops the job.
+/// Returns why a job was returned, and drops the job.
 ///
-/// It takes a job of any type. For the proof: a function that drops a job itself is long to prove, and here it costs nothing.
+/// Takes a job of any type. For the proof: a function that drops a job itself is long to prove, and here the type does not matter.
 fn refusal_of<J: Drop>(back: (Refusal, J)) -> Refusal
     ensures { result ≡ back.0 }
 {
@@ -146,7 +146,7 @@ fn complete_under<N: PlanTag, B: TableTag, S: FarStore, const I: usize, R: Wait>
     }
 }
 
-/// Sends the coldest object of a stripe away, and returns which; `None` if there is none that may go.
+/// Evicts the coldest object of a stripe, and returns its name; `None` if there is none that can be evicted.
 pub(crate) fn evacuate_under<N: PlanTag, B: TableTag, S: FarStore, const I: usize, R: Wait>(
     rt: &R,
     alloc: Global,
@@ -173,7 +173,7 @@ pub(crate) fn evacuate_under<N: PlanTag, B: TableTag, S: FarStore, const I: usiz
     Ok(name)
 }
 
-/// Brings an object of a stripe back.
+/// Fetches an object of a stripe.
 pub(crate) fn fetch_under<N: PlanTag, B: TableTag, S: FarStore, const I: usize, R: Wait>(
     rt: &R,
     alloc: Global,
@@ -200,7 +200,7 @@ pub(crate) fn fetch_under<N: PlanTag, B: TableTag, S: FarStore, const I: usize, 
     complete_under(rt, alloc, lock, stripe, store, meter, job)
 }
 
-/// Builds a pending row group of a stripe into its aggregate; false if none is pending.
+/// Builds a pending row group of a stripe into its aggregate. Returns false if none is pending.
 pub(crate) fn build_under<N: PlanTag, B: TableTag, S: FarStore, const I: usize, R: Wait>(
     rt: &R,
     alloc: Global,

@@ -36,7 +36,7 @@ fn with_more(before: Option<CountSum>, more: CountSum) -> Result<CountSum, Refus
     Ok(CountSum { count, sum })
 }
 
-/// Adds a count and a sum to a key. Refused with `NoMemory` (1) alone.
+/// Adds a count and a sum to a key. Refused only with `NoMemory` (1).
 fn add(count_sums: &mut CountSums, key: Option<Key>, more: CountSum) -> Result<(), Refusal>
     ensures ok { OnOk result (totals_of count_sums.new.entries
         ≡ fin.insert (totals_of count_sums.old.entries) key
@@ -49,7 +49,7 @@ fn add(count_sums: &mut CountSums, key: Option<Key>, more: CountSum) -> Result<(
     Ok(())
 }
 
-/// Adds the rows of one answer. Refused with `NoMemory` (1) alone.
+/// Adds the rows of one answer. Refused only with `NoMemory` (1).
 fn add_totals(count_sums: &mut CountSums, lines: TotalLines) -> Result<(), Refusal>
     ensures ok { OnOk result ((key : Option ℕ) → (some : List Pair) → (others : List Pair)
         → totals_of count_sums.old.entries ≡ totals some
@@ -66,7 +66,7 @@ fn add_totals(count_sums: &mut CountSums, lines: TotalLines) -> Result<(), Refus
     Ok(())
 }
 
-/// Returns the lines of the counts and sums, by their keys. Refused with `NoMemory` (1) alone.
+/// Returns the lines of the counts and sums, by their keys. Refused only with `NoMemory` (1).
 fn lines_of(alloc: Global, count_sums: &CountSums) -> Result<TotalLines, Refusal>
     ensures ok { IfOk result (λ lines. lines
         ≡ map (λ (entry : Option Key × (ℕ × ℤ)). (entry.0, entry.1.0, entry.1.1))
@@ -81,7 +81,7 @@ fn lines_of(alloc: Global, count_sums: &CountSums) -> Result<TotalLines, Refusal
     Ok(TotalLines::new(lines))
 }
 
-/// Merges the totals of four parts of the rows into those of all rows. Refused with `NoMemory` (1) alone.
+/// Merges the totals of four parts of the rows into the totals of all rows. Refused only with `NoMemory` (1).
 pub(crate) fn merge_totals(
     alloc: Global,
     key: Option<u32>,
@@ -108,7 +108,7 @@ pub(crate) fn merge_totals(
     Ok(Answer::Totals(lines))
 }
 
-/// Joins a min-max to that under a key. Refused with `NoMemory` (1) alone.
+/// Joins a min-max to the min-max of a key. Refused only with `NoMemory` (1).
 fn observe(min_maxes: &mut GroupExtrema, key: Option<Key>, min_max: MinMax) -> Result<(), Refusal>
     ensures ok { OnOk result (min_maxes.new
         ≡ fin.insert min_maxes.old key
@@ -119,7 +119,7 @@ fn observe(min_maxes: &mut GroupExtrema, key: Option<Key>, min_max: MinMax) -> R
     min_maxes.observe_rows(key, min_max)
 }
 
-/// Takes in the rows of one answer. Refused with `NoMemory` (1) alone.
+/// Adds the rows of one answer. Refused only with `NoMemory` (1).
 fn add_extrema(min_maxes: &mut GroupExtrema, lines: ExtremaLines) -> Result<(), Refusal>
     ensures ok { OnOk result ((some : List Pair) → (others : List Pair)
         → min_maxes.old ≡ extrema some → lines ≡ extrema_lines (extrema others)
@@ -132,7 +132,7 @@ fn add_extrema(min_maxes: &mut GroupExtrema, lines: ExtremaLines) -> Result<(), 
     Ok(())
 }
 
-/// Merges the extrema of four parts of the rows into those of all rows. Refused with `NoMemory` (1) alone.
+/// Merges the extrema of four parts of the rows into the extrema of all rows. Refused only with `NoMemory` (1).
 pub(crate) fn merge_extrema(
     alloc: Global,
     one: ExtremaLines,

@@ -1,4 +1,4 @@
-// How a shared table begins.
+// Opens a shared table.
 ghost use Rattle.std.specs.Prelude.{◌≡◌, ◌⊎◌, ℕ, List, [], length, IfOk, IfErr, IsErr, IsErrOf, IsOk, IsOkAnd, OnErr, OnOk};
 ghost use Rattle.far_rows.specs.Jobs.{AreAt};
 ghost use Rattle.far_frame.specs.State.{empty_state};
@@ -17,23 +17,23 @@ use std::alloc::{AllocError, Global};
 use std::marker::{Model, PhantomData};
 use std::sync::RwLock;
 
-/// One of each of the four stripes.
+/// One value for each of the four stripes.
 #[derive(Drop)]
 pub struct Four<T> {
-    /// That of stripe 0.
+    /// The value of stripe 0.
     pub zero: T,
-    /// That of stripe 1.
+    /// The value of stripe 1.
     pub one: T,
-    /// That of stripe 2.
+    /// The value of stripe 2.
     pub two: T,
-    /// That of stripe 3.
+    /// The value of stripe 3.
     pub three: T,
 }
 
 /// Returns all four, or the first refusal.
 ///
-/// It takes values of any type. For the proof: taking a table out of a result costs the proof of a function minutes, and here
-/// it costs none.
+/// Takes values of any type. For the proof: a function that takes a table out of a result costs minutes to prove, and here it
+/// costs nothing.
 fn all_four<T: Drop>(
     zero: Result<T, Refusal>,
     one: Result<T, Refusal>,
@@ -62,9 +62,9 @@ struct Together<A, B> {
     other: B,
 }
 
-/// Returns both values. Refused as the first was; else with `NoMemory` (1) if the second found no memory.
+/// Returns both values. Refused as the first was, else with `NoMemory` (1) if the second ran out of memory.
 ///
-/// It takes values of any type, for the same reason as `all_four`.
+/// Takes values of any type, for the same reason as `all_four`.
 fn both<A: Drop, B: Drop>(
     one: Result<A, Refusal>,
     other: Result<B, AllocError>,
@@ -83,7 +83,7 @@ fn both<A: Drop, B: Drop>(
     }
 }
 
-/// Returns one value with another. Refused with `NoMemory` (1) exactly if the other found no memory.
+/// Returns one value with another. Refused with `NoMemory` (1) exactly if making the other ran out of memory.
 fn with_other<A: Drop, B: Drop>(one: A, other: Result<B, AllocError>) -> Result<(A, B), Refusal>
     ensures one { IfOk result (λ both. both.0 ≡ one) }
     ensures other { IfOk result (λ both. IsOkAnd other (λ y. y ≡ both.1)) }
@@ -98,7 +98,7 @@ fn with_other<A: Drop, B: Drop>(one: A, other: Result<B, AllocError>) -> Result<
 
 /// Returns the value if the work on it was done. Refused as the work was; the value is then dropped.
 ///
-/// It takes a value of any type, for the same reason as `all_four`.
+/// Takes a value of any type, for the same reason as `all_four`.
 fn once_done<T: Drop, U: Drop>(value: T, done: Result<U, Refusal>) -> Result<T, Refusal>
     ensures ok { IfOk result (λ kept. (kept ≡ value) × IsOk done) }
     ensures refused { IfErr result (IsErrOf done) }
@@ -139,7 +139,7 @@ impl<N: PlanTag, S: FarTickets> Model for Made<N, S> {
         × IsEmpty S.is_of N.plan 3 m.frames.three };
 }
 
-/// Registers the gauge of a plan in an empty table. Refused with `NoMemory` (1) alone.
+/// Registers the gauge of a plan in an empty table. Refused only with `NoMemory` (1).
 fn watch_gauge<S: FarTickets>(
     frame: &mut Frame<S>,
     plan: &Plan,
@@ -150,12 +150,12 @@ fn watch_gauge<S: FarTickets>(
     ensures ok { OnOk result (IsEmpty S.is_of plan.now number frame.new) }
     ensures memory { IfErr result (λ e. e ≡ Refusal.NoMemory) }
 {
-    // For the proof: which table it is.
+    // For the proof: names the table.
     let _number = number;
     frame.watch(plan.gauge.clone()?)
 }
 
-/// Opens an empty table of this number, whose aggregate 0 is the gauge. Refused with `NoMemory` (1) alone.
+/// Opens an empty table with this number, whose aggregate 0 is the gauge. Refused only with `NoMemory` (1).
 fn open_frame<S: FarTickets>(alloc: Global, plan: &Plan, number: u32) -> Result<Frame<S>, Refusal>
     ensures ok { IfOk result (IsEmpty S.is_of plan.now number) }
     ensures memory { IfErr result (λ e. e ≡ Refusal.NoMemory) }
@@ -169,7 +169,7 @@ fn open_frame<S: FarTickets>(alloc: Global, plan: &Plan, number: u32) -> Result<
     }
 }
 
-/// Opens four such tables. Refused with `NoMemory` (1) alone.
+/// Opens four such tables. Refused only with `NoMemory` (1).
 fn open_frames<S: FarTickets>(alloc: Global, plan: &Plan) -> Result<Four<Frame<S>>, Refusal>
     ensures zero { IfOk result (λ frames. IsEmpty S.is_of plan.now 0 frames.zero) }
     ensures one { IfOk result (λ frames. IsEmpty S.is_of plan.now 1 frames.one) }
@@ -188,7 +188,7 @@ fn open_frames<S: FarTickets>(alloc: Global, plan: &Plan) -> Result<Four<Frame<S
 impl Plan {
     /// Makes the four tables, each with the gauge as its aggregate 0, and the four cells.
     ///
-    /// Refused with `NoMemory` (1) alone. What was made is then dropped.
+    /// Refused only with `NoMemory` (1). What was made before is then dropped.
     pub fn make<N: PlanTag, S: FarTickets>(self, alloc: Global) -> Result<Made<N, S>, Refusal>
         requires { self ≡ N.plan }
         ensures memory { IfErr result (λ e. e ≡ Refusal.NoMemory) }
@@ -210,7 +210,7 @@ impl Plan {
     }
 }
 
-/// Puts a table under its lock, beside what keeps its history: both have an empty history.
+/// Puts a table under its lock, with the owner of its history, which is empty.
 fn under_lock<N: PlanTag, B: TableTag, S: FarTickets, const I: usize>(
     frame: Frame<S>,
     keeper: Keeper<N, B, I>,
@@ -221,7 +221,7 @@ fn under_lock<N: PlanTag, B: TableTag, S: FarTickets, const I: usize>(
     CachePadded::new(RwLock::new(Stripe { frame, keeper }))
 }
 
-/// Puts each table under a lock, beside what keeps its history.
+/// Puts each table under a lock, with the owner of its history.
 fn share<N: PlanTag, B: TableTag, S: FarTickets>(
     alloc: Global,
     count: Count<N>,
@@ -252,10 +252,10 @@ fn share<N: PlanTag, B: TableTag, S: FarTickets>(
 }
 
 impl<N: PlanTag, S: FarTickets> Made<N, S> {
-    /// Puts each table under a lock, beside what keeps its history, and makes the sessions. All histories are empty. The caller
+    /// Puts each table under a lock, with the owner of its history, and makes the sessions. All histories are empty. The caller
     /// names the four cells, and the store to which objects will go.
     ///
-    /// Refused with `NoMemory` (1) alone. What was made is then dropped.
+    /// Refused only with `NoMemory` (1). What was made before is then dropped.
     pub fn open<B: TableTag>(
         self,
         alloc: Global,

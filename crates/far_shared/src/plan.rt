@@ -1,4 +1,4 @@
-// What a shared table is made for.
+// Plans of shared tables.
 ghost use Rattle.std.specs.Prelude.{◌≡◌, ◌⊎◌, Some, None, IfOk, IfErr, OnOk};
 ghost use Rattle.far_types.specs.Bounds.{AreLimits};
 ghost use Rattle.far_shared.specs.Plans.{is_plain, gauge_refusal, plan_refusal};
@@ -6,10 +6,10 @@ ghost use Rattle.far_shared.specs.Plans.{is_plain, gauge_refusal, plan_refusal};
 use far_types::{Fold, Limits, Refusal, Schema, Spec};
 use std::marker::Model;
 
-/// What a shared table is made for: the schema and the limits of each stripe, the aggregate that is its gauge, and how many
-/// sessions use it. Contracts see these four.
+/// A plan of a shared table: the schema and the limits of each stripe, the aggregate that is its gauge, and the number of
+/// sessions. Contracts see these four.
 ///
-/// Here the count and the sum of a column of numbers are the gauge of each stripe:
+/// Here the gauge of each stripe is the count and the sum of an int column:
 ///
 /// ```
 /// pub(crate) fn plan_for(alloc: Global, sessions: u32) -> Result<Plan, Stop>
@@ -59,7 +59,7 @@ impl Model for Plan {
     } };
 }
 
-/// Returns whether the aggregate has one count and one sum.
+/// Returns whether the aggregate has only one count and one sum.
 fn is_plain(gauge: &Spec) -> bool
     ensures { result ≡ is_plain gauge.now }
 {
@@ -70,7 +70,7 @@ fn is_plain(gauge: &Spec) -> bool
 }
 
 /// Checks that the aggregate may be the gauge of tables with this schema. Refused with `BadSpec` (3) if it is not totals
-/// without key column, else as `Spec::check` says.
+/// without a key column, else as `Spec::check` says.
 fn check_gauge(schema: &Schema, gauge: &Spec) -> Result<(), Refusal>
     ensures ok { OnOk result (gauge_refusal schema.now gauge.now ≡ None) }
     ensures refused { IfErr result (λ e. gauge_refusal schema.now gauge.now ≡ Some e) }
@@ -86,10 +86,10 @@ impl Plan {
     ///
     /// Refused with the first of these that applies:
     ///
-    /// - `BadSchema` (2): a table may not have the limits.
-    /// - `BadSpec` (3): the gauge is not totals without key column, has more than 4 tests, or too long a constant.
-    /// - `NoColumn` (4) or `WrongKind` (5): the gauge cannot be had over the schema.
-    /// - `OutOfRange` (14): there are not 1 to 64 sessions.
+    /// - `BadSchema` (2): the limits are not valid.
+    /// - `BadSpec` (3): the gauge is not totals without a key column, has more than 4 tests, or too long a constant.
+    /// - `NoColumn` (4) or `WrongKind` (5): the gauge does not fit the schema.
+    /// - `OutOfRange` (14): the number of sessions is not 1 to 64.
     pub fn new(schema: Schema, limits: Limits, gauge: Spec, sessions: u64) -> Result<Plan, Refusal>
         ensures plan { IfOk result (λ plan. plan
             ≡ record { schema = schema; limits = limits; gauge = gauge; sessions = sessions }) }

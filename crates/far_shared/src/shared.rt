@@ -12,7 +12,7 @@ use std::alloc::Global;
 use std::marker::PhantomData;
 use std::sync::{RwLock, Wait};
 
-/// How many sessions a shared table has, and how many columns. They never change, so no lock protects them.
+/// The numbers of sessions and of columns of a shared table. They never change, so no lock protects them.
 #[derive(Drop)]
 pub(crate) struct Count<N: PlanTag> {
     pub(crate) sessions: u64,
@@ -22,12 +22,12 @@ pub(crate) struct Count<N: PlanTag> {
     ghost wide: { columns ≡ length N.plan.schema },
 }
 
-/// Four stripes, each a table under its lock, and a cell for each. Session s has the home stripe s mod 4, and may use all.
+/// Four stripes, each a table under its lock, and a cell for each. Session s has the home stripe s mod 4, and may use all stripes.
 ///
 /// A session is used with the shared table that made it: its type says which. No two stripes are on one cache line, so that a
-/// writer of one does not slow the next.
+/// writer of one stripe does not slow the next.
 ///
-/// A session makes an edit. A fetch or an eviction may mend a refusal:
+/// A session makes an edit. A fetch or an eviction may resolve a refusal:
 ///
 /// ```
 /// fn insert_one<N: PlanTag, B: TableTag, S: FarStore, R: Wait>(
@@ -86,11 +86,11 @@ impl<N: PlanTag, B: TableTag, S: FarTickets> Shared<N, B, S> {
     }
 
     /// Makes an edit on a stripe, as this session, under the stripe's write lock. The session has then seen the stripe's
-    /// history up to the edit. At the other stripes it stays the same.
+    /// history up to the edit. At the other stripes the session is unchanged.
     ///
     /// Refused with:
     ///
-    /// - `OutOfRange` (14), if there is no such stripe. The session is then the same as before.
+    /// - `OutOfRange` (14), if there is no such stripe. The session is then unchanged.
     /// - Otherwise as `Frame`'s call of the edit is. The session has then seen the history so far.
     pub fn apply<R: Wait>(
         &self,

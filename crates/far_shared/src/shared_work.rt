@@ -77,12 +77,12 @@ impl<N: PlanTag, B: TableTag, S: FarTickets> Shared<N, B, S> {
 }
 
 impl<N: PlanTag, B: TableTag, S: FarStore> Shared<N, B, S> {
-    /// Sends the coldest object of a stripe away, and returns which; `None` if there was none that may go.
+    /// Evicts the coldest object of a stripe, and returns its name; `None` if there was none that can be evicted.
     ///
     /// Refused with `OutOfRange` (14) if there is no such stripe, else with one of these:
     ///
     /// - `NoMemory` (1): an allocation fails.
-    /// - `FarFault` (21): the store failed, exactly if the meter rises, by one.
+    /// - `FarFault` (21): the store failed. Only then the meter rises, by one.
     /// - `FarFull` (22): the number drawn from the store is not below its capacity.
     /// - `StaleJob` (20): the object was written or away meanwhile.
     /// - `Pinned` (19): the object has a pin.
@@ -112,14 +112,14 @@ impl<N: PlanTag, B: TableTag, S: FarStore> Shared<N, B, S> {
         }
     }
 
-    /// Brings the object of a column and a row group of a stripe back.
+    /// Fetches the object of a column and a row group of a stripe.
     ///
     /// Refused with `NoColumn` (4) if the schema has no such column; else with `OutOfRange` (14) if there is no such stripe;
     /// else with one of these:
     ///
-    /// - `OutOfRange` (14): no place of the row group is used.
+    /// - `OutOfRange` (14): the row group has no place.
     /// - `StaleJob` (20): the object is local, or was away again meanwhile.
-    /// - `FarFault` (21): the store failed, exactly if the meter rises, by one.
+    /// - `FarFault` (21): the store failed. Only then the meter rises, by one.
     /// - `RegionFull` (17): the object does not fit.
     /// - `NoMemory` (1): an allocation fails.
     pub fn fetch<R: Wait>(
@@ -157,13 +157,13 @@ impl<N: PlanTag, B: TableTag, S: FarStore> Shared<N, B, S> {
         }
     }
 
-    /// Builds a pending row group of a stripe into its aggregate. It scans it, if all that the aggregate needs was local at the
-    /// beginning; otherwise it reads the far store's copies. False if nothing was pending.
+    /// Builds a pending row group of a stripe into its aggregate: by a scan, if all needed columns were local at the beginning,
+    /// otherwise from the far store's copies. Returns false if nothing was pending.
     ///
     /// Refused with `OutOfRange` (14) if there is no such stripe, else with one of these:
     ///
     /// - `NoAggregate` (12), `StaleJob` (20), `Absent` (16)
-    /// - `FarFault` (21): the store failed, exactly if the meter rises, by one.
+    /// - `FarFault` (21): the store failed. Only then the meter rises, by one.
     /// - `NoMemory` (1): an allocation fails.
     pub fn build_once<R: Wait>(
         &self,

@@ -1,4 +1,4 @@
-// What lies under the lock of a stripe.
+// The table and the history under the lock of a stripe.
 ghost use Rattle.std.specs.Prelude.{◌≡◌, ◌++◌, ◌∷◌, [], length, IfOk, IfErr, OnOk, OnErr};
 ghost use mathlib.Core.List.{IsPrefix};
 ghost use Rattle.far_frame.specs.Effects.{Accepts, WhyRefused, edit_reply};
@@ -31,16 +31,16 @@ impl TableTag for Brand {
     ghost store = { [] };
 }
 
-/// What an accepted edit returns.
+/// The result of an accepted edit.
 #[derive(Clone, Copy, Debug, PartialEq, Eq)]
 pub struct Applied {
-    /// How many edits the stripe has accepted by then, this one included.
+    /// The number of edits that the stripe has accepted by then, including this one.
     pub number: u64,
-    /// The place of the row that was appended, or the one that the edit names.
+    /// The place of the row that was appended, or the place that the edit names.
     pub place: u32,
 }
 
-/// A table and what keeps its history. It lies under the lock of stripe I.
+/// A table and the owner of its history, under the lock of stripe I.
 ///
 /// Contracts see the history and the table's state. The table is the replay of the history, and the gauge is its aggregate 0.
 /// Its objects have the number I, and all its tickets are of the store.
@@ -64,8 +64,8 @@ impl<N: PlanTag, B: TableTag, S: FarTickets, const I: usize> Model for Stripe<N,
 }
 
 impl<N: PlanTag, B: TableTag, S: FarTickets, const I: usize> Stripe<N, B, S, I> {
-    /// Makes an edit, as this session, as `Frame`'s call of that edit does. Refused as that call is. The table, its objects and
-    /// its aggregates are then as before.
+    /// Makes an edit, as this session, as `Frame`'s call for this edit does. Refused as that call is; the table, its objects and
+    /// its aggregates are then unchanged.
     pub fn apply<R: Wait>(
         &mut self,
         rt: &R,
@@ -99,7 +99,7 @@ impl<N: PlanTag, B: TableTag, S: FarTickets, const I: usize> Stripe<N, B, S, I> 
         })
     }
 
-    /// For the proof: shows what is known of a stripe under its lock.
+    /// For the proof: shows the invariant of a stripe under its lock.
     #[inline(always)]
     pub(crate) fn known(&self)
         ensures { IsUnder N.plan S.is_of B.store I self.now }

@@ -1,4 +1,4 @@
-// Work in the background, on what lies under the lock of a stripe.
+// Work in the background, on the table under the lock of a stripe.
 ghost use Rattle.std.specs.Prelude.{◌≡◌, ◌<◌, ◌≤◌, [], ◌∷◌, None, length, IfOk, IfErr, IfSome, IsErrOf, OnOk, OnErr};
 ghost use Rattle.far_store.specs.Faults.{RefusedBy};
 ghost use Rattle.far_frame.specs.Effects.{Accepts, Refuses};
@@ -18,8 +18,8 @@ use far_types::Refusal;
 impl<N: PlanTag, B: TableTag, S: FarTickets, const I: usize> Stripe<N, B, S, I> {
     /// Begins a work; `None` if there is nothing to do. Changes nothing.
     ///
-    /// - An evacuation is refused with `NoMemory` (1) alone.
-    /// - A fetch is refused with `NoColumn` (4). Else with `OutOfRange` (14) if no place of the row group is used, and with `StaleJob`
+    /// - An evacuation is refused only with `NoMemory` (1).
+    /// - A fetch is refused with `NoColumn` (4), else with `OutOfRange` (14) if the row group has no place, and with `StaleJob`
     ///   (20) if the object is local.
     /// - A build is refused with `StaleJob` (20) if an object that its aggregate needs is dirty, and with `NoMemory` (1).
     pub fn begin(&self, store: &S, work: &Work) -> Result<Option<Job<S>>, Refusal>
@@ -36,7 +36,7 @@ impl<N: PlanTag, B: TableTag, S: FarTickets, const I: usize> Stripe<N, B, S, I> 
         begin_on(&self.frame, store, work)
     }
 
-    /// Ends a job by its kind: commits, installs or merges it. The history stays, and so does each row. Only a carried job is
+    /// Ends a job by its kind: commits, installs or merges it. The history and the rows are unchanged. Only a carried job is
     /// accepted.
     ///
     /// Refused as `Frame::commit`, `Frame::install` and `Frame::merge` are. A refused call changes nothing.
@@ -55,7 +55,7 @@ impl<N: PlanTag, B: TableTag, S: FarTickets, const I: usize> Stripe<N, B, S, I> 
         finish_on(&mut self.frame, store, job)
     }
 
-    /// Begins to build a pending row group: by a scan, if all that its aggregate needs is local, otherwise by a job. Changes
+    /// Begins to build a pending row group: by a scan, if all columns that its aggregate needs are local, otherwise by a job. Changes
     /// nothing.
     ///
     /// Refused as a build is in `begin`, if no scan is possible.
@@ -70,7 +70,7 @@ impl<N: PlanTag, B: TableTag, S: FarTickets, const I: usize> Stripe<N, B, S, I> 
         building_on(&self.frame, store)
     }
 
-    /// Scans a row group into an aggregate. The history stays, and so does each row.
+    /// Scans a row group into an aggregate. The history and the rows are unchanged.
     ///
     /// Refused as `Frame::scan_group` is. A refused call changes nothing.
     pub fn scan(&mut self, aggregate: u32, group: u32) -> Result<(), Refusal>

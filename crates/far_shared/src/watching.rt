@@ -1,4 +1,4 @@
-// Aggregates that are registered in all four stripes.
+// Registers aggregates in all four stripes.
 ghost use Rattle.std.specs.Prelude.{◌≡◌, ◌≢◌, ◌<◌, ℕ, length, is_none, Some, None, IfOk, IfErr, IfSome, IsTrue, OnOk, OnErr};
 ghost use Rattle.far_types.specs.Bounds.{spec_refusal};
 ghost use Rattle.far_table.specs.Watching.{aggregate_at, lowest_free};
@@ -13,14 +13,14 @@ use far_store::FarTickets;
 use far_types::{Refusal, Spec};
 use std::sync::Wait;
 
-/// Returns whether a table has no aggregate under a number. Allocates nothing.
+/// Returns whether a number of a table has no aggregate. Allocates nothing.
 fn is_free<S: FarTickets>(frame: &Frame<S>, a: u32) -> bool
     ensures { result ≡ is_none (aggregate_at frame.now.table a) }
 {
     frame.spec(a).is_none()
 }
 
-/// Returns the lowest number under which a table has no aggregate. Allocates nothing.
+/// Returns the lowest number of a table without an aggregate. Allocates nothing.
 fn free_number<S: FarTickets>(frame: &Frame<S>) -> Option<u32>
     requires all { length frame.now.table.aggregates ≡ 32 }
     ensures { result ≡ lowest_free frame.now.table }
@@ -52,7 +52,7 @@ impl<N: PlanTag, B: TableTag, S: FarTickets, const I: usize> Stripe<N, B, S, I> 
         }
     }
 
-    /// Checks that an aggregate may be had over the schema. Allocates nothing.
+    /// Checks that an aggregate is valid for the schema. Allocates nothing.
     fn check(&self, spec: &Spec) -> Result<(), Refusal>
         ensures allowed { OnOk result (spec_refusal N.plan.schema spec.now ≡ None) }
         ensures refused { IfErr result (λ e. spec_refusal N.plan.schema spec.now ≡ Some e) }
@@ -69,12 +69,12 @@ impl<N: PlanTag, B: TableTag, S: FarTickets, const I: usize> Stripe<N, B, S, I> 
         ensures under { IfOk result
             (λ a. Registers (IsUnder N.plan S.is_of B.store I) a spec) }
     {
-        // For the proof: gives that a legal history leaves few places, so few row groups are pending.
+        // For the proof: shows that a legal history leaves few places, so few row groups are pending.
         self.keeper.known();
         self.frame.watch(spec)
     }
 
-    /// Forgets the aggregate of a number, if there is one.
+    /// Forgets the aggregate with a number, if there is one.
     fn unwatch(&mut self, a: u32)
         requires { a ≢ 0 }
         ensures { self.new ≡ after_unregister a self.old }
@@ -113,8 +113,8 @@ fn watch_two<N: PlanTag, B: TableTag, S: FarTickets, const I: usize, const J: us
     }
 }
 
-/// Returns the number under which the next aggregate is registered in all four stripes. `None` if there is none, or it is not
-/// the same in all. Allocates nothing.
+/// Returns the number under which the next aggregate is registered in all four stripes. `None` if there is none, or the numbers
+/// differ. Allocates nothing.
 fn common_number<N: PlanTag, B: TableTag, S: FarTickets>(
     zero: &Stripe<N, B, S, 0>,
     one: &Stripe<N, B, S, 1>,
@@ -136,14 +136,14 @@ fn common_number<N: PlanTag, B: TableTag, S: FarTickets>(
     None
 }
 
-/// Registers an aggregate in four stripes under one number, or in none: what `Shared::watch_all` does under its four locks.
-/// Each registration counts. If it is refused, the four are as before, but that a registration that was taken back counts too.
+/// Registers an aggregate in four stripes under one number, or in none: `Shared::watch_all` does this under its four locks. Each
+/// registration counts. If it is refused, the four are as before, except that a registration that was undone counts too.
 ///
 /// Refused with the first of these that applies:
 ///
 /// - `BadSpec` (3), `NoColumn` (4) or `WrongKind` (5), exactly as `Spec::check` says.
 /// - `TooManyAggregates` (13): a stripe has 32, or the lowest free numbers differ.
-/// - `NoMemory` (1) if an allocation fails, or `TooManyAggregates` (13) if a stripe registered 2^32.
+/// - `NoMemory` (1) if an allocation fails, or `TooManyAggregates` (13) if a stripe has registered 2^32.
 pub fn watch_four<N: PlanTag, B: TableTag, S: FarTickets>(
     zero: &mut Stripe<N, B, S, 0>,
     one: &mut Stripe<N, B, S, 1>,
@@ -182,10 +182,10 @@ pub fn watch_four<N: PlanTag, B: TableTag, S: FarTickets>(
 }
 
 impl<N: PlanTag, B: TableTag, S: FarTickets> Shared<N, B, S> {
-    /// Registers an aggregate in all four stripes under one number, which is below 32, or in none. Holds all four write locks.
-    /// All row groups that hold a place are pending in it.
+    /// Registers an aggregate in all four stripes under one number, which is below 32, or in none. All row groups that hold a place are
+    /// pending in it. Holds all four write locks.
     ///
-    /// Refused as `watch_four` is. The four stripes then keep the rows, objects and aggregates that they had.
+    /// Refused as `watch_four` is. The rows, objects and aggregates of the four stripes are then unchanged.
     pub fn watch_all<R: Wait>(&self, rt: &R, spec: Spec) -> Result<u32, Refusal>
         ensures number { IfOk result (λ a. (a ≢ 0) × (a < 32)) }
         ensures allowed { OnOk result (spec_refusal N.plan.schema spec ≡ None) }

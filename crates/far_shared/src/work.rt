@@ -1,15 +1,15 @@
-// What is done in the background of a shared table.
+// Work in the background of a shared table.
 ghost use Rattle.std.specs.Prelude.{◌≡◌};
 ghost use Rattle.far_shared.specs.Works.{columns_for, stripe_of};
 
 use far_types::Name;
 
-/// One thing that is done to a stripe in the background. It changes no row. Each variant begins with the number of its stripe.
+/// One work on a stripe in the background. It changes no row. Each variant begins with the number of its stripe.
 #[derive(Clone, Copy, Debug, PartialEq, Eq)]
 pub enum Work {
-    /// Sends the coldest object away.
+    /// Evicts the coldest object.
     Evacuate(u32),
-    /// Brings the object of a column and a row group back.
+    /// Fetches the object of a column and a row group.
     Fetch(u32, Name),
     /// Builds a pending row group into its aggregate.
     Build(u32),
@@ -27,7 +27,7 @@ impl Work {
         }
     }
 
-    /// Returns how many columns the schema must have for what it names. Allocates nothing.
+    /// Returns the number of columns that the schema must have for the object that the work names. Allocates nothing.
     pub fn columns(&self) -> u64
         ensures { result ≡ columns_for self.now }
     {
@@ -38,12 +38,12 @@ impl Work {
     }
 }
 
-/// How a list of works came out.
+/// The report on a list of works.
 #[derive(Clone, Copy, Debug, PartialEq, Eq)]
 pub struct Report {
-    /// How many works were done, also those for which there was nothing to do.
+    /// The number of works that were done, including those for which there was nothing to do.
     pub done: u64,
-    /// How many were refused.
+    /// The number of works that were refused.
     pub refused: u64,
 }
 
@@ -52,7 +52,7 @@ pub struct Report {
 pub enum Building<J> {
     /// No row group of any aggregate is pending.
     Nothing,
-    /// By a scan: all that the aggregate needs is local.
+    /// By a scan: all columns that the aggregate needs are local.
     Scan {
         /// The number of the aggregate.
         aggregate: u32,

@@ -33,12 +33,12 @@ pub(crate) fn build_on<S: FarTickets>(
     Ok(Some(frame.begin_offload(store, aggregate, group)?))
 }
 
-/// Begins to bring an object back. Changes nothing.
+/// Begins to fetch an object. Changes nothing.
 ///
 /// Refused with the first of these that applies:
 ///
 /// - `NoColumn` (4): there is no such column.
-/// - `OutOfRange` (14): no place of the row group is used.
+/// - `OutOfRange` (14): the row group has no place.
 /// - `StaleJob` (20): the object is local.
 fn fetch_on<S: FarTickets>(frame: &Frame<S>, store: &S, name: Name) -> Result<Job<S>, Refusal>
     requires here { AreAt S.is_of (S.store_id store.now) frame.now.rows }
@@ -56,8 +56,8 @@ fn fetch_on<S: FarTickets>(frame: &Frame<S>, store: &S, name: Name) -> Result<Jo
 
 /// Begins a work; `None` if there is nothing to do. Changes nothing.
 ///
-/// - An evacuation is refused with `NoMemory` (1) alone.
-/// - A fetch is refused with `NoColumn` (4). Else with `OutOfRange` (14) if no place of the row group is used, and with `StaleJob` (20) if
+/// - An evacuation is refused only with `NoMemory` (1).
+/// - A fetch is refused with `NoColumn` (4), else with `OutOfRange` (14) if the row group has no place, and with `StaleJob` (20) if
 ///   the object is local.
 /// - A build is refused as `build_on` says.
 pub(crate) fn begin_on<S: FarTickets>(
@@ -81,7 +81,7 @@ pub(crate) fn begin_on<S: FarTickets>(
     }
 }
 
-/// Ends a job by its kind: commits, installs or merges it. Each row stays. Only a carried job is accepted.
+/// Ends a job by its kind: commits, installs or merges it. The rows are unchanged. Only a carried job is accepted.
 ///
 /// A refused call changes nothing. It is refused:
 ///
@@ -113,7 +113,7 @@ pub(crate) fn finish_on<S: FarTickets>(
     }
 }
 
-/// Begins to build a pending row group: by a scan, if all that its aggregate needs is local, otherwise by a job. Changes
+/// Begins to build a pending row group: by a scan, if all columns that its aggregate needs are local, otherwise by a job. Changes
 /// nothing.
 ///
 /// Refused as `build_on` is, if no scan is possible.
@@ -136,7 +136,7 @@ pub(crate) fn building_on<S: FarTickets>(
     Ok(Building::Offload(frame.begin_offload(store, aggregate, group)?))
 }
 
-/// Scans a row group into an aggregate. Each row and object stays.
+/// Scans a row group into an aggregate. The rows and objects are unchanged.
 ///
 /// Refused with `NoAggregate` (12), `OutOfRange` (14), `StaleJob` (20), `Absent` (16) and `NoMemory` (1), as
 /// `Frame::scan_group` is. A refused call changes nothing.

@@ -19,7 +19,7 @@ static EDITED: Scene = Scene {
     end: End::LeavesReported,
 };
 
-// How often the scene is played. The calls come in another order each time.
+// The number of times that the scene is played. The calls come in another order each time.
 const RUNS: u32 = 20;
 
 #[test]
@@ -29,7 +29,7 @@ fn the_totals_are_those_of_the_accepted_edits_whatever_moves_meanwhile(rt: HostR
     }
 }
 
-// One session inserts pairs of rows, and one asks.
+// One session inserts pairs of rows, and another asks.
 static PAIRS: Scene = Scene {
     name: "an_answer_over_all_stripes_never_shows_a_later_row_without_the_earlier",
     table: Table::NumbersWithTexts,

@@ -1,13 +1,13 @@
-// Edits that are drawn, beside a plain list of what they leave.
+// Random edits, and a plain list of the rows that they leave.
 use crate::scenes::{Left, Replied, Reply, Step};
 use crate::signals::Signals;
 use far_types::Refusal;
 use std::alloc::Global;
 
-// How often an edit is tried.
+// The number of times that an edit is tried.
 const TRIES: u32 = 100_000;
 
-// An edit that is drawn.
+// A random edit.
 #[derive(Clone, Copy)]
 enum Call {
     Insert(i64),
@@ -15,19 +15,19 @@ enum Call {
     Remove(u32),
 }
 
-// What the edits so far leave: the number of each place, or none if it is removed.
+// The rows that the edits so far leave: the number of each place, or none if it is removed.
 #[derive(Drop)]
 struct Rows {
     numbers: Vec<Option<i64>>,
     edits: u64,
 }
 
-// Returns how many places a list has.
+// Returns the number of places of a list.
 fn places_in(numbers: &[Option<i64>]) -> u32 {
     u32::try_from(numbers.len()).unwrap_or(u32::MAX)
 }
 
-// Returns the edit of this turn on a list of so many places. The multiples of such a number are spread evenly (Knuth).
+// Returns the edit of this turn on a list of this many places. The multiples of the constant are spread evenly (Knuth).
 fn draw(turn: u32, places: u32) -> Call {
     let drawn = turn.wrapping_mul(2_654_435_761);
     let kind = drawn >> 29;
@@ -50,7 +50,7 @@ fn place_of(rows: &Rows, call: Call) -> u32 {
     }
 }
 
-// Returns whether an edit is one of a removed place.
+// Returns whether an edit names a removed place.
 fn is_removed(rows: &Rows, call: Call) -> bool {
     matches!(rows.numbers.get(place_of(rows, call) as usize), Some(None))
 }
@@ -73,7 +73,7 @@ fn keep(rows: &mut Rows, call: Call) -> Result<(), Refusal> {
     Ok(())
 }
 
-// Returns what the list has.
+// Returns the rows of the list.
 fn left_of(numbers: &[Option<i64>]) -> Left {
     let mut count = 0u64;
     let mut sum = 0i128;
@@ -99,7 +99,7 @@ fn step_of(home: u32, edit: Call) -> Step {
     }
 }
 
-// Makes an edit, with as many tries as it takes: what is away is brought back.
+// Makes an edit, with as many tries as it needs: an object that is away is fetched.
 fn edit_at_last<M, F: Fn(&mut M, Step) -> Replied>(
     call: &F,
     me: &mut M,
@@ -119,7 +119,7 @@ fn edit_at_last<M, F: Fn(&mut M, Step) -> Replied>(
     Err(Refusal::OutOfRange)
 }
 
-// Makes an edit that was accepted on the list, which no other session edits.
+// Makes an accepted edit on the list, which no other session edits.
 fn follow_applied(rows: &mut Rows, edit: Call, number: u64, place: u32) -> Result<(), Refusal> {
     let is_next = number == rows.edits.wrapping_add(1);
     if is_next && place == place_of(rows, edit) && !is_removed(rows, edit) {
@@ -139,7 +139,7 @@ fn follow(rows: &mut Rows, edit: Call, reply: Replied) -> Result<(), Refusal> {
     }
 }
 
-// Makes so many edits on a stripe and on the list.
+// Makes this many edits on a stripe and on the list.
 fn edit_both<M, F: Fn(&mut M, Step) -> Replied>(
     call: &F,
     me: &mut M,
@@ -163,7 +163,7 @@ fn edit_both<M, F: Fn(&mut M, Step) -> Replied>(
     Ok(())
 }
 
-// Returns what the edits leave, if the gauge of the stripe says the same.
+// Returns the rows that the edits leave, if the gauge of the stripe agrees.
 fn as_gauged(rows: &Rows, reading: Replied) -> Result<Left, Refusal> {
     let left = left_of(&rows.numbers);
     if reading == Ok(Reply::Reading(rows.edits, left.count, left.sum)) {
@@ -173,7 +173,7 @@ fn as_gauged(rows: &Rows, reading: Replied) -> Result<Left, Refusal> {
     }
 }
 
-// Makes so many edits on a stripe and on a list that is empty.
+// Makes this many edits on a stripe and on an empty list.
 fn edit_all<M, F: Fn(&mut M, Step) -> Replied>(
     call: &F,
     me: &mut M,
@@ -190,8 +190,8 @@ fn edit_all<M, F: Fn(&mut M, Step) -> Replied>(
     }
 }
 
-// Makes so many edits on the home stripe of the session of this number, which no other session edits, and sends a signal when it has
-// ended. Returns what the accepted ones leave by a plain list, which is what the gauge reads.
+// Makes this many edits on the home stripe of the session with this number, which no other session edits, and then sends a signal.
+// Returns the rows that the accepted edits leave in a plain list, which are those that the gauge reads.
 pub fn edit_by_turns<M, F: Fn(&mut M, Step) -> Replied>(
     alloc: Global,
     call: &F,

@@ -1,4 +1,4 @@
-// How a scene ends: the table is closed, first without one of its sessions.
+// Ends a scene: the table is closed, first without one of its sessions.
 use crate::playing::Played;
 use crate::scenes::{End, Left, NO_ROW};
 use far_frame::Frame;
@@ -9,7 +9,7 @@ use far_types::Refusal;
 use std::alloc::{AllocError, Global};
 use std::sync::Wait;
 
-// The sessions but for the last, the last, and what the four stripes are to have.
+// The sessions without the last, the last, and the expected rows of the four stripes.
 #[derive(Drop)]
 pub struct Finale<P> {
     sessions: Vec<P>,
@@ -17,17 +17,17 @@ pub struct Finale<P> {
     due: Due,
 }
 
-// What the four stripes are to have, and how many aggregates each.
+// The expected rows of the four stripes, and the number of aggregates of each.
 #[derive(Clone, Copy)]
 struct Due {
     left: [Left; 4],
     aggregates: u32,
 }
 
-// What `close` returns if a session is missing.
+// The result of `close` if a session is missing.
 type Refused<N, B, S> = (Refusal, Shared<N, B, S>, Vec<Session<B>>);
 
-// Returns whether a table has so many aggregates, which have the first numbers.
+// Returns whether a table has this many aggregates, which have the first numbers.
 fn has_aggregates<S: FarTickets>(frame: &Frame<S>, aggregates: u32) -> bool {
     for a in 0..aggregates {
         if frame.spec(a).is_none() {
@@ -37,14 +37,14 @@ fn has_aggregates<S: FarTickets>(frame: &Frame<S>, aggregates: u32) -> bool {
     true
 }
 
-// Returns whether a table has these rows, and so many aggregates.
+// Returns whether a table has these rows, and this many aggregates.
 fn has_left<S: FarTickets>(frame: &Frame<S>, left: Left, aggregates: u32) -> bool {
     frame.places() == left.places
         && frame.plain(0) == Some((left.count, left.sum))
         && has_aggregates(frame, aggregates)
 }
 
-// Returns whether four tables have what is due.
+// Returns whether four tables have the expected rows and aggregates.
 fn have_left<S: FarTickets>(frames: &Four<Frame<S>>, due: &Due) -> bool {
     has_left(&frames.zero, due.left[0], due.aggregates)
         && has_left(&frames.one, due.left[1], due.aggregates)
@@ -52,8 +52,8 @@ fn have_left<S: FarTickets>(frames: &Four<Frame<S>>, due: &Due) -> bool {
         && has_left(&frames.three, due.left[3], due.aggregates)
 }
 
-// Returns whether a result is `Ok` with a value that passes a test. The type of the value is a parameter: to take four tables out of a
-// result costs the proof of a function minutes, and here it costs none.
+// Returns whether a result is `Ok` with a value that passes a test. Generic over the value: a function that takes four tables out of a
+// result costs minutes to prove, and here it costs nothing.
 fn is_ok_and<T: Drop, E: Drop, F: FnOnce(&T) -> bool + Drop>(
     answer: Result<T, E>,
     is_right: F,
@@ -66,7 +66,7 @@ fn is_ok_and<T: Drop, E: Drop, F: FnOnce(&T) -> bool + Drop>(
     }
 }
 
-// Returns the error of a result, if it is one. The type of the value is a parameter too.
+// Returns the error of a result, if it is one. Generic over the value too.
 fn error_of<T: Drop, E: Drop>(answer: Result<T, E>) -> Option<E> {
     match answer {
         Ok(_) => None,
@@ -74,7 +74,7 @@ fn error_of<T: Drop, E: Drop>(answer: Result<T, E>) -> Option<E> {
     }
 }
 
-// Returns whether a shared table is closed with these sessions, and leaves what is due.
+// Returns whether a shared table is closed with these sessions, and leaves the expected rows.
 fn closes<N: PlanTag, B: TableTag, S: FarTickets, R: Wait>(
     rt: &R,
     shared: Shared<N, B, S>,
@@ -87,13 +87,13 @@ fn closes<N: PlanTag, B: TableTag, S: FarTickets, R: Wait>(
     )
 }
 
-// Returns a list with one more.
+// Returns a list with one more element.
 fn with_last<P: Drop>(mut list: Vec<P>, last: P) -> Result<Vec<P>, AllocError> {
     list.push(last)?;
     Ok(list)
 }
 
-// Returns whether a shared table that came back with its sessions is closed when the one that was missing is there again.
+// Returns whether a shared table that was returned with its sessions is closed once the missing session is there.
 fn closes_again<N: PlanTag, B: TableTag, S: FarTickets, R: Wait>(
     rt: &R,
     refused: Refused<N, B, S>,
@@ -110,7 +110,7 @@ fn closes_again<N: PlanTag, B: TableTag, S: FarTickets, R: Wait>(
     }
 }
 
-// Returns whether a shared table comes back with its sessions if one is missing, and is closed when it is there again.
+// Returns whether a shared table is returned with its sessions if one is missing, and is closed once that session is there.
 fn closes_with_all<N: PlanTag, B: TableTag, S: FarTickets, R: Wait>(
     rt: &R,
     shared: Shared<N, B, S>,
@@ -130,7 +130,7 @@ fn closes_with_all<N: PlanTag, B: TableTag, S: FarTickets, R: Wait>(
     }
 }
 
-// The same, once all roles came out.
+// Does the same, once all roles have passed.
 pub fn ends<N: PlanTag, B: TableTag, S: FarTickets, R: Wait>(
     rt: &R,
     shared: Shared<N, B, S>,
@@ -145,7 +145,7 @@ pub fn ends<N: PlanTag, B: TableTag, S: FarTickets, R: Wait>(
     }
 }
 
-// Returns what four sessions at least say that they left, in order.
+// Returns the rows that at least four sessions report, in order.
 fn left_by<P>(played: &[Played<P>]) -> [Left; 4] {
     match played {
         [zero, one, two, three, ..] => [
@@ -158,7 +158,7 @@ fn left_by<P>(played: &[Played<P>]) -> [Left; 4] {
     }
 }
 
-// Returns what the four stripes are to have. Each has its gauge.
+// Returns the expected rows of the four stripes. Each has its gauge.
 fn due_of<P>(played: &[Played<P>], end: End) -> Due {
     match end {
         End::Leaves(left) => Due {
@@ -176,8 +176,8 @@ fn due_of<P>(played: &[Played<P>], end: End) -> Due {
     }
 }
 
-// Checks that all roles came out. Refused as the first session is whose role did not; with `NoMemory` if one ran out of memory, since others
-// may have waited for it in vain.
+// Checks that all roles have passed. Refused as the first session whose role has not; with `NoMemory` if one ran out of memory, since
+// others may have waited for it in vain.
 fn all_came_out<P>(played: &[Played<P>]) -> Result<(), Refusal> {
     let mut came_out = Ok(());
     for one in played {
@@ -211,7 +211,7 @@ fn parted<P: Drop>(mut sessions: Vec<P>, due: Due) -> Result<Finale<P>, Refusal>
     }
 }
 
-// Returns what comes at the end of a scene. Refused as `all_came_out` is.
+// Returns the parts that the end of a scene needs. Refused as `all_came_out` is.
 pub fn finale_of<P: Drop>(
     alloc: Global,
     played: Vec<Played<P>>,

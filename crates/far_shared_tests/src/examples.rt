@@ -26,7 +26,7 @@ static EXAMPLES: &[Scene] = &[
         ])],
         end: End::Leaves(&[ROW_OF_6, NO_ROW, NO_ROW, NO_ROW]),
     },
-    // The calls that name a stripe, of which there is no fifth.
+    // The calls that name a stripe, here a fifth one, which does not exist.
     Scene {
         name: "there_is_no_fifth_stripe",
         table: Table::Numbers,
@@ -122,7 +122,7 @@ static EXAMPLES: &[Scene] = &[
         ],
         end: End::Leaves(&[ROW_OF_5, ROW_OF_7, ROW_OF_6, ROW_OF_5]),
     },
-    // The one session sends away an object whose put is held until the other has set its row.
+    // One session evicts an object, and its put is held until the other session has set its row.
     Scene {
         name: "an_edit_that_overtakes_an_evacuation_makes_it_stale",
         table: Table::Numbers,
@@ -143,7 +143,7 @@ static EXAMPLES: &[Scene] = &[
         ],
         end: End::Leaves(&[ROW_OF_6, NO_ROW, NO_ROW, NO_ROW]),
     },
-    // The put of the one session is held until that of the other begins.
+    // The put of one session is held until the put of the other begins.
     Scene {
         name: "two_sessions_put_at_once",
         table: Table::Numbers,
@@ -162,7 +162,7 @@ static EXAMPLES: &[Scene] = &[
         ],
         end: End::Leaves(&[ROW_OF_5, ROW_OF_7, NO_ROW, NO_ROW]),
     },
-    // The one put is held until it is a fault.
+    // The put is held until it becomes a fault.
     Scene {
         name: "a_fault_of_the_store_leaves_the_object_where_it_is",
         table: Table::Numbers,
@@ -175,7 +175,7 @@ static EXAMPLES: &[Scene] = &[
         ])],
         end: End::Leaves(&[ROW_OF_5, NO_ROW, NO_ROW, NO_ROW]),
     },
-    // The one session reads a stripe, and does not let go of it before the other has edited another and read the gauge of this one.
+    // One session reads a stripe, and keeps the lock until the other has edited another stripe and read the gauge of this one.
     Scene {
         name: "a_gauge_waits_for_no_lock",
         table: Table::Numbers,
@@ -194,7 +194,7 @@ static EXAMPLES: &[Scene] = &[
         ],
         end: End::Leaves(&[ROW_OF_5, ROW_OF_7, NO_ROW, NO_ROW]),
     },
-    // The one session reads a stripe, and does not let go of it before the other has read it too.
+    // One session reads a stripe, and keeps the lock until the other has read it too.
     Scene {
         name: "readers_of_a_stripe_do_not_wait_for_each_other",
         table: Table::Numbers,
@@ -214,7 +214,7 @@ static EXAMPLES: &[Scene] = &[
         ],
         end: End::Leaves(&[ROW_OF_5, NO_ROW, NO_ROW, NO_ROW]),
     },
-    // The one session reads a stripe, and does not let go of it before the other has moved and built what another stripe has.
+    // One session reads a stripe, and keeps the lock until the other has moved and built the objects of another stripe.
     Scene {
         name: "work_on_a_stripe_waits_for_no_other_stripe",
         table: Table::Numbers,
@@ -236,7 +236,7 @@ static EXAMPLES: &[Scene] = &[
         ],
         end: End::Leaves(&[ROW_OF_5, ROW_OF_7, NO_ROW, NO_ROW]),
     },
-    // The one session reads a gauge before and after each edit of the other.
+    // One session reads a gauge before and after each edit of the other.
     Scene {
         name: "a_gauge_is_looked_at_each_time",
         table: Table::Numbers,
@@ -262,7 +262,7 @@ static EXAMPLES: &[Scene] = &[
         ],
         end: End::Leaves(&[NO_ROW, ROW_OF_7, NO_ROW, NO_ROW]),
     },
-    // The four tables have the two besides their gauges.
+    // The four tables have these two aggregates besides their gauges.
     Scene {
         name: "a_closed_table_keeps_its_aggregates",
         table: Table::Numbers,

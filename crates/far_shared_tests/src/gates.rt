@@ -3,12 +3,12 @@ use crate::scenes::Gate;
 use far_store::GateStore;
 use std::thread;
 
-// How many turns a wait for a put takes at most.
+// The number of turns that a wait for a put takes at most.
 const TURNS: u32 = 1_000_000;
 
-// What a session does about a gate.
+// A session's calls on a gate.
 pub trait Gated {
-    // Returns whether a put has come to the gate.
+    // Returns whether a put is held at the gate.
     fn is_held(&self) -> bool;
 
     // Opens the gate.
@@ -41,7 +41,7 @@ fn open_gate<S>(store: S) -> GateStore<S> {
     gate
 }
 
-// Waits until a put has come to the gate. Returns whether one came.
+// Waits until a put is held at the gate. Returns whether one is.
 pub fn awaits_put<S: Gated>(store: &S) -> bool {
     for _ in 0..TURNS {
         if store.is_held() {

@@ -3,7 +3,7 @@ use crate::scenes::{Letter, Replied, Reply, Step};
 use crate::signals::Signals;
 use far_types::Refusal;
 
-// How many answers are asked for at most.
+// The number of answers that are asked for at most.
 const ANSWERS: u32 = 10_000_000;
 
 // Inserts a row of the first key on stripe 0, and then one of the second on stripe 1.
@@ -16,7 +16,7 @@ fn insert_both<M, F: Fn(&mut M, Step) -> Replied>(call: &F, me: &mut M) -> Repli
     }
 }
 
-// Inserts so many pairs. Returns whether an answer was asked for while each was inserted or after.
+// Inserts this many pairs. Returns whether an answer was asked for while each was inserted or after.
 fn insert_all<M, F: Fn(&mut M, Step) -> Replied>(
     call: &F,
     me: &mut M,
@@ -37,7 +37,7 @@ fn insert_all<M, F: Fn(&mut M, Step) -> Replied>(
     Ok(true)
 }
 
-// Returns what inserting the pairs returned, if the aggregate was registered as the first.
+// Returns the result of inserting the pairs, if the aggregate was registered as the first.
 fn if_first(registered: Replied, is_answered: Result<bool, Refusal>) -> Result<bool, Refusal> {
     match registered {
         Ok(Reply::Number(1)) => is_answered,
@@ -46,7 +46,7 @@ fn if_first(registered: Replied, is_answered: Result<bool, Refusal>) -> Result<b
     }
 }
 
-// Registers totals by key, sends a signal, inserts so many pairs, and sends another signal.
+// Registers totals by key, sends a signal, inserts this many pairs, and sends another signal.
 pub fn insert_pairs<M, F: Fn(&mut M, Step) -> Replied>(
     call: &F,
     me: &mut M,
@@ -62,8 +62,8 @@ pub fn insert_pairs<M, F: Fn(&mut M, Step) -> Replied>(
     if_first(registered, is_answered)
 }
 
-// Returns whether an answer has no second row of a pair without the first, and at most one first row without its second; and, if it is the
-// last, whether it has all.
+// Returns whether an answer has no second row of a pair without the first, and at most one first row without its second; and, for the
+// last answer, whether it has all rows.
 fn is_right(reply: Replied, is_last: bool, pairs: u32) -> Result<bool, Refusal> {
     match reply {
         Ok(Reply::Pairs(first, second)) => {
@@ -75,7 +75,7 @@ fn is_right(reply: Replied, is_last: bool, pairs: u32) -> Result<bool, Refusal> 
     }
 }
 
-// Asks for the totals by key until so many pairs are inserted. Returns whether each answer was right.
+// Asks for the totals by key until this many pairs are inserted. Returns whether each answer was right.
 fn ask_until<M, F: Fn(&mut M, Step) -> Replied>(
     call: &F,
     me: &mut M,
@@ -95,7 +95,7 @@ fn ask_until<M, F: Fn(&mut M, Step) -> Replied>(
     Ok(false)
 }
 
-// The same once the totals are registered.
+// Does the same once the totals are registered.
 pub fn ask_pairs<M, F: Fn(&mut M, Step) -> Replied>(
     call: &F,
     me: &mut M,

@@ -1,6 +1,6 @@
 #![tactic(auto)]
-//! Tests of `far_shared`: what no clause says, that is, that calls are served, what threads see of one another, and that worked
-//! examples come out as they should. A test names a scene: a table, a store and what each session does, as data.
+//! Tests of `far_shared`, of what no clause says: that calls are served, what threads see of one another, and that worked
+//! examples have the expected results. A test names a scene: a table, a store and the role of each session, as data.
 //! A job, a lock and a store are dropped by a call of `drop`: the proof of a function that drops one itself is long.
 
 #[cfg(test)]

@@ -1,4 +1,4 @@
-// Calls that are made one after another, each with the reply that is due.
+// Calls that are made one after another, each with its expected reply.
 use crate::scenes::{Line, Replied, Reply, Step};
 use far_types::Refusal;
 
@@ -12,7 +12,7 @@ fn answer_at_last<M, F: Fn(&mut M, Step) -> Replied>(call: &F, me: &mut M, step:
     }
 }
 
-// Whether a report counts more works as refused than is due. It does if one ran out of memory, and does not say why.
+// Returns whether a report counts more works as refused than expected. It does if a work ran out of memory, and does not say why.
 fn refuses_more(reply: Replied, due: Replied) -> bool {
     match (reply, due) {
         (Ok(Reply::Worked(_, refused)), Ok(Reply::Worked(_, due))) => refused > due,
@@ -20,8 +20,8 @@ fn refuses_more(reply: Replied, due: Replied) -> bool {
     }
 }
 
-// Returns whether calls get the replies that are due, one after another. Refused with `NoMemory` if a report counts more works as refused
-// than is due: then the scene is played a second time.
+// Returns whether calls get the expected replies, one after another. Refused with `NoMemory` if a report counts more works as refused
+// than expected: then the scene is played a second time.
 pub fn play_lines<M, F: Fn(&mut M, Step) -> Replied>(
     call: &F,
     me: &mut M,

@@ -1,4 +1,4 @@
-// Rows of a stripe that a session is lent.
+// Rows of a stripe that a session borrows.
 use crate::replies::waited;
 use crate::scenes::{Replied, Reply};
 use crate::signals::Signals;
@@ -16,7 +16,7 @@ fn number_in(values: &[Option<i64>]) -> Replied {
     }
 }
 
-// Returns the number that is lent of a first place.
+// Returns the number at a first place.
 fn first_number<S: FarTickets>(view: &View<'_, S>) -> Replied {
     match view.ints(0, 0, 1) {
         Ok(mut lents) => match lents.next() {
@@ -27,14 +27,14 @@ fn first_number<S: FarTickets>(view: &View<'_, S>) -> Replied {
     }
 }
 
-// Sends a signal, waits until so many signals were sent, and looks at the first row then.
+// Sends a signal, waits until this many signals were sent, and then looks at the first row.
 fn look_later<S: FarTickets>(view: &View<'_, S>, signals: &Signals, times: u64) -> Replied {
     signals.send();
     let is_signalled = signals.awaits(times);
     waited(is_signalled && view.is_alive(0).is_some())
 }
 
-// Looks at the first row: at once, or when so many signals were sent.
+// Looks at the first row: at once, or when this many signals were sent.
 fn first_row<S: FarTickets>(view: &View<'_, S>, signals: &Signals, times: Option<u64>) -> Replied {
     match times {
         Some(times) => look_later(view, signals, times),
@@ -42,7 +42,7 @@ fn first_row<S: FarTickets>(view: &View<'_, S>, signals: &Signals, times: Option
     }
 }
 
-// Locks a stripe for reading, looks at its first row, at once or when so many signals were sent, and unlocks the stripe.
+// Locks a stripe for reading, looks at its first row, at once or when this many signals were sent, and unlocks the stripe.
 pub fn look<N: PlanTag, B: TableTag, S: FarTickets, R: Wait>(
     rt: &R,
     shared: &Shared<N, B, S>,

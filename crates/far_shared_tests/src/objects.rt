@@ -1,4 +1,4 @@
-// Scenes of many objects in little space: a call finds the one that it names, and says so if there is no space or nothing to do.
+// Scenes of many objects in little space: a call finds the object that it names, and says so if there is no space or nothing to do.
 use crate::opening::first_wrong;
 use crate::scenes::{
     AWAY, End, FIRST, Gate, Left, Letter, NO_ROW, Reply, Role, SECOND, Scene, Step, TEXTS, Table,
@@ -20,7 +20,7 @@ const TEXTS_AWAY: Refusal = Refusal::Absent {
 };
 
 static OBJECTS: &[Scene] = &[
-    // An object that is local is not brought back.
+    // A local object is not fetched.
     Scene {
         name: "an_object_goes_and_comes_by_its_name",
         table: Table::Narrow,
@@ -73,7 +73,7 @@ static OBJECTS: &[Scene] = &[
             NO_ROW,
         ]),
     },
-    // The store takes four contents.
+    // The store has space for four contents.
     Scene {
         name: "an_object_that_the_store_does_not_take_stays",
         table: Table::Narrow,
@@ -106,7 +106,7 @@ static OBJECTS: &[Scene] = &[
             NO_ROW,
         ]),
     },
-    // Each work is done on the stripe that it names, and on its row group.
+    // Each work is done on its own stripe and row group.
     Scene {
         name: "works_name_a_stripe_and_a_row_group",
         table: Table::Narrow,

@@ -1,4 +1,4 @@
-// How a scene begins: the names of its plan, of its cells and of its store are picked, each by a call.
+// Begins a scene: picks the type names of its plan, of its cells and of its store, each by a call.
 ghost use Rattle.std.specs.Prelude.{◌≡◌};
 ghost use Rattle.far_shared.specs.Opening.{HaveNames};
 
@@ -16,7 +16,7 @@ use std::marker::Brand;
 use std::sync::Wait;
 use std::thread::Threads;
 
-// Returns whether a scene comes out on a table whose cells and store have these names.
+// Returns whether a scene passes on a table whose cells and store have these names.
 fn opened<
     N: PlanTag + Send + Sync,
     B: TableTag + Send + Sync,
@@ -33,7 +33,7 @@ fn opened<
     ends(rt, shared, finale)
 }
 
-// Gives the cells of a table and its store their names.
+// Names the cells of a table and its store.
 fn named<N: PlanTag + Send + Sync, S: FarStore + Gated, R: Threads + Wait + Sync>(
     rt: &R,
     alloc: Global,
@@ -44,7 +44,7 @@ fn named<N: PlanTag + Send + Sync, S: FarStore + Gated, R: Threads + Wait + Sync
     opened::<N, Brand, S, R>(rt, alloc, made, store, scene)
 }
 
-// The same on a table of a plan that has this name.
+// Does the same on a table of a plan with this name.
 fn planned<N: PlanTag + Send + Sync, S: FarStore + Gated, R: Threads + Wait + Sync>(
     rt: &R,
     alloc: Global,
@@ -60,7 +60,7 @@ fn planned<N: PlanTag + Send + Sync, S: FarStore + Gated, R: Threads + Wait + Sy
     })
 }
 
-// The same over a store that is lent.
+// Does the same over a borrowed store.
 fn staged<S: FarStore + Gated, R: Threads + Wait + Sync>(
     rt: &R,
     alloc: Global,
@@ -73,7 +73,7 @@ fn staged<S: FarStore + Gated, R: Threads + Wait + Sync>(
     }
 }
 
-// The same over a store of its own.
+// Does the same over a store of its own.
 fn on_agent<R: Threads + Wait + Sync>(
     rt: &R,
     alloc: Global,
@@ -90,7 +90,7 @@ fn on_agent<R: Threads + Wait + Sync>(
     }
 }
 
-// Returns whether a scene comes out. If the first run of it was out of memory, it is played a second time.
+// Returns whether a scene passes. If its first run was out of memory, it is played a second time.
 pub fn comes_out<R: Threads + Wait + Sync>(rt: &R, alloc: Global, scene: &Scene) -> bool {
     let answer = match on_agent(rt, alloc, scene) {
         Err(Refusal::NoMemory) => on_agent(rt, alloc, scene),
@@ -99,7 +99,7 @@ pub fn comes_out<R: Threads + Wait + Sync>(rt: &R, alloc: Global, scene: &Scene)
     answer == Ok(true)
 }
 
-// Returns the name of the first of these scenes that does not come out, or nothing.
+// Returns the name of the first of these scenes that does not pass, or `None`.
 pub fn first_wrong<R: Threads + Wait + Sync>(
     rt: &R,
     alloc: Global,

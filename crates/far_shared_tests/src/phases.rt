@@ -1,4 +1,4 @@
-// Works that a session does in phases: it begins a job, carries it and ends it.
+// Works that a session does in phases: begins a job, carries it and ends it.
 ghost use Rattle.std.specs.Prelude.{◌≡◌};
 ghost use Rattle.far_frame.specs.Jobs.{IsJobAt};
 

@@ -1,10 +1,10 @@
-// What the tables of scenes are made for.
+// The plans of the tables of scenes.
 use crate::scenes::{Letter, Table};
 use far_shared::Plan;
 use far_types::{Cell, Filter, Fold, Kind, Limits, Op, Refusal, Row, Schema, Spec, Test, Text};
 use std::alloc::{AllocError, Global};
 
-// How many places a row group has.
+// The number of places in a row group.
 pub const GROUP: u32 = 64;
 
 // The limits of each stripe. There is space for all objects of a scene.
@@ -18,7 +18,7 @@ pub const LIMITS: Limits = Limits {
     text_size: 4_096,
 };
 
-// The same with space for two objects, each of one place.
+// The same limits with space for two objects, each of one place.
 const NARROW: Limits = Limits {
     group: 1,
     places: 1_048_576,
@@ -37,7 +37,7 @@ fn limits_of(table: Table) -> Limits {
     }
 }
 
-// Returns how many contents the store of a table takes.
+// Returns the number of contents that the store of a table can hold.
 pub fn capacity_of(table: Table) -> u64 {
     match table {
         Table::Narrow => 4,
@@ -94,13 +94,13 @@ fn gauge_of(alloc: Global, table: Table) -> Result<Spec, AllocError> {
     })
 }
 
-// Returns the plan of a table for so many sessions.
+// Returns the plan of a table for this many sessions.
 pub fn plan_of(alloc: Global, table: Table, sessions: u64) -> Result<Plan, Refusal> {
     let schema = Schema::new(kinds_of(alloc, table)?)?;
     Plan::new(schema, limits_of(table), gauge_of(alloc, table)?, sessions)
 }
 
-// Returns why a plan of numbers is refused with such a gauge and so many sessions.
+// Returns why a plan of numbers is refused with such a gauge and this many sessions.
 pub fn why_no_plan(
     alloc: Global,
     fold: Fold,

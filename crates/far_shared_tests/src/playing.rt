@@ -1,4 +1,4 @@
-// Sessions that play a scene, each in a thread of its own.
+// Plays a scene, with each session in a thread of its own.
 ghost use Rattle.std.specs.Prelude.{◌≡◌};
 
 use crate::ending::{Finale, finale_of};
@@ -16,15 +16,15 @@ use std::alloc::{AllocError, Global};
 use std::sync::Wait;
 use std::thread::{self, Threads};
 
-// A session that has played its role, and what it says that it left on its home stripe. It is refused if something did not come
-// out as it should.
+// A session that has played its role, and the rows that it reports for its home stripe. Refused if something was not as
+// expected.
 #[derive(Drop)]
 pub struct Played<P> {
     pub session: P,
     pub left: Result<Left, Refusal>,
 }
 
-// What all sessions of a scene share besides the table and its store.
+// The values that all sessions of a scene share besides the table and its store.
 #[derive(Drop)]
 struct Stage {
     alloc: Global,
@@ -40,8 +40,8 @@ fn role_of(scene: &Scene, number: u64) -> Role {
     }
 }
 
-// Plays the role of a session, which its player knows by the replies to its calls. A player is handed no scene: the borrow checker does
-// not cover a closure beside what lives for ever.
+// Plays the role of a session, which its player knows only by the replies to its calls. A player gets no scene: the borrow checker does
+// not cover a closure beside values that live for ever.
 fn play_as<
     N: PlanTag + Send + Sync,
     B: TableTag + Send + Sync,
@@ -68,7 +68,7 @@ fn play_as<
     }
 }
 
-// The same of a session that is handed on, once all are there: so none waits for one that never comes.
+// Does the same for a session that is passed on, once all sessions are there, so that none waits for one that never comes.
 fn play<
     N: PlanTag + Send + Sync,
     B: TableTag + Send + Sync,
@@ -113,7 +113,7 @@ fn play_all<
     thread::map_vec(rt, sessions, &play_one)
 }
 
-// Returns what comes at the end of a scene, if there was memory for its threads.
+// Returns the parts that the end of a scene needs, if there was memory for its threads.
 fn ended<P: Drop>(
     alloc: Global,
     played: Result<Vec<Played<P>>, AllocError>,

@@ -3,7 +3,7 @@ use crate::plans::why_no_plan;
 use far_types::{Fold, Refusal};
 use std::alloc::Global;
 
-// What a gauge folds and by which key, for how many sessions, and the reply to the plan.
+// The fold and the key of a gauge, the number of sessions, and the reply to the plan.
 type Case = (Fold, Option<u32>, u64, Result<(), Refusal>);
 
 // A gauge has one count and one sum. A shared table has 1 to 64 sessions.
@@ -17,7 +17,7 @@ static PLANS: &[Case] = &[
     (Fold::Totals, None, 65, Err(Refusal::OutOfRange)),
 ];
 
-// Returns what a plan comes to, the second time if the first runs out of memory.
+// Returns the reply to a plan, from a second call if the first runs out of memory.
 fn plan_answer(alloc: Global, case: &Case) -> Result<(), Refusal> {
     match why_no_plan(alloc, case.0, case.1, case.2) {
         Err(Refusal::NoMemory) => why_no_plan(alloc, case.0, case.1, case.2),

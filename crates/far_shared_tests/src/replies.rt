@@ -70,7 +70,7 @@ pub fn waited(is_so: bool) -> Replied {
     }
 }
 
-// Returns what an answer's first line has.
+// Returns the values of an answer's first line.
 fn first_line(answer: &Answer) -> Reply {
     match answer {
         Answer::Totals(lines) => match lines.as_slice() {
@@ -91,7 +91,7 @@ fn is_key(key: &Option<Key>, letter: Letter) -> bool {
     }
 }
 
-// Returns how many rows an answer counts under a key.
+// Returns the number of rows that an answer counts under a key.
 fn count_under(answer: &Answer, letter: Letter) -> u64 {
     let Answer::Totals(lines) = answer else {
         return 0;
@@ -112,7 +112,7 @@ pub fn answered(answer: Result<Answer, Refusal>) -> Replied {
     }
 }
 
-// Returns the reply to a question to an aggregate by key: how many rows its answer counts under each of the two keys.
+// Returns the reply to a question to an aggregate by key: the number of rows that its answer counts under each of the two keys.
 pub fn answered_by_key(answer: Result<Answer, Refusal>) -> Replied {
     match answer {
         Ok(answer) => Ok(Reply::Pairs(

@@ -1,4 +1,4 @@
-// What a session does while others do theirs. What plays it knows the session by the replies to its calls.
+// The role of a session, played beside the others. The code that plays it knows the session only by the replies to its calls.
 use crate::editing::edit_by_turns;
 use crate::keyed::{ask_pairs, insert_pairs};
 use crate::scenes::{Duty, Left, NO_ROW, Replied, Step};
@@ -7,7 +7,7 @@ use crate::working::{read_beside, work_beside};
 use far_types::Refusal;
 use std::alloc::Global;
 
-// Returns what a session leaves that leaves no row. Refused with `OutOfRange` if its role does not come out.
+// Returns the rows that a session without rows leaves. Refused with `OutOfRange` if its role did not pass.
 pub fn left_if(is_right: Result<bool, Refusal>) -> Result<Left, Refusal> {
     match is_right {
         Ok(true) => Ok(NO_ROW),
@@ -16,7 +16,7 @@ pub fn left_if(is_right: Result<bool, Refusal>) -> Result<Left, Refusal> {
     }
 }
 
-// Returns what a session leaves on its home stripe. Refused with `OutOfRange` if its duty does not come out.
+// Returns the rows that a session leaves on its home stripe. Refused with `OutOfRange` if its duty did not pass.
 pub fn do_duty<M, F: Fn(&mut M, Step) -> Replied>(
     alloc: Global,
     call: &F,

@@ -1,28 +1,28 @@
-// What is played on a shared table, as data.
+// Scenes on a shared table, as data.
 use far_shared::Work;
 use far_types::{Name, Refusal};
 
 // A table that is made for a scene.
 #[derive(Clone, Copy)]
 pub enum Table {
-    // A column of numbers, whose gauge is their totals.
+    // An int column, whose gauge is the totals of its numbers.
     Numbers,
-    // The same, whose gauge is the totals of those above 0.
+    // An int column, whose gauge is the totals of its numbers above 0.
     NumbersAboveZero,
-    // A column of numbers and one of texts. The gauge is the totals of the numbers.
+    // An int column and a text column. The gauge is the totals of the numbers.
     NumbersWithTexts,
-    // A column of numbers in row groups of one place. Each stripe has space for two objects, and the store for four contents.
+    // An int column in row groups of one place. Each stripe has space for two objects, and the store for four contents.
     Narrow,
 }
 
-// What is done about puts into the store of a scene.
+// Which puts into the store of a scene are held.
 #[derive(Clone, Copy)]
 pub enum Gate {
-    // None is held.
+    // No put is held.
     Open,
-    // The first is held until it is released.
+    // The first put is held until it is released.
     Released,
-    // The first is held until a second begins.
+    // The first put is held until a second begins.
     Paired,
 }
 
@@ -46,27 +46,27 @@ impl Letter {
 // A list of works.
 #[derive(Clone, Copy)]
 pub enum Works {
-    // Each of two threads is given one stripe.
+    // Each of two threads gets the works of one stripe.
     Eight,
-    // One of each of the first two stripes.
+    // One work on each of the first two stripes.
     Two,
-    // The numbers of stripe 1 are brought back.
+    // The numbers of stripe 1 are fetched.
     Fetch,
     // The row groups of stripe 1 are scanned.
     Build,
-    // A fifth stripe, a column that is not there, and nothing to build.
+    // A fifth stripe, a column that does not exist, and nothing to build.
     Refused,
     // Two objects of each of the last two stripes.
     Last,
-    // The second row group of stripe 3 is brought back.
+    // The second row group of stripe 3 is fetched.
     FetchSecond,
     // A row group of each of the last two stripes is scanned.
     BuildLast,
-    // The texts of stripe 0 are brought back.
+    // The texts of stripe 0 are fetched.
     FetchTexts,
 }
 
-// One call of a session. It holds no reference: else what plays calls could not be kept apart from the table.
+// One call of a session. It holds no reference, so that the code that plays calls does not depend on the table.
 #[derive(Clone, Copy)]
 pub enum Step {
     // Reads the gauge of a stripe.
@@ -79,7 +79,7 @@ pub enum Step {
     Set(u32, u32, i64),
     // Removes a place of a stripe.
     Remove(u32, u32),
-    // Is lent the number of a stripe's first place.
+    // Borrows the number of a stripe's first place.
     Lend(u32),
     // Registers the extrema of the numbers on all stripes.
     Watch,
@@ -91,34 +91,34 @@ pub enum Step {
     Ask(u32),
     // Asks an aggregate by key over all stripes.
     AskByKey(u32),
-    // Sends the coldest object of a stripe away.
+    // Evicts the coldest object of a stripe.
     Evacuate(u32),
-    // Brings the numbers of a row group of a stripe back.
+    // Fetches the numbers of a row group of a stripe.
     Fetch(u32, u32),
     // Builds a row group that is pending on a stripe.
     Build(u32),
     // Begins a work, carries its job and ends it.
     InPhases(Work),
-    // Lets so many threads do these works.
+    // Lets this many threads do these works.
     Run(u32, Works),
-    // Waits until a put has come to the gate.
+    // Waits until a put is held at the gate.
     AwaitPut,
     // Opens the gate.
     OpenGate,
     // Sends a signal to the other sessions.
     Signal,
-    // Waits until so many signals were sent.
+    // Waits until this many signals were sent.
     Await(u64),
-    // Locks a stripe for reading, and unlocks it when so many signals were sent.
+    // Locks a stripe for reading, and unlocks it when this many signals were sent.
     Hold(u32, u64),
 }
 
 // The reply to a call.
 #[derive(Clone, Copy, PartialEq, Eq)]
 pub enum Reply {
-    // It is done.
+    // The call is done.
     Done,
-    // There was nothing to do, or it was waited in vain.
+    // There was nothing to do, or the call waited in vain.
     Nothing,
     // The number of an aggregate.
     Number(u32),
@@ -126,15 +126,15 @@ pub enum Reply {
     Applied(u64, u32),
     // The edits, the count and the sum that a gauge reads.
     Reading(u64, u64, i128),
-    // How many works were done, and how many refused.
+    // The number of works that were done, and the number that were refused.
     Worked(u64, u64),
-    // The object that was sent away.
+    // The object that was evicted.
     Object(Name),
-    // The number that was lent.
+    // The number that was borrowed.
     Lent(i64),
     // The count and the sum of an answer's first line.
     Totals(u64, i128),
-    // How many rows an answer counts under each key.
+    // The number of rows that an answer counts under each key.
     Pairs(u64, u64),
     // The least and the greatest value of an answer's first line.
     Extrema(i64, i64),
@@ -143,34 +143,34 @@ pub enum Reply {
 // The reply to a call, or why it is refused.
 pub type Replied = Result<Reply, Refusal>;
 
-// A call, and what is due.
+// A call, and its expected reply.
 pub type Line = (Step, Replied);
 
-// What a session does beside others.
+// The duty of a session, beside others.
 #[derive(Clone, Copy)]
 pub enum Duty {
-    // It makes so many edits that are drawn, on its home stripe.
+    // Makes this many random edits on its home stripe.
     Edits(u32),
-    // It moves objects, registers aggregates and builds them until so many sessions have ended, and then compares them.
+    // Moves objects, registers aggregates and builds them until this many sessions have ended, and then compares them.
     Works(u64),
-    // It reads the gauges until so many sessions have ended.
+    // Reads the gauges until this many sessions have ended.
     Reads(u64),
-    // It inserts rows of one key on stripe 0, each before one of another key on stripe 1, so often.
+    // Inserts rows of one key on stripe 0, each before one of another key on stripe 1, this many times.
     InsertsPairs(u32),
-    // It asks for the totals by key until the pairs are inserted.
+    // Asks for the totals by key until the pairs are inserted.
     AsksPairs(u32),
 }
 
-// What a session does in a scene.
+// The role of a session in a scene.
 #[derive(Clone, Copy)]
 pub enum Role {
-    // It makes these calls, one after another.
+    // Makes these calls, one after another.
     Plays(&'static [Line]),
-    // It has this duty.
+    // Has this duty.
     Does(Duty),
 }
 
-// What a session leaves on a stripe: how many places, and the count and the sum of those that its gauge folds.
+// The rows that a session leaves on a stripe: the number of places, and the count and the sum of those that its gauge folds.
 #[derive(Clone, Copy, PartialEq, Eq)]
 pub struct Left {
     pub places: u32,
@@ -216,7 +216,7 @@ pub const FIRST: Name = Name {
     group: 0,
 };
 
-// They are away.
+// The numbers of the first row group are away.
 pub const AWAY: Refusal = Refusal::Absent {
     column: 0,
     group: 0,
@@ -234,21 +234,21 @@ pub const TEXTS: Name = Name {
     group: 0,
 };
 
-// What the four stripes have at the end of a scene.
+// The expected rows of the four stripes at the end of a scene.
 #[derive(Clone, Copy)]
 pub enum End {
     // These rows.
     Leaves(&'static [Left; 4]),
-    // These rows, and so many aggregates, which have the first numbers.
+    // These rows, and this many aggregates, which have the first numbers.
     LeavesWatched(&'static [Left; 4], u32),
-    // What the first four sessions report that they left, one stripe each.
+    // The rows that the first four sessions report, one stripe each.
     LeavesReported,
 }
 
-// A scene: as many sessions as roles play on a table.
+// A scene: each of its roles is played by a session on a table.
 #[derive(Clone, Copy)]
 pub struct Scene {
-    // What it shows.
+    // A sentence that says what the scene shows.
     pub name: &'static str,
     pub table: Table,
     pub gate: Gate,

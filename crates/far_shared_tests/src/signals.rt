@@ -2,13 +2,13 @@
 use std::sync::atomic::{AtomicU64, Ordering};
 use std::thread;
 
-// For how many turns a session waits at most.
+// The number of turns that a session waits at most.
 const TURNS: u32 = 1_000_000;
 
-// So many signals are enough for all that wait.
+// This many signals are enough for all sessions that wait.
 const FOR_ALL: u64 = 1 << 32;
 
-// How many sessions have started, how many signals were sent, and how often an answer was asked for.
+// The numbers of sessions that have started, of signals that were sent, and of answers that were asked for.
 #[derive(Drop)]
 pub struct Signals {
     there: AtomicU64,
@@ -16,12 +16,12 @@ pub struct Signals {
     asked: AtomicU64,
 }
 
-// Returns what is counted so far.
+// Returns the count so far.
 fn count_of(counter: &AtomicU64) -> u64 {
     counter.load(Ordering::SeqCst)
 }
 
-// Waits until at least so much is counted. Returns whether it was.
+// Waits until the count is at least this high. Returns whether it was.
 fn reaches(counter: &AtomicU64, least: u64) -> bool {
     for _ in 0..TURNS {
         if count_of(counter) >= least {
@@ -41,8 +41,8 @@ impl Signals {
         }
     }
 
-    // Counts a session that has started, and waits until so many have. Returns whether they did: if a thread ran out of memory, some do
-    // not, or start when others have ended. These send enough signals for all, so that a late session waits for none of them.
+    // Counts a session that has started, and waits until this many have. Returns whether they did: if a thread ran out of memory,
+    // some do not, or start after others have ended. These send enough signals for all, so that a late session waits for none of them.
     pub fn gathers(&self, sessions: u64) -> bool {
         self.there.fetch_add(1, Ordering::SeqCst);
         let all = reaches(&self.there, sessions);
@@ -57,27 +57,27 @@ impl Signals {
         self.sent.fetch_add(1, Ordering::SeqCst);
     }
 
-    // Returns whether so many signals were sent.
+    // Returns whether this many signals were sent.
     pub fn was_sent(&self, times: u64) -> bool {
         count_of(&self.sent) >= times
     }
 
-    // Waits until so many signals were sent. Returns whether they were.
+    // Waits until this many signals were sent. Returns whether they were.
     pub fn awaits(&self, times: u64) -> bool {
         reaches(&self.sent, times)
     }
 
-    // Counts that an answer is asked for.
+    // Counts an answer that is asked for.
     pub fn ask(&self) {
         self.asked.fetch_add(1, Ordering::SeqCst);
     }
 
-    // Returns how often an answer was asked for.
+    // Returns how many answers were asked for.
     pub fn asked(&self) -> u64 {
         count_of(&self.asked)
     }
 
-    // Waits until an answer was asked for more than so often. Returns whether it was.
+    // Waits until more than this many answers were asked for. Returns whether they were.
     pub fn awaits_asking(&self, times: u64) -> bool {
         reaches(&self.asked, times.wrapping_add(1))
     }

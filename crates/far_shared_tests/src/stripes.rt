@@ -1,4 +1,4 @@
-// Scenes in which each of the four stripes is served: a call that names one finds it, and no other.
+// Scenes in which each of the four stripes is served: a call on a stripe finds only this one.
 use crate::opening::first_wrong;
 use crate::scenes::{
     AWAY, End, FIRST, Gate, NO_ROW, ROW_OF_5, ROW_OF_6, ROW_OF_7, ROW_OF_8, Reply, Role, Scene,
@@ -8,7 +8,7 @@ use far_shared::Work;
 use far_types::Refusal;
 
 static STRIPES: &[Scene] = &[
-    // Objects are sent away and brought back by single calls.
+    // Objects are evicted and fetched by single calls.
     Scene {
         name: "each_stripe_has_its_own_rows_and_objects",
         table: Table::Numbers,
@@ -47,7 +47,7 @@ static STRIPES: &[Scene] = &[
         ])],
         end: End::Leaves(&[ROW_OF_5, ROW_OF_6, ROW_OF_7, ROW_OF_8]),
     },
-    // The same by jobs that are begun, carried and ended.
+    // Objects are evicted and fetched by jobs that are begun, carried and ended.
     Scene {
         name: "a_job_ends_on_the_stripe_that_it_was_begun_on",
         table: Table::Numbers,

@@ -53,7 +53,7 @@ fn list_of(alloc: Global, works: &[Work]) -> Result<Vec<Work>, AllocError> {
     Ok(list)
 }
 
-// Lets so many threads do these works.
+// Lets this many threads do these works.
 pub fn run<
     N: PlanTag + Send + Sync,
     B: TableTag + Send + Sync,
@@ -94,7 +94,7 @@ static WORKS: &[Scene] = &[
         ])],
         end: End::Leaves(&[ROW_OF_5, ROW_OF_5, NO_ROW, NO_ROW]),
     },
-    // The put of the one worker is held until that of the other begins.
+    // The put of one worker is held until the put of the other begins.
     Scene {
         name: "two_workers_put_at_once",
         table: Table::Numbers,
@@ -108,7 +108,7 @@ static WORKS: &[Scene] = &[
         ])],
         end: End::Leaves(&[ROW_OF_5, ROW_OF_5, NO_ROW, NO_ROW]),
     },
-    // A fifth stripe, a column that is not there, and nothing to build.
+    // A fifth stripe, a column that does not exist, and nothing to build.
     Scene {
         name: "a_report_counts_what_was_refused",
         table: Table::Numbers,

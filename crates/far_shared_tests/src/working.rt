@@ -1,22 +1,22 @@
-// What is done beside sessions that edit: objects move, aggregates are registered and scanned, gauges are read.
+// Work beside sessions that edit: objects move, aggregates are registered and scanned, and gauges are read.
 use crate::scenes::{Replied, Reply, Step};
 use crate::signals::Signals;
 use far_shared::Work;
 use far_types::Refusal;
 use std::thread;
 
-// How many turns a session takes at most beside others.
+// The number of turns that a session takes at most beside others.
 const TURNS: u32 = 1_000_000_000;
 
-// How many steps a loop over all objects takes at most.
+// The number of steps that a loop over all objects takes at most.
 const STEPS: u32 = 1_000_000;
 
-// How many aggregates are registered beside the gauge, and after how many edits one more is.
+// The number of aggregates that are registered beside the gauge, and the number of edits between two registrations.
 const AGGREGATES: u32 = 4;
 
 const EDITS_BETWEEN: u64 = 2_000;
 
-// How many turns a worker has taken, and how many aggregates it has registered.
+// The numbers of turns that a worker has taken, and of aggregates that it has registered.
 #[derive(Clone, Copy)]
 struct Worked {
     turns: u32,
@@ -32,7 +32,7 @@ fn may_answer(reply: Replied) -> Result<(), Refusal> {
     }
 }
 
-// Returns how many edits a reading has.
+// Returns the number of edits of a reading.
 fn edits_in(reply: Replied) -> u64 {
     match reply {
         Ok(Reply::Reading(edits, _, _)) => edits,
@@ -40,18 +40,18 @@ fn edits_in(reply: Replied) -> u64 {
     }
 }
 
-// Returns whether a worker has taken its eight turns to each edit.
+// Returns whether a worker has taken its eight turns for each edit.
 fn is_ahead(worked: Worked, edits: u64) -> bool {
     u64::from(worked.turns) >= edits.saturating_mul(8)
 }
 
-// Returns whether one more aggregate is to be registered after so many edits.
+// Returns whether one more aggregate is to be registered after this many edits.
 fn is_due(worked: Worked, edits: u64) -> bool {
     worked.registered < AGGREGATES && edits / EDITS_BETWEEN > u64::from(worked.registered)
 }
 
-// What a worker does in a turn: it sends an object of a stripe away, and then builds a row group that is pending there, in turn as
-// `build_once` does and by the far store.
+// The work of one turn: evicts an object of a stripe, and then builds a row group that is pending there, in turn as `build_once` does
+// and in the far store.
 fn step_at(turn: u32) -> Step {
     let stripe = turn / 2 % 4;
     if turn % 2 == 0 {
@@ -63,7 +63,7 @@ fn step_at(turn: u32) -> Step {
     }
 }
 
-// What is done next.
+// The next work.
 fn next_step(worked: Worked, edits: u64) -> Step {
     if is_due(worked, edits) {
         Step::WatchTotals
@@ -72,7 +72,7 @@ fn next_step(worked: Worked, edits: u64) -> Step {
     }
 }
 
-// Returns what a worker has done after its next step, which got this reply.
+// Returns the counts of a worker after its next step, which got this reply.
 fn after(worked: Worked, edits: u64, reply: Replied) -> Result<Worked, Refusal> {
     let registers = u32::from(is_due(worked, edits));
     let next = Worked {
@@ -85,7 +85,7 @@ fn after(worked: Worked, edits: u64, reply: Replied) -> Result<Worked, Refusal> 
     }
 }
 
-// Works until so many sessions have ended. Gives how many aggregates it has registered.
+// Works until this many sessions have ended. Returns the number of aggregates that were registered.
 fn work_until<M, F: Fn(&mut M, Step) -> Replied>(
     call: &F,
     me: &mut M,
@@ -133,7 +133,7 @@ fn until_nothing<M, F: Fn(&mut M, Step) -> Replied>(
     Err(Refusal::OutOfRange)
 }
 
-// Sends all objects of each stripe away, and builds all that is left there by the far store.
+// Evicts all objects of each stripe, and builds all row groups that are pending there in the far store.
 static SETTLING: [Step; 8] = [
     Step::Evacuate(0),
     Step::InPhases(Work::Build(0)),
@@ -161,7 +161,7 @@ fn settle<M, F: Fn(&mut M, Step) -> Replied>(
     Ok(())
 }
 
-// Returns what is said if two replies differ: why the one is refused, or else the other.
+// Returns the reply that is reported if two replies differ: the refusal of the first, or else the second.
 fn differs(one: Replied, other: Replied) -> Result<bool, Refusal> {
     match (one, other) {
         (Err(refusal), _) => Err(refusal),
@@ -184,7 +184,7 @@ fn are_alike<M, F: Fn(&mut M, Step) -> Replied>(call: &F, me: &mut M) -> Result<
     Ok(gauge.is_ok())
 }
 
-// Registers what is left of the totals.
+// Registers the totals that are not registered yet.
 fn register_from<M, F: Fn(&mut M, Step) -> Replied>(
     call: &F,
     me: &mut M,
@@ -200,8 +200,8 @@ fn register_from<M, F: Fn(&mut M, Step) -> Replied>(
     Ok(())
 }
 
-// Registers what is left, sends all objects away, builds what is left by the far store, and says whether all totals are those of the
-// gauge.
+// Registers the remaining totals, evicts all objects, builds all pending row groups in the far store, and returns whether all totals are
+// those of the gauge.
 fn end_work<M, F: Fn(&mut M, Step) -> Replied>(
     call: &F,
     me: &mut M,
@@ -216,8 +216,8 @@ fn end_work<M, F: Fn(&mut M, Step) -> Replied>(
     }
 }
 
-// Moves objects, registers totals and builds them until so many sessions have ended. Then sends all objects away, builds what is left
-// by the far store, and says whether all totals are those of the gauge.
+// Moves objects, registers totals and builds them until this many sessions have ended. Then evicts all objects, builds all pending row
+// groups in the far store, and returns whether all totals are those of the gauge.
 pub fn work_beside<M, F: Fn(&mut M, Step) -> Replied>(
     call: &F,
     me: &mut M,
@@ -232,12 +232,12 @@ pub fn work_beside<M, F: Fn(&mut M, Step) -> Replied>(
     }
 }
 
-// Returns whether a reading comes after another of the same stripe, or is the same.
+// Returns whether a reading of a stripe is later than another, or the same.
 fn is_later(reading: Replied, before: Replied) -> bool {
     edits_in(reading) > edits_in(before) || reading == before
 }
 
-// Reads the gauges, one after the other, until so many sessions have ended. Says whether none went back.
+// Reads the gauges, one after another, until this many sessions have ended. Returns whether no reading went back.
 pub fn read_beside<M, F: Fn(&mut M, Step) -> Replied>(
     call: &F,
     me: &mut M,

@@ -1,4 +1,4 @@
--- What was printed of a script up to a fault.
+-- What is printed of a script up to a fault.
 use Rattle.std.proofs.Common.{◌≡◌, ◌≢◌, ◌+◌, ◌≤◌, ◌<◌, ℕ, ◌⊎◌, inl, inr, Bool, false, IsTrue, List, [], ◌++◌, length, length-append, append-nil, Option, Some, None, ◌∙◌, refl, ap, subst, arith}
 use Rattle.std.specs.Prelude.{IfSome, unwrap_or}
 use Rattle.std.proofs.KnownBytes.{Appends-nil}
@@ -19,7 +19,7 @@ use Rattle.far_shell.proofs.ScriptsLaws.{begins-then}
 use Rattle.far_shell.proofs.LineFaultsLaws.{Starting, first-or-later, not-begun}
 use Rattle.far_script.proofs.FlowStops.{gives-then}
 
--- a script of which nothing is printed
+-- if nothing is read, the whole script is left
 pub starts-none : (known : Option (List ℕ)) → IfSome known (λ script. script ≡ [] ++ unwrap_or known [])
 starts-none None = tt
 starts-none (Some xs) = refl
@@ -47,16 +47,16 @@ ends-by tickets unseen spent splits may_fail fault.Memory bytes rest text lost c
 ends-by tickets unseen spent splits may_fail fault.Turns bytes rest text lost cause begins h none = ((begins, h), none)
 
 module _ {R : Type 0} (read : Ghosts R) {S K : Type 0} (tickets : Tickets S K) (unseen : Type 0) where
-  -- how a script breaks off
+  -- the script ends early
   abbrev pub Breaking : Input R read → Input R read → Option (List ℕ) → Option (List ℕ) → List ℕ → ShellFault → Type 0
   Breaking first new a b left why = (bytes : List ℕ) × (rest : List ℕ) × (text : List ℕ) × Gives read why first new bytes rest × Prints a [] text b left × IsBroken tickets (λ _. unseen) (IsOver read new) why bytes rest text
 
-  -- before its first command was understood
+  -- the script ends before its first command is complete
   pub breaks-start : (old new : Input R read) (u w : Option (List ℕ)) (held left : List ℕ) (why : ShellFault) → held ≡ [] → Starting read unseen old new u w held left why → Breaking old new u w left why
   breaks-start old new u w held left why empty s =
       (s.0, s.1, s.2, s.3, subst (λ (z : List ℕ). Prints u z s.2 w left) empty s.4, broken-first tickets (λ _. unseen) (IsOver read new) why s.0 s.1 s.2 s.5)
 
-  -- behind its first command, which asks for a table
+  -- the script ends after its first command, which opens a table
   pub breaks-table : (old mid new : Input R read) (u v w : Option (List ℕ)) (held k left first line bytes rest text : List ℕ) (opened : Opened) (why : ShellFault)
       → held ≡ [] → Reads read old first mid → Prints u held [] v k → Begins first (IsAtEnd read mid) line → start_in line ≡ Some (Schema opened)
       → Gives read why mid new bytes rest → Prints v k text w left → BreaksServing tickets unseen (IsOver read new rest) opened why bytes rest text
@@ -89,28 +89,28 @@ module _ {R : Type 0} (read : Ghosts R) {S K : Type 0} (tickets : Tickets S K) (
     }),
   )
 
--- a script is broken off, and what was printed is written
+-- the script ends early, and what it printed is written
 pub breaks-written : {S K : Type 0} (tickets : Tickets S K) (unseen spent : List ℕ → Type 0) (splits : ShellFault → List ℕ → List ℕ → Type 0) (may_fail : Bool) (u v w : Option (List ℕ)) (why : ShellFault) (bytes rest text left : List ℕ) → (why ≡ fault.Output → IsTrue may_fail) → splits why bytes rest → Prints u [] text v left → IsBroken tickets unseen spent why bytes rest text
     → Prints v left [] w [] → Breaks tickets unseen spent splits may_fail u w why
 breaks-written tickets unseen spent splits may_fail u v w why bytes rest text left cause begins p b q =
     let all = prints-then-nothing u v w [] text left [] p q in
     record { bytes = bytes; rest = rest; text = text; sent = all.0; lost = []; written = all.1; said = all.2; ends = ends-by tickets unseen spent splits may_fail why bytes rest text [] cause begins b refl }
 
--- a script is broken off, and then a write fails
+-- the script ends early, and then a write fails
 pub breaks-unwritten : {S K : Type 0} (tickets : Tickets S K) (unseen spent : List ℕ → Type 0) (splits : ShellFault → List ℕ → List ℕ → Type 0) (may_fail : Bool) (u v w : Option (List ℕ)) (why : ShellFault) (bytes rest text left lost : List ℕ) → IsTrue may_fail → splits why bytes rest → Prints u [] text v left → IsBroken tickets unseen spent why bytes rest text
     → Prints v left [] w lost → Breaks tickets unseen spent splits may_fail u w fault.Output
 breaks-unwritten tickets unseen spent splits may_fail u v w why bytes rest text left lost cause split p b q =
     let all = prints-then-nothing u v w [] text left lost p q in
     record { bytes = bytes; rest = rest; text = text; sent = all.0; lost = lost; written = all.1; said = all.2; ends = (cause, inr (why, (split, b))) }
 
--- a script gets its replies, and then a write fails
+-- the script gets all its replies, and then a write fails
 pub whole-unwritten : {S K : Type 0} (tickets : Tickets S K) (unseen spent : List ℕ → Type 0) (splits : ShellFault → List ℕ → List ℕ → Type 0) (may_fail : Bool) (u v w : Option (List ℕ)) (script rest text left lost : List ℕ) → IsTrue may_fail → splits fault.Output script rest → Prints u [] text v left → IsAnswered tickets script (rest ≡ []) text → Prints v left [] w lost
     → Breaks tickets unseen spent splits may_fail u w fault.Output
 whole-unwritten tickets unseen spent splits may_fail u v w script rest text left lost cause begins p s q =
     let all = prints-then-nothing u v w [] text left lost p q in
     record { bytes = script; rest = rest; text = text; sent = all.0; lost = lost; written = all.1; said = all.2; ends = (cause, inl (begins, s)) }
 
--- what holds at each fault
+-- a fact holds for each fault
 pub always : (why : ShellFault) (P : Type 0) → P → IfInput why P
 always fault.BadStart P h = tt
 always fault.Input P h = h
@@ -143,7 +143,7 @@ module _ {S K : Type 0} (tickets : Tickets S K) (P Q A B : List ℕ → Type 0) 
   ends-as may_fail fault.Memory bytes rest text lost h = (split-as fault.Memory bytes rest text h.0, h.1)
   ends-as may_fail fault.Turns bytes rest text lost h = (split-as fault.Turns bytes rest text h.0, h.1)
 
-  -- the same in other words, and of another split
+  -- the script also ends early in weaker terms, and with another split of its bytes
   pub breaks-as : (may_fail : Bool) (u v : Option (List ℕ)) (why : ShellFault) → Breaks tickets P A splits may_fail u v why → Breaks tickets Q B others may_fail u v why
   breaks-as may_fail u v why b = record {
     bytes = b.bytes;
@@ -156,11 +156,11 @@ module _ {S K : Type 0} (tickets : Tickets S K) (P Q A B : List ℕ → Type 0) 
     ends = ends-as may_fail why b.bytes b.rest b.text b.lost b.ends;
   }
 
--- as many bytes came as reads are made
+-- once the reads are used up, at least 1,048,576 bytes came
 reads-made : (reads bytes reads_left bytes_left n held : ℕ) → reads ≡ 1048576 → held ≡ 0 → bytes_left + n ≡ bytes + held → reads + bytes_left ≤ bytes → 1048576 ≤ n
 reads-made reads bytes reads_left bytes_left n held many none counted past = omega (arith, many, none, counted, past)
 
--- or as many as a script may have
+-- once the bytes of a script are used up, at least 1,048,576 bytes came
 bytes-made : (bytes bytes_left n held : ℕ) → bytes ≡ 16777216 → held ≡ 0 → bytes_left + n ≡ bytes + held → bytes_left ≡ 0 → 1048576 ≤ n
 bytes-made bytes bytes_left n held many none counted past = omega (arith, many, none, counted, past)
 
@@ -171,7 +171,7 @@ cut-unfinished may_fail known reads bytes reads_left bytes_left held came many m
 cut-unfinished may_fail known reads bytes reads_left bytes_left held came many most none counted (inr (inr h)) = inr (bytes-made bytes bytes_left (length came) held most none counted h.0)
 
 module _ {R : Type 0} (read : Ghosts R) (may_fail : Type 0) where
-  -- no more came of a script of which nothing was read before
+  -- a new input that is not at its end came in at least 1,048,576 bytes, or its reader may fail
   pub unfinished : (input new : Input R read) (bytes : List ℕ) → input.source.reads ≡ 1048576 → input.source.bytes ≡ 16777216 → unread read input ≡ [] → Counts read input bytes new → IsUnseen read may_fail input new
       → IsUnfinished may_fail bytes
   unfinished input new bytes reads most none counts u =
@@ -181,18 +181,18 @@ short-unfinished : (script bytes rest : List ℕ) → length script < 1048576 �
 short-unfinished script bytes rest low split (inl h) = h
 short-unfinished script bytes rest low split (inr many) = omega (arith, low, many, ap (λ (t : List ℕ). length t) split, length-append bytes rest)
 
--- all bytes of a short script come
+-- a script shorter than 1,048,576 bytes comes whole
 pub short-whole : {S K : Type 0} (tickets : Tickets S K) (may_fail : Bool) (script : List ℕ) (u v : Option (List ℕ)) (why : ShellFault) → length script < 1048576 → Breaks tickets (IsUnfinished ⊥) (λ rest. rest ≡ []) (λ _ bytes rest. script ≡ bytes ++ rest) may_fail u v why
     → Breaks tickets (λ _. ⊥) (λ rest. rest ≡ []) (λ _ bytes rest. script ≡ bytes ++ rest) may_fail u v why
 short-whole tickets may_fail script u v why low b =
     breaks-as tickets (IsUnfinished ⊥) (λ _. ⊥) (λ rest. rest ≡ []) (λ rest. rest ≡ []) (λ _ bytes rest. script ≡ bytes ++ rest) (λ _ bytes rest. script ≡ bytes ++ rest)
     (λ at bytes rest split. always at (IsUnfinished ⊥ bytes → ⊥) (λ unfinished. short-unfinished script bytes rest low split unfinished)) (λ rest none. none) (λ at bytes rest split. split) may_fail u v why b
 
--- nothing was read
+-- memory runs out before anything is read
 pub breaks-none : {S K : Type 0} (tickets : Tickets S K) (unseen spent : List ℕ → Type 0) (may_fail : Bool) (known u : Option (List ℕ)) → Breaks tickets unseen spent (λ why bytes rest. IfSome known (λ script. script ≡ bytes ++ rest)) may_fail u u fault.Memory
 breaks-none tickets unseen spent may_fail known u =
     record { bytes = []; rest = unwrap_or known []; text = []; sent = []; lost = []; written = Appends-nil u; said = refl; ends = ((starts-none known, inl (refl, inl ([], refl))), refl) }
 
--- a writer that never fails is not at fault
+-- a script does not end early because of a writer that never fails
 pub sure-writer : {S K : Type 0} (tickets : Tickets S K) (unseen spent : List ℕ → Type 0) (splits : ShellFault → List ℕ → List ℕ → Type 0) (u v : Option (List ℕ)) (why : ShellFault) → Breaks tickets unseen spent splits false u v why → why ≢ fault.Output
 sure-writer tickets unseen spent splits u v why b is = cc ((subst (λ (z : ShellFault). EndsBy tickets unseen spent splits false z b.bytes b.rest b.text b.lost) is b.ends).0)

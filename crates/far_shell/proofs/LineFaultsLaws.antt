@@ -1,4 +1,4 @@
--- What was printed up to a fault.
+-- What is printed up to a fault in a line.
 use Rattle.std.proofs.Common.{◌≡◌, ◌==◌, ◌≤◌, ℕ, false, ◌⊎◌, inl, inr, List, [], ◌∷◌, ◌++◌, Option, append_assoc, append-nil, ◌∙◌, refl, sym, ap, subst}
 use Rattle.std.specs.Prelude.{IsUtf8, codes}
 use Rattle.std.specs.List.{list_any}
@@ -22,7 +22,7 @@ use Rattle.far_script.proofs.FlowLaws.{no-first, no-rest, prints, prints-then, p
 use Rattle.far_shell.proofs.ScriptsLaws.{begins-then, either}
 use Rattle.far_script.proofs.FlowStops.{coming, counts-then, if-input, in-halted, leaves-same, short-later, spent-rest, starts, starts-then, stops-here, stops-more, stops-then}
 
--- a first line is rejected by no such fault
+-- a first line is not rejected because of the input
 pub rejected-input : (why : ShellFault) (says : List ℕ → Type 0) (text : List ℕ) (P : Type 0) → Rejection why says text → IfInput why P
 rejected-input fault.BadStart says text P h = tt
 rejected-input fault.Input says text P h = absurd h
@@ -31,14 +31,14 @@ rejected-input fault.Memory says text P h = tt
 rejected-input fault.Turns says text P h = absurd h
 
 module _ {R : Type 0} (read : Ghosts R) where
-  -- a whole line came, and is at fault with what came behind it
+  -- a whole line came, and it or what follows it is invalid
   stops-line : (before mid new : Input R read) (raw line : List ℕ) (unseen : Type 0) (fails : List ℕ → List ℕ → List ℕ → Type 0) → IsOneLine raw → line ≡ strip_last 13 raw → Reads read before (raw ++ 10 ∷ []) mid
       → Stops read (λ behind rest. fails rest line behind) mid new → Stops read (λ bytes rest. HasNoTurn unseen (IsOver read new rest) (fails rest) bytes) before new
   stops-line before mid new raw line unseen fails one stripped p s =
       stops-then read before mid new (raw ++ 10 ∷ []) (λ behind rest. fails rest line behind) (λ bytes rest. HasNoTurn unseen (IsOver read new rest) (fails rest) bytes) p
       (λ behind rest h. inr (raw, behind, one, append_assoc raw (10 ∷ []) behind, subst (λ (z : List ℕ). fails rest z behind) stripped h)) s
 
-  -- the last one came
+  -- the last line came, and it or what follows it is invalid
   stops-last : (before mid new : Input R read) (line : List ℕ) (unseen : Type 0) (fails : List ℕ → List ℕ → List ℕ → Type 0) → IsOneLine line → Reads read before line mid → IsAtEnd read mid
       → Stops read (λ behind rest. fails rest line behind) mid new → Stops read (λ bytes rest. HasNoTurn unseen (IsOver read new rest) (fails rest) bytes) before new
   stops-last before mid new line unseen fails one p spent s =
@@ -48,7 +48,7 @@ module _ {R : Type 0} (read : Ghosts R) where
       (λ behind rest h. subst (λ (z : List ℕ). HasNoTurn unseen (IsOver read new rest) (fails rest) z) (sym (ap (λ (z : List ℕ). line ++ z) h.0 ∙ append-nil line)) (inl (one, inr (h.1, subst (λ (z : List ℕ). fails rest line z) h.0 h.2))))
       (s.0, s.1, s.2, s.3, (none, over, s.4))
 
-  -- a line that came is no text
+  -- a line that came is not valid UTF-8
   pub no-text-line : (before mid : Input R read) (raw line : List ℕ) (unseen : Type 0) → list_any (λ x. x == 10) raw ≡ false → line ≡ strip_last 13 raw → Reads read before (raw ++ 10 ∷ []) mid → (IsUtf8 line → ⊥)
       → Stops read (λ bytes rest. HasNoTurn unseen (IsOver read mid rest) (λ line behind. ¬ (IsUtf8 line)) bytes) before mid
   no-text-line before mid raw line unseen one stripped p h = stops-line before mid mid raw line unseen (λ rest line behind. ¬ (IsUtf8 line)) one stripped p (stops-here read mid mid (λ behind rest. ¬ (IsUtf8 line)) refl (λ e. e) (leaves-same _ _) h)
@@ -57,7 +57,7 @@ module _ {R : Type 0} (read : Ghosts R) where
       → Stops read (λ bytes rest. HasNoTurn unseen (IsOver read mid rest) (λ line behind. ¬ (IsUtf8 line)) bytes) before mid
   no-text-last before mid line unseen one p spent h = stops-last before mid mid line unseen (λ rest line behind. ¬ (IsUtf8 line)) one p spent (stops-here read mid mid (λ behind rest. ¬ (IsUtf8 line)) refl (λ e. e) (leaves-same _ _) h)
 
-  -- no whole line came, since the end was not seen
+  -- no whole line came, and the end was not seen
   pub no-line : (why : ShellFault) (unseen : Type 0) (before new : Input R read) → IfInput why unseen → IfInput why (Stops read (λ bytes rest. IsOneLine bytes) before new)
       → IfInput why (Stops read (λ bytes rest. HasNoTurn unseen (IsOver read new rest) (λ line behind. ¬ (IsUtf8 line)) bytes) before new)
   no-line fault.BadStart unseen before new u h = tt
@@ -75,7 +75,7 @@ module _ {R : Type 0} (read : Ghosts R) {S K : Type 0} (tickets : Tickets S K) (
   abbrev pub Short : Input R read → List ℕ → Type 0
   Short new rest = IsOver read new rest ⊎ unseen
 
-  -- how the lines of a script break off
+  -- the lines of a script end early
   abbrev pub Ending : Input R read → Input R read → Option (List ℕ) → Option (List ℕ) → List ℕ → List ℕ → At K → ShellFault → Type 0
   Ending first new a b h k old why = (all : List ℕ) × (rest : List ℕ) × (said : List ℕ) × Gives read why first new all rest × Prints a h said b k × BreaksOff tickets unseen (IsOver read new rest) old why all rest said
 
@@ -90,7 +90,7 @@ module _ {R : Type 0} (read : Ghosts R) {S K : Type 0} (tickets : Tickets S K) (
     record { before = bytes; printed = text; mid = at; answered = r; next = []; front = []; cut = cut; whole = sym (append-nil bytes); said = sym (append-nil text) },
   )
 
-  -- no whole turn came behind
+  -- no whole turn follows
   stopped : (first after new : Input R read) (a b : Option (List ℕ)) (h k : List ℕ) (old at : At K) (bytes text : List ℕ)
       → Reads read first bytes after → Prints a h text b k → AnswersLines tickets old bytes text at → Stops read (λ bytes rest. HasNoTurn unseen (IsOver read new rest) (Fails (Short new rest) at.world.state.table.schema) bytes) after new → Ending first new a b h k old fault.Input
   stopped first after new a b h k old at bytes text p q r s = (
@@ -102,7 +102,7 @@ module _ {R : Type 0} (read : Ghosts R) {S K : Type 0} (tickets : Tickets S K) (
     record { before = bytes; printed = text; mid = at; answered = r; next = s.0; front = []; cut = (refl, s.4); whole = refl; said = sym (append-nil text) },
   )
 
-  -- a script breaks off between two lines
+  -- the script ends between two lines
   pub breaks-between : (first after new : Input R read) (a b : Option (List ℕ)) (h k : List ℕ) (old at : At K) (bytes text : List ℕ) (why : ShellFault) → (why ≡ fault.BadStart → ⊥) → (why ≡ fault.Turns → ⊥)
       → Reads read first bytes after → Prints a h text b k → AnswersLines tickets old bytes text at → IfInput why unseen → IfInput why (Stops read (λ bytes rest. IsOneLine bytes) after new) → IfHalted why (Reads read after [] new) → Ending first new a b h k old why
   breaks-between first after new a b h k old at bytes text fault.BadStart other distinct p q r u s kept = absurd (other refl)
@@ -113,7 +113,7 @@ module _ {R : Type 0} (read : Ghosts R) {S K : Type 0} (tickets : Tickets S K) (
       between first after new a b h k old at bytes text fault.Memory tt (subst (λ (z : List ℕ). Reads read first z new) (append-nil bytes) (reads-then read first after new bytes [] p kept)) (inl (refl, refl)) p q r
   breaks-between first after new a b h k old at bytes text fault.Turns other distinct p q r u s kept = absurd (distinct refl)
 
-  -- within a turn, of which this was taken
+  -- the script ends within a turn whose bytes are `next`
   within-turn : (first before new : Input R read) (a b c d : Option (List ℕ)) (h k l m : List ℕ) (old at : At K) (next bytes text front : List ℕ) (why : ShellFault)
       → IfInput why (Counts read first (bytes ++ next) new) → BreaksIn unseen (IsOver read new (coming read new)) why at next (coming read new) front
       → Reads read first bytes before → Prints a h text b k → AnswersLines tickets old bytes text at → Reads read before next new → Prints b k [] c l → Prints c l front d m → Ending first new a d h m old why
@@ -127,7 +127,7 @@ module _ {R : Type 0} (read : Ghosts R) {S K : Type 0} (tickets : Tickets S K) (
         record { before = bytes; printed = text; mid = at; answered = r; next = next; front = front; cut = cut; whole = refl; said = refl },
       )
 
-  -- within the answer to a line
+  -- the script ends within the reply to a line
   pub breaks-line : (first before mid new : Input R read) (a b c d : Option (List ℕ)) (h k l m : List ℕ) (old at : At K) (line raw bytes text : List ℕ) (why : ShellFault)
       → Reads read first bytes before → Prints a h text b k → AnswersLines tickets old bytes text at
       → list_any (λ x. x == 10) raw ≡ false → line ≡ strip_last 13 raw → Reads read before (raw ++ 10 ∷ []) mid → Prints b k [] c l
@@ -146,7 +146,7 @@ module _ {R : Type 0} (read : Ghosts R) {S K : Type 0} (tickets : Tickets S K) (
       (subst (λ (z : List ℕ). Reads read before z new) (append_assoc raw (10 ∷ []) w.0) (reads-then read before mid new (raw ++ 10 ∷ []) w.0 s w.1)) t u.1
   breaks-line first before mid new a b c d h k l m old at line raw bytes text fault.Turns p q r one stripped s t u v w = absurd u.2
 
-  -- within the answer to the last line
+  -- the script ends within the reply to the last line
   pub breaks-last : (first before mid new : Input R read) (a b c d : Option (List ℕ)) (h k l m : List ℕ) (old at : At K) (line bytes text : List ℕ) (why : ShellFault)
       → Reads read first bytes before → Prints a h text b k → AnswersLines tickets old bytes text at
       → list_any (λ x. x == 10) line ≡ false → Reads read before line mid → IsAtEnd read mid → Prints b k [] c l
@@ -169,7 +169,7 @@ module _ {R : Type 0} (read : Ghosts R) {S K : Type 0} (tickets : Tickets S K) (
   breaks-last first before mid new a b c d h k l m old at line bytes text fault.Turns p q r one s spent t u v w = absurd u.2
 
 module _ {R : Type 0} (read : Ghosts R) {S K : Type 0} (tickets : Tickets S K) (unseen : Type 0) where
-  -- how a script breaks off behind a first command that asks for a table
+  -- a script ends early whose first command opens a table
   abbrev pub Serving : Input R read → Input R read → Option (List ℕ) → Option (List ℕ) → List ℕ → List ℕ → Opened → ShellFault → Type 0
   Serving first new a b h k opened why = (bytes : List ℕ) × (rest : List ℕ) × (text : List ℕ) × Gives read why first new bytes rest × Prints a h text b k × BreaksServing tickets unseen (IsOver read new rest) opened why bytes rest text
 
@@ -184,14 +184,14 @@ module _ {R : Type 0} (read : Ghosts R) {S K : Type 0} (tickets : Tickets S K) (
     inl (refl, h),
   )
 
-  -- its lines break off
+  -- the table is opened, and its lines end early
   pub breaks-lines : (old new : Input R read) (u w : Option (List ℕ)) (held k left bytes rest text : List ℕ) (opened : Opened) (at : At K) (why : ShellFault)
       → k ≡ held ++ codes "ok\n" → IsNew tickets opened at → Gives read why old new bytes rest → Prints u k text w left → BreaksOff tickets unseen (IsOver read new rest) at why bytes rest text
       → Serving old new u w held left opened why
   breaks-lines old new u w held k left bytes rest text opened at why e fresh g q b =
       (bytes, rest, codes "ok\n" ++ text, g, prints-then u u w held (codes "ok\n") k text left (prints u held (codes "ok\n") k e) q, inr (at, text, fresh, b, refl))
 
--- a first command is at fault
+-- the first command is invalid
 pub not-begun : (unseen spent : Type 0) (why : ShellFault) (says : List ℕ → Type 0) (bytes rest text : List ℕ) → Rejection why says text → (says text → Rejects bytes (rest ≡ []) text) → IsAtStart bytes (rest ≡ []) → HasNotBegun unseen spent why bytes rest text
 not-begun unseen spent fault.BadStart says bytes rest text h f starting = f h
 not-begun unseen spent fault.Input says bytes rest text h f starting = absurd h
@@ -200,7 +200,7 @@ not-begun unseen spent fault.Memory says bytes rest text h f starting = (h, star
 not-begun unseen spent fault.Turns says bytes rest text h f starting = absurd h
 
 module _ {R : Type 0} (read : Ghosts R) (unseen : Type 0) where
-  -- how the first command of a script breaks off
+  -- the first command of a script ends early
   abbrev pub Starting : Input R read → Input R read → Option (List ℕ) → Option (List ℕ) → List ℕ → List ℕ → ShellFault → Type 0
   Starting first new a b h k why = (bytes : List ℕ) × (rest : List ℕ) × (text : List ℕ) × Gives read why first new bytes rest × Prints a h text b k × HasNotBegun unseen (IsOver read new rest) why bytes rest text
 
@@ -224,7 +224,7 @@ module _ {R : Type 0} (read : Ghosts R) (unseen : Type 0) where
       (blank, coming read new, [], (starts read first new blank taken, tt, taken), q, (refl, inl (blanks, empty)))
   breaks-first first before new a b h k blank blanks fault.Turns other distinct p empty q s kept = absurd (distinct refl)
 
-  -- the first command is no first line
+  -- the first command is not a first line
   pub rejects-first : (old mid : Input R read) (u w : Option (List ℕ)) (held l left first line text : List ℕ) (why : ShellFault)
       → Reads read old first mid → Begins first (IsAtEnd read mid) line → Prints u held [] w l → left ≡ l ++ text → Rejection why (IsUnknown line) text
       → Starting old mid u w held left why
@@ -240,7 +240,7 @@ module _ {R : Type 0} (read : Ghosts R) (unseen : Type 0) where
         ),
   )
 
-  -- or there is none
+  -- the script has no first command
   pub rejects-none : (old before mid : Input R read) (u v w : Option (List ℕ)) (held k l bytes line : List ℕ) (blanks : List (List ℕ))
       → Reads read old bytes before → Prints u held [] v k → Blank bytes blanks → line ≡ [] → Reads read before line mid → Prints v k [] w l → IsAtEnd read mid
       → Starting old mid u w held l fault.BadStart
@@ -257,7 +257,7 @@ module _ {R : Type 0} (read : Ghosts R) (unseen : Type 0) where
     inr ((blanks, b, spent-rest read mid spent), refl),
   )
 
--- why no more came, in other words
+-- weaker reasons why no more bytes came
 fails-as : (A B : Type 0) (kinds : List Kind) (line behind : List ℕ) → (A → B) → Fails A kinds line behind → Fails B kinds line behind
 fails-as A B kinds line behind f (inl h) = inl h
 fails-as A B kinds line behind f (inr h) = inr (h.0, h.1, either (λ low. (low.0, f low.1)) (λ u. u) h.2)
@@ -299,7 +299,7 @@ module _ {S K : Type 0} (tickets : Tickets S K) (P Q A B : Type 0) where
     said = b.said;
   }
 
-  -- the same of a table that may not be opened
+  -- a script whose first command opens a table ends early for weaker reasons
   pub breaks-serving-as : (opened : Opened) (why : ShellFault) (bytes rest text : List ℕ) → IfInput why (P → Q) → (A → B) → BreaksServing tickets P A opened why bytes rest text → BreaksServing tickets Q B opened why bytes rest text
   breaks-serving-as opened why bytes rest text f s (inl h) = inl h
   breaks-serving-as opened why bytes rest text f s (inr h) = inr (h.0, h.1, h.2, breaks-off-as h.0 why bytes rest h.1 f s h.3, h.4)
@@ -308,13 +308,13 @@ module _ {S K : Type 0} (tickets : Tickets S K) (P Q A B : Type 0) where
   later-as why bytes rest text f s b =
       record { first = b.first; at = b.at; more = b.more; tail = b.tail; opens = b.opens; breaks = breaks-off-as b.at why b.more rest b.tail f s b.breaks; whole = b.whole; said = b.said }
 
-  -- before or behind the first command
+  -- a script ends before or after its first command for weaker reasons
   pub first-or-later : (why : ShellFault) (bytes rest text : List ℕ) → IfInput why (P → Q) → (A → B) → HasNotBegun P A why bytes rest text ⊎ BreaksLater tickets P A why bytes rest text
       → HasNotBegun Q B why bytes rest text ⊎ BreaksLater tickets Q B why bytes rest text
   first-or-later why bytes rest text f s h = either (λ x. not-begun-as P Q A B why bytes rest text f s x) (λ x. later-as why bytes rest text f s x) h
 
 module _ {R : Type 0} (read : Ghosts R) (may_fail : Type 0) where
-  -- why a load lacks bytes, also counted from an earlier read
+  -- why a load lacks bytes, counted from an earlier read
   pub if-short : (why : ShellFault) (old mid new : Input R read) (bytes : List ℕ) → Reads read old bytes mid → mid.source.reads ≤ old.source.reads → (kinds : List Kind) (line : List ℕ)
       → IfInput why (Stops read (λ behind rest. Fails (IsShort read may_fail mid new rest) kinds line behind) mid new) → IfInput why (Stops read (λ behind rest. Fails (IsShort read may_fail old new rest) kinds line behind) mid new)
   if-short why old mid new bytes p low kinds line h =

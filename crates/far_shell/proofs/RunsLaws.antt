@@ -1,4 +1,4 @@
--- Runs that have ended, and the histories of the table that they closed.
+-- Runs that have ended, and the histories of the tables that they closed.
 use Rattle.std.proofs.Common.{◌≡◌, ℕ, zero, suc, ◌<◌, ◌≤◌, ◌%◌, List, [], ◌∷◌, ◌++◌, Option, Result, Some, length, slice_get, IfOk, IfErr, IfSome, IsOk, refl, sym, ap, ◌∙◌, subst, arith}
 use Rattle.std.specs.Prelude.{IsOkAnd, option_map}
 use Rattle.std.proofs.lemmas.Option.{slice_get_within}
@@ -21,7 +21,7 @@ use Rattle.far_shell.proofs.RunsGauge.{all-one, gauge-of-inserts}
 use Rattle.far_shell.proofs.HistoriesOneSession.{AreBy, by-others, seen-at, seen-own}
 use Rattle.far_shell.proofs.RunsTotals.{total-is}
 
--- an index below the length has an element
+-- a list has an element at each index below its length
 there : {X : Type 0} (xs : List X) (i : ℕ) → i < length xs → (x : X) × (slice_get xs i ≡ Some x)
 there [] i low = absurd (omega arith)
 there (x ∷ xs) zero low = (x, refl)
@@ -34,11 +34,11 @@ module _ (p : Planned) (n : ℕ) (sessions : List Known) (readings : List Readin
   gauged-there : (s : ℕ) (me : Known) → s < p.sessions → slice_get sessions s ≡ Some me → (reading : Reading) × IsGauged p s n me reading
   gauged-there s me low is = (let r = there readings s (omega (arith, all.returned)) in (r.0, all.each s me r.0 is r.1))
 
-  -- all sessions of the plan are there
+  -- the readings are of all sessions of the plan
   pub gauged-whole : IsWhole p.sessions sessions
   gauged-whole s low = (let me = session-at s low in (s, me.0, me.1, (gauged-there s me.0 low me.1).1.number))
 
-  -- the history of a stripe has just what its sessions made there
+  -- the history of a stripe has exactly the inserts of the sessions with this home
   history-of : (k : ℕ) (log : List Entry) → k < 4 → IsLegal p log → IsSettled p.sessions k log sessions → IsHistory p n k log
   history-of k log low legal settled =
       let made : (s : ℕ) (below : s < p.sessions) → by_session s log ≡ (at (session-at s below).0 k).mine = λ s below.
@@ -58,7 +58,7 @@ module _ (p : Planned) (n : ℕ) (sessions : List Known) (readings : List Readin
   own-home : (s : ℕ) (log : List Entry) → p.sessions ≤ 4 → s < p.sessions → IsHistory p n (s % 4) log → AreBy s log
   own-home s log few low is = by-others p.sessions s log is.below (λ t below other. is.away t below (λ same. other (omega (arith, low, below, few, same))))
 
-  -- so each gauge has read just what its session inserted
+  -- so each gauge read exactly what its session inserted
   read-own : (s : ℕ) (me : Known) (reading : Reading) (log : List Entry) → HasHomes p → IsLegal p log → IsSettled p.sessions (s % 4) log sessions → slice_get sessions s ≡ Some me → slice_get readings s ≡ Some reading → reading ≡ all_of n
   read-own s me reading log homes legal settled is returned =
       let gauged : IsGauged p s n me reading = all.each s me reading is returned in
@@ -69,7 +69,7 @@ module _ (p : Planned) (n : ℕ) (sessions : List Known) (readings : List Readin
 
 -- ---- the closed tables
 module _ (p : Planned) (n : ℕ) (sessions : List Known) (t0 t1 t2 t3 : Table) (c0 : IsClosed p 0 sessions t0) (c1 : IsClosed p 1 sessions t1) (c2 : IsClosed p 2 sessions t2) (c3 : IsClosed p 3 sessions t3) where
-  -- the history of a stripe
+  -- the history of closed stripe k
   abbrev Closed : ℕ → Type 0
   Closed k = (log : List Entry) × IsLegal p log × IsSettled p.sessions k log sessions
 
@@ -80,7 +80,7 @@ module _ (p : Planned) (n : ℕ) (sessions : List Known) (t0 t1 t2 t3 : Table) (
   closed-at (suc (suc (suc zero))) low = (c3.log, c3.legal, c3.settled)
   closed-at (suc (suc (suc (suc k)))) low = absurd (omega (arith, low))
 
-  -- what the gauge answers over them, by their histories
+  -- the answer of the gauge over the closed tables, in terms of their histories
   answer-by-histories : (answer : Answer) → IfSome (spec_at t0 0) (λ (spec : Spec). answer ≡ answer_over spec (all_rows t0 t1 t2 t3))
       → answer ≡ answer_over p.gauge (all_rows (replay p c0.log) (replay p c1.log) (replay p c2.log) (replay p c3.log))
   answer-by-histories answer returned =
@@ -89,7 +89,7 @@ module _ (p : Planned) (n : ℕ) (sessions : List Known) (t0 t1 t2 t3 : Table) (
       over
       ∙ ap (answer_over p.gauge) (λ i. rows_of (c0.stripe.places i) ++ (rows_of (c1.stripe.places i) ++ (rows_of (c2.stripe.places i) ++ rows_of (c3.stripe.places i))))
 
-  -- what sessions leave, if the closed tables answer so too
+  -- the outcome of the sessions is that of a run, if the closed tables answer so
   pub run-of : (o : Outcome) → HasHomes p → AreLeft p n sessions o → IfSome (spec_at t0 0) (λ (spec : Spec). o.answer ≡ answer_over spec (all_rows t0 t1 t2 t3)) → IsRun p n o
   run-of o homes left returned =
       let gauged : AreGauged p n sessions o.gauges.items = left.gauged in
@@ -109,12 +109,12 @@ module _ (p : Planned) (n : ℕ) (sessions : List Known) (t0 t1 t2 t3 : Table) (
       }
 
 -- ---- results
--- what cannot be refused was accepted
+-- a result that cannot be an error is accepted
 pub is-accepted : {A E : Type 0} (r : Result A E) (D : E → Type 0) → IfErr r D → ((e : E) → D e → ⊥) → IsOk r
 is-accepted (Ok x) D err never = refl
 is-accepted (Err e) D err never = absurd (never e err)
 
--- what holds of it holds of what was taken out
+-- a property of an accepted value is a property of what was taken out
 pub of-accepted : {A E : Type 0} (r : Result A E) (y : A) (C : A → Type 0) → IsOkAnd r (λ x. x ≡ y) → IfOk r C → C y
 of-accepted (Ok x) y C is holds = subst C is holds
 of-accepted (Err e) y C is holds = absurd is

@@ -1,4 +1,4 @@
--- What the gauge answers over four stripes whose histories are inserts alone.
+-- The answer of the gauge over four stripes whose histories consist of inserts.
 use Rattle.std.proofs.Common.{◌≡◌, inl, inr, ℕ, zero, suc, ◌+◌, ◌*◌, ◌<◌, ◌≤◌, ◌%◌, ℤ, pos, List, [], ◌∷◌, ◌++◌, map, length, replicate, None, refl, sym, ap, ◌∙◌, arith, not-suc-le-zero}
 use Rattle.std.specs.Prelude.{Option}
 use Rattle.std.specs.FinMap as fin
@@ -21,7 +21,7 @@ use Rattle.far_shell.proofs.RunsGauge.{insert-places, one_place, count_sum-of-on
 use Rattle.far_shell.proofs.HistoriesOneSession.{AreBy, by-none, by-one, by-others}
 
 -- ---- the rows of a stripe
--- how many rows of n for each session are at home on stripe k, if each session has a stripe of its own
+-- the number of rows on stripe k, if each session has a stripe of its own and inserts n rows there
 abbrev share : ℕ → ℕ → ℕ → ℕ
 share zero k n = 0
 share (suc m) zero n = n
@@ -37,7 +37,7 @@ share-out zero k n past = refl
 share-out (suc m) zero n past = absurd (omega (arith, past))
 share-out (suc m) (suc k) n past = share-out m k n (omega (arith, past))
 
--- together they are all rows
+-- the shares of the four stripes are all rows
 all-shares : (m n : ℕ) → m ≤ 4 → share m 0 n + (share m 1 n + (share m 2 n + share m 3 n)) ≡ m * n
 all-shares zero n few = omega arith
 all-shares (suc zero) n few = omega arith
@@ -47,7 +47,7 @@ all-shares (suc (suc (suc (suc zero)))) n few = omega arith
 all-shares (suc (suc (suc (suc (suc m))))) n few = absurd (omega (arith, few))
 
 module _ (p : Planned) (n : ℕ) (few : p.sessions ≤ 4) (k : ℕ) (log : List Entry) (is : IsHistory p n k log) (low : k < 4) where
-  -- the home of a session that is another
+  -- a session below 4 whose home is stripe k is session k
   at-home : (t : ℕ) → t < p.sessions → t % 4 ≡ k → t ≡ k
   at-home t below same = omega (arith, below, same, few)
 
@@ -59,7 +59,7 @@ module _ (p : Planned) (n : ℕ) (few : p.sessions ≤ 4) (k : ℕ) (log : List 
   no-inserts : p.sessions ≤ k → log ≡ []
   no-inserts past = by-none p.sessions log is.below (λ t below. is.away t below (λ same. let e = at-home t below same in absurd (omega (arith, e, below, past))))
 
-  -- a stripe has the inserts of its own session, if there is one
+  -- a stripe has the inserts of its own session, if it has one
   log-is : log ≡ inserts k (share p.sessions k n)
   log-is = elim (cases_lt k p.sessions) [
     | inl here ↦ own-inserts here ∙ ap (inserts k) (sym (share-in p.sessions k n here))
@@ -82,7 +82,7 @@ four-parts a b c d x =
     ap (λ l. replicate a x ++ l) (ap (λ l. replicate b x ++ l) (replicate-append-replicate c d x) ∙ replicate-append-replicate b (c + d) x)
     ∙ replicate-append-replicate a (b + (c + d)) x
 
--- ---- their answer
+-- ---- the answer over the stripes
 abbrev one_pair : Pair
 one_pair = (None, pos 1)
 
@@ -102,7 +102,7 @@ no-length : {A : Type 0} (xs : List A) → length xs ≡ 0 → xs ≡ []
 no-length [] is = refl
 no-length (x ∷ xs) is = cc
 
--- under one key stands one line, however often it comes
+-- many pairs under one key make one line
 no-entry : (V : Type 0) → fin.entries (fin.from_entries {K = Option Key} {X = V} {R = line_cmp} []) ≡ []
 no-entry V = no-length _ (sym (fin.len-entries (fin.empty {X = V} {R = line_cmp})) ∙ fin.len-empty line_cmp V)
 
@@ -124,7 +124,7 @@ lines-of-ones (suc m) =
 answer-of-ones : (m : ℕ) → answer_over sum_of_rows (replicate m row_of_one) ≡ total_of m
 answer-of-ones m = ap (λ (pairs : List Pair). answer.Totals (or_zero None (total_lines (totals pairs)))) (pairs-of-ones m) ∙ ap answer.Totals (lines-of-ones m)
 
--- the gauge counts the rows of all sessions, and no other
+-- the gauge counts exactly the rows of all sessions
 pub total-is : (p : Planned) (n : ℕ) (zeroth first second third : List Entry) → p.sessions ≤ 4 → p.gauge ≡ sum_of_rows
     → IsHistory p n 0 zeroth → IsHistory p n 1 first → IsHistory p n 2 second → IsHistory p n 3 third
     → answer_over p.gauge (all_rows (replay p zeroth) (replay p first) (replay p second) (replay p third)) ≡ total_of (p.sessions * n)

@@ -1,4 +1,4 @@
--- The replies to turns, one after the other.
+-- The replies to turns, one after another.
 use Rattle.std.proofs.Common.{◌≡◌, ◌==◌, ◌+◌, ◌≤◌, ℕ, true, false, ◌⊎◌, inl, inr, List, [], ◌∷◌, ◌++◌, length, Option, append_assoc, append-nil, length-append, ◌∙◌, refl, sym, ap, subst, arith}
 use Rattle.std.specs.List.{list_any, flat_map}
 use Rattle.std.proofs.lemmas.Grind.{flat_map-append}
@@ -19,7 +19,7 @@ all-more : (f : Turn → List ℕ) (turns : List Turn) (turn : Turn) (whole : Li
 all-more f turns turn whole e = ap (λ (t : List ℕ). t ++ f turn) e ∙ ap (λ (t : List ℕ). flat_map f turns ++ t) (sym (append-nil (f turn))) ∙ sym (flat_map-append f turns (turn ∷ []))
 
 module _ {S K : Type 0} (tickets : Tickets S K) where
-  -- turns, one more
+  -- appending one more turn
   turns-more : (old mid new : At K) (turns : List Turn) (turn : Turn) → AreTurns tickets old turns mid → IsTurn tickets mid turn new → AreTurns tickets old (turns ++ turn ∷ []) new
   turns-more old mid new [] turn h k = (new, subst (λ (at : At K). IsTurn tickets at turn new) h k, refl)
   turns-more old mid new (first ∷ turns) turn h k = (h.0, h.1, turns-more h.0 mid new turns turn h.2 k)
@@ -33,12 +33,12 @@ module _ {S K : Type 0} (tickets : Tickets S K) where
 one-more : (rows : List ℕ) → length (10 ∷ rows) ≡ length rows + 1
 one-more rows = omega arith
 
--- a turn takes a byte at least
+-- a turn consumes at least one byte
 pub turn-more : (n : ℕ) (bytes line rows : List ℕ) → n ≤ length bytes → n + 1 ≤ length (bytes ++ (line ++ 10 ∷ rows))
 turn-more n bytes line rows h = omega (arith, h, length-append bytes (line ++ 10 ∷ rows), length-append line (10 ∷ rows), one-more rows)
 
 module _ {R : Type 0} (read : Ghosts R) {S K : Type 0} (tickets : Tickets S K) where
-  -- a line, and what belongs to it, is one turn more
+  -- a line, with the rows that follow it, is one more turn
   pub goes-on : (first before mid after : Input R read) (a b c d : Option (List ℕ)) (h k l m : List ℕ) (old at new : At K) (line raw rows more bytes text : List ℕ) (end : List ℕ) (e : Option (List ℕ))
       → Reads read first bytes before → Prints a h text b k → AnswersLines tickets old bytes text at
       → list_any (λ x. x == 10) raw ≡ false → line ≡ strip_last 13 raw → Reads read before (raw ++ 10 ∷ []) mid → Prints b k [] c l
@@ -54,7 +54,7 @@ module _ {R : Type 0} (read : Ghosts R) {S K : Type 0} (tickets : Tickets S K) w
         turn-more (length bytes) bytes raw rows (omega arith),
       )
 
-  -- the last line
+  -- the last line of the script
   pub comes-to-end : (first before mid after : Input R read) (a b c d : Option (List ℕ)) (h k l m : List ℕ) (old at new : At K) (line rows more bytes text : List ℕ)
       → Reads read first bytes before → Prints a h text b k → AnswersLines tickets old bytes text at
       → list_any (λ x. x == 10) line ≡ false → Reads read before line mid → Prints b k [] c l → unread read mid ≡ [] → mid.source.ended ≡ true
@@ -107,7 +107,7 @@ next-number tickets old new [] rows text h = let same = ap (λ at. at.number) h.
 next-number tickets old new (c ∷ cs) rows text h = let next = h.1 in omega (arith, next)
 
 module _ {R : Type 0} (read : Ghosts R) where
-  -- the first command, a whole line
+  -- the first command is a whole line
   pub begins-line : (old before mid : Input R read) (bytes raw line text : List ℕ) (blanks : List (List ℕ))
       → Reads read old bytes before → Blank bytes blanks → list_any (λ x. x == 10) raw ≡ false → line ≡ strip_last 13 raw → Reads read before (raw ++ 10 ∷ []) mid
       → text ≡ line → IsUtf8 text → (length line ≡ 0 → ⊥)
@@ -118,7 +118,7 @@ module _ {R : Type 0} (read : Ghosts R) where
     record { blanks = blanks; blank = bytes; empty = b; raw = raw; one = one; some = λ none. some (ap (λ (t : List ℕ). length t) (sym same ∙ none)); text = utf8; is = inl (refl, same ∙ stripped) },
   )
 
-  -- or the last one
+  -- the first command is the last line
   pub begins-last : (old before mid : Input R read) (bytes line text : List ℕ) (blanks : List (List ℕ))
       → Reads read old bytes before → Blank bytes blanks → list_any (λ x. x == 10) line ≡ false → Reads read before line mid → IsAtEnd read mid
       → text ≡ line → IsUtf8 text → (length line ≡ 0 → ⊥)

@@ -21,27 +21,27 @@ use Rattle.far_shell.proofs.BreaksLaws.{Breaking}
 use Rattle.far_commands.proofs.ListingsFields.{drop-past}
 use Rattle.far_shell.proofs.ScriptsLaws.{begins-then, either}
 
--- a gauge line more
+-- printing the gauge line of one more session
 pub gauges-more : (readings : List Reading) (i : ℕ) (reading : Reading) (page after whole : List ℕ) → i < length readings → after ≡ page ++ session_line i (get_or readings i reading)
     → page ++ gauges_text i (drop i readings) ≡ whole → after ++ gauges_text (i + 1) (drop (i + 1) readings) ≡ whole
 gauges-more readings i reading page after whole low grown e =
     rw grown (append_assoc page (session_line i (get_or readings i reading)) (gauges_text (i + 1) (drop (i + 1) readings))
     ∙ sym (ap (λ (rest : List Reading). page ++ gauges_text i rest) (drop_more readings i reading low)) ∙ e)
 
--- none is left
+-- after the last session the text is complete
 pub gauges-end : (readings : List Reading) (i : ℕ) (page whole : List ℕ) → length readings ≤ i → page ++ gauges_text i (drop i readings) ≡ whole → page ≡ whole
 gauges-end readings i page whole past e = sym (append-nil page) ∙ sym (ap (λ (rest : List Reading). page ++ gauges_text i rest) (drop-past readings i past)) ∙ e
 
--- the printed outcome of sessions is the one that is due
+-- the printed text is that of the right outcome
 pub outcome-of : (sessions edits : ℕ) (o : Outcome) (page : List ℕ) → IsOutcome sessions edits o → page ≡ outcome_text o → IsOutcomeText sessions edits page
 outcome-of sessions edits o page is said = said ∙ (λ i. gauges_text 0 (is.gauges i) ++ answer_text (is.total i))
 
--- sessions that were stopped, and nothing is written
+-- the sessions were stopped, and nothing is written
 pub cut-stopped : (may_fail : Bool) (why : ShellFault) (sessions edits : ℕ) → (why ≡ fault.Memory) ⊎ (why ≡ fault.Turns) → CutOutcome may_fail why sessions edits []
 cut-stopped may_fail why sessions edits (inl memory) = rw memory refl
 cut-stopped may_fail why sessions edits (inr turns) = rw turns refl
 
--- it is no failed write
+-- the sessions were not stopped by a failed write
 pub stopped-unwritten : (why : ShellFault) (P : Type 0) → (why ≡ fault.Memory) ⊎ (why ≡ fault.Turns) → why ≡ fault.Output → P
 stopped-unwritten why P (inl memory) = rw memory (λ e. absurd (cc e))
 stopped-unwritten why P (inr turns) = rw turns (λ e. absurd (cc e))
@@ -52,7 +52,7 @@ pub cut-unwritten : (may_fail : Bool) (old new : Option (List ℕ)) (sessions ed
 cut-unwritten may_fail old new sessions edits text page left cause printed is p =
     (p.0, (cause, (left, subst (λ (z : List ℕ). IsOutcomeText sessions edits z) (sym is ∙ sym (append-nil page) ∙ p.2) printed)), p.1)
 
--- nothing comes behind, in other words
+-- a script is answered in weaker terms
 pub answered-then : {S K : Type 0} (tickets : Tickets S K) (bytes text : List ℕ) (P Q : Type 0) → (P → Q) → IsAnswered tickets bytes P text → IsAnswered tickets bytes Q text
 answered-then tickets bytes text P Q f a =
     either (λ s. (s.0, f s.1)) (λ (t : IsThreads bytes P text). record { sessions = t.sessions; edits = t.edits; asks = (t.asks.0, begins-then bytes t.asks.0 P Q f t.asks.1, t.asks.2); printed = t.printed }) a
@@ -70,7 +70,7 @@ module _ {R : Type 0} (read : Ghosts R) {S K : Type 0} (tickets : Tickets S K) w
     inr (record { sessions = sessions; edits = edits; asks = (line, b, asks); printed = printed }),
   )
 
-  -- or they were stopped
+  -- a script begins with sessions, and they were stopped
   pub sessions-stopped : (old mid : Input R read) (u w : Option (List ℕ)) (held l left first line : List ℕ) (sessions edits : ℕ) (why : ShellFault) (unseen : Type 0) → held ≡ []
       → Reads read old first mid → Begins first (IsAtEnd read mid) line → start_in line ≡ Some (Threads sessions edits) → Prints u held [] w l → left ≡ l → (why ≡ fault.Memory) ⊎ (why ≡ fault.Turns)
       → Breaking read tickets unseen old mid u w left why

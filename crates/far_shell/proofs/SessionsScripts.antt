@@ -1,4 +1,4 @@
--- A whole script.
+-- A whole script of a table.
 use Rattle.std.proofs.Common.{◌≡◌, ℕ, inl, List, [], ◌++◌, Option, Some, refl, subst}
 use Rattle.std.specs.declared.io.traits.Read.{Ghosts}
 use Rattle.far_store.specs.declared.store.FarTickets.{Ghosts as Tickets}
@@ -11,7 +11,7 @@ use Rattle.far_shell.proofs.ScriptsLaws.{begins-then}
 use Rattle.far_script.proofs.FlowLaws.{prints-nothing-then, reads-then, spent-nothing}
 
 module _ {R : Type 0} (read : Ghosts R) {S K : Type 0} (tickets : Tickets S K) where
-  -- a script is its first command, which asks for a table, and what follows it
+  -- a script is its first command, which opens a table, and the lines after it
   pub script-whole : (old mid new : Input R read) (first line rest text : List ℕ) (opened : Opened) (u v w : Option (List ℕ)) (held k left : List ℕ) → held ≡ []
       → Reads read old first mid → Prints u held [] v k → Begins first (IsAtEnd read mid) line → start_in line ≡ Some (Schema opened)
       → Reads read mid rest new → Prints v k text w left → IsServed tickets opened rest text → IsAtEnd read new

@@ -1,4 +1,4 @@
--- Inserts of a session, one after the other.
+-- The inserts of a session, one after another.
 use Rattle.std.proofs.Common.{◌≡◌, ℕ, ◌+◌, List, [], ◌∷◌, ◌++◌, refl, sym, ap, ◌∙◌, append_assoc, append-nil, add-one}
 use Rattle.far_types.specs.declared.edit.Edit.TheVariants as edit
 use Rattle.far_sessions.specs.Rule.{entry}
@@ -7,11 +7,11 @@ use Rattle.far_sessions.specs.Known.{Known, at}
 use Rattle.far_shell.specs.Runs.{inserts, row_of_one}
 use Rattle.far_shell.specs.Working.{Makes}
 
--- a session has made none yet
+-- at the beginning a session has made none
 pub makes-none : (k : ℕ) (me : Known) → Makes k 0 me me
 makes-none k me = record { by = refl; mine = sym (append-nil (at me k).mine); others = λ i low other. refl }
 
--- and one more
+-- making one more
 pub makes-more : (k n : ℕ) (before mid after : Known) → Makes k n before mid → Makes k 1 mid after → Makes k (n + 1) before after
 makes-more k n before mid after first then =
     let by : (at mid k).by ≡ (at before k).by = first.by in

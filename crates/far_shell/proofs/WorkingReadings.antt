@@ -1,4 +1,4 @@
--- What is read of sessions that have made their edits.
+-- The readings of sessions that have made their edits.
 use Rattle.std.proofs.Common.{◌≡◌, ◌≢◌, inl, inr, ℕ, zero, suc, ◌<◌, ◌%◌, List, [], ◌∷◌, ◌++◌, Result, Some, length, slice_get, refl, sym, ap, ◌∙◌, subst, arith, OnOk, IsOk, not-suc-le-zero}
 use mathlib.Core.Logic.{dite}
 use native.Mathlib.Decide.{ℕ_discrete}
@@ -13,7 +13,7 @@ use Rattle.far_sessions.specs.Known.{Known, at, session_number, newcomers, newco
 use Rattle.far_shell.specs.Runs.{inserts}
 use Rattle.far_shell.specs.Working.{AreGauged, AreWorked, Ended, IsGauged, IsRead, IsWorked, Looked, Makes}
 
--- each session that has ended well was read, in order
+-- each session that ended well was read, in order
 abbrev pub AreRead : Planned → List Ended → List Known → List Reading → Type 0
 AreRead p [] [] [] = Unit {0}
 AreRead p [] [] (reading ∷ readings) = ⊥
@@ -23,7 +23,7 @@ AreRead p (ended ∷ worked) (me ∷ sessions) [] = ⊥
 AreRead p (ended ∷ worked) (me ∷ sessions) (reading ∷ readings) = IsRead p ended me reading × AreRead p worked sessions readings
 
 module _ (p : Planned) where
-  -- one more
+  -- reading one more session
   pub read-more : (worked : List Ended) (sessions : List Known) (readings : List Reading) (ended : Ended) (me : Known) (reading : Reading) → AreRead p worked sessions readings → IsRead p ended me reading → AreRead p (worked ++ ended ∷ []) (sessions ++ me ∷ []) (readings ++ reading ∷ [])
   read-more [] [] [] ended me reading all one = (one, tt)
   read-more [] [] (r ∷ readings) ended me reading all one = absurd all
@@ -40,7 +40,7 @@ module _ (p : Planned) where
   read-count (e ∷ worked) (m ∷ sessions) [] all = absurd all
   read-count (e ∷ worked) (m ∷ sessions) (r ∷ readings) all = (let count = read-count worked sessions readings all.1 in (ap suc count.0, ap suc count.1))
 
-  -- what became of the session that a reading is of
+  -- reading s is of the session at index s
   read-of : (worked : List Ended) (sessions : List Known) (readings : List Reading) (s : ℕ) (me : Known) (reading : Reading) → AreRead p worked sessions readings → slice_get sessions s ≡ Some me → slice_get readings s ≡ Some reading
       → (ended : Ended) × (slice_get worked s ≡ Some ended) × IsRead p ended me reading
   read-of [] [] [] s me reading all is returned = absurd (none-some me is)
@@ -91,12 +91,12 @@ of-ok : (A : Type 0) {E : Type 0} (r : Result A E) (P : Type 0) → IsOk r → O
 of-ok A (Ok x) P ok holds = holds
 of-ok A (Err e) P ok holds = absurd (not-ok A e ok)
 
--- who keeps its number at one stripe, and all at the others, keeps its number
+-- if a session keeps its number at one stripe, and everything at the others, it keeps its number
 number-unchanged : (k : ℕ) (before after : Known) → (at after k).by ≡ (at before k).by → ((i : ℕ) → i < 4 → i ≢ k → at after i ≡ at before i) → session_number after ≡ session_number before
 number-unchanged k before after by others =
     dite (ℕ_discrete 0 k) (λ is. subst (λ (i : ℕ). (at after i).by ≡ (at before i).by) (sym is) by) (λ other. ap (λ (s : SessionState). s.by) (others 0 (omega arith) other))
 
--- a session that was new made its inserts at stripe k, and looked there
+-- a new session that made its inserts at stripe k and read the gauge there
 gauged-at : (p : Planned) (s n k : ℕ) (ended : Ended) (me : Known) (reading : Reading) → k ≡ s % 4 → Makes k n (newcomer_at_all s) ended.session → Looked p k ended me reading → IsGauged p s n me reading
 gauged-at p s n k ended me reading home made looked =
     let new : at (newcomer_at_all s) k ≡ newcomer s = new-at s k in
@@ -118,7 +118,7 @@ gauged-of p s n ended me reading read worked =
     let number : session_number ended.session ≡ s = number-unchanged (s % 4) (newcomer_at_all s) ended.session made.by made.others in
     gauged-at p s n (s % 4) ended me reading refl made (subst (λ (t : ℕ). Looked p (t % 4) ended me reading) number read)
 
--- what is read of all sessions of a plan when each has made its inserts
+-- the readings of all sessions of a plan, when each has made its inserts
 pub gauged-all : (p : Planned) (n : ℕ) (worked : List Ended) (sessions : List Known) (readings : List Reading) → AreRead p worked sessions readings → AreWorked n (newcomers p.sessions) worked → AreGauged p n sessions readings
 gauged-all p n worked sessions readings all done =
     let count = read-count p worked sessions readings all in

@@ -30,8 +30,8 @@ module _ {S K : Type 0} (tickets : Tickets S K) (unseen spent : List ℕ → Typ
       → List ℕ → Type 0
   IsSplit splits why bytes rest text = splits why bytes rest × IsBroken why bytes rest text
 
-  -- the same, with `lost`, the replies that the writer did not take. It is empty unless a write failed, which only writers
-  -- of a type that may fail do. The failed write comes after all replies to a script, or after those up to another fault
+  -- the same, with `lost`, the replies that the writer did not take. It is empty unless a write failed, which happens only for
+  -- writers of a type that may fail. The failed write comes after all replies to a script, or after those up to another fault
   abbrev pub EndsBy : (ShellFault → List ℕ → List ℕ → Type 0) → Bool → ShellFault → List ℕ → List ℕ
       → List ℕ → List ℕ → Type 0
   EndsBy splits may_fail fault.BadStart bytes rest text lost = IsSplit splits fault.BadStart bytes

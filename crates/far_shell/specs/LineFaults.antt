@@ -1,4 +1,4 @@
--- What a script has printed when a fault ends it: for its first line, and for the lines after it.
+-- What a script has printed when a fault ends it: in its first line, and in the lines after it.
 use Rattle.std.specs.Prelude.{◌≡◌, ◌⊎◌, ℕ, List, [], ◌∷◌, ◌++◌, None, Some, IsUtf8, codes}
 use Rattle.far_types.specs.declared.refusal.Refusal.TheVariants as refusal
 use Rattle.far_types.specs.Bounds.{IsSchema, AreLimits}

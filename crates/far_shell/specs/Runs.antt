@@ -1,4 +1,4 @@
--- What sessions on threads leave in a shared table.
+-- The outcome of sessions on threads.
 use Rattle.std.specs.Prelude.{◌≡◌, ◌≢◌, ℕ, ◌*◌, ◌%◌, ◌<◌, zero, suc, pos, List, [], ◌∷◌, ◌++◌, None, replicate}
 use Rattle.far_types.specs.declared.answer.Answer.{Answer}
 use Rattle.far_types.specs.declared.answer.Answer.TheVariants as answer
@@ -30,7 +30,7 @@ stripe_limits = usual_limits 4
 abbrev pub sum_of_rows : Spec
 sum_of_rows = record { fold = fold.Totals; value = 0; key = None; filter = [] }
 
--- the plan of a table of one column of numbers, for this many sessions
+-- the plan of a table of one int column, for this many sessions
 abbrev pub plan_for : ℕ → Planned
 plan_for n = record
     { schema = kind.Int ∷ []; limits = stripe_limits; gauge = sum_of_rows; sessions = n }
@@ -49,7 +49,7 @@ abbrev pub total_of : ℕ → Answer
 total_of n = answer.Totals ((None, n, pos n) ∷ [])
 
 -- the history of stripe k when all sessions of a plan have ended. It is legal, and has `edits` inserts of each session
--- whose home is stripe k, and no other entry
+-- whose home is stripe k, and no other entries
 pub record IsHistory (p : Planned) (edits k : ℕ) (log : List Entry) : Type 0 where
   pub legal : IsLegal p log
   pub home : (s : ℕ) → s < p.sessions → s % 4 ≡ k → by_session s log ≡ inserts s edits
@@ -70,8 +70,8 @@ pub record IsOverAll (p : Planned) (edits : ℕ) (answer : Answer) : Type 0 wher
       ≡ answer_over p.gauge
       (all_rows (replay p zeroth) (replay p first) (replay p second) (replay p third))
 
--- all sessions of a plan have ended, each with `edits` inserts on its home stripe. The gauge there shows just these, and
--- the answer counts and sums the rows of all sessions and no others
+-- all sessions of a plan have ended, each with `edits` inserts on its home stripe. The gauge there shows exactly these, and
+-- the answer counts and sums exactly the rows of all sessions
 pub record IsRun (p : Planned) (edits : ℕ) (o : Outcome) : Type 0 where
   pub gauges : o.gauges.items ≡ replicate p.sessions (all_of edits)
   pub answer : IsOverAll p edits o.answer

@@ -36,7 +36,7 @@ pub record Begins (bytes : List ℕ) (spent : Type 0) (line : List ℕ) : Type 0
   pub is : ((bytes ≡ blank ++ (raw ++ 10 ∷ [])) × (line ≡ without_return raw))
       ⊎ ((bytes ≡ blank ++ raw) × (line ≡ raw) × spent)
 
--- how many contents the first store of a script can hold
+-- the number of contents that the first store of a script can hold
 abbrev pub first_capacity : ℕ
 first_capacity = 1048576
 
@@ -61,7 +61,7 @@ module _ {S K : Type 0} (tickets : Tickets S K) where
   IsTurn old turn new = IsOneLine turn.line
       × AnswersLine tickets old (without_return turn.line) turn.rows turn.text new
 
-  -- turns are taken one after the other
+  -- turns are taken one after another
   abbrev pub AreTurns : At K → List Turn → At K → Type 0
   AreTurns old [] new = new ≡ old
   AreTurns old (turn ∷ turns) new = (mid : At K) × IsTurn old turn mid × AreTurns mid turns new

@@ -42,8 +42,8 @@ abbrev pub fault_of : Stop → ShellFault
 fault_of stop.Memory = fault.Memory
 fault_of stop.Turns = fault.Turns
 
--- the part of the outcome that was written at a fault: a prefix if a write failed, which only writers of a type that may
--- fail do, and else nothing
+-- the part of the outcome that was written at a fault: a prefix if a write failed, which happens only for writers of a type
+-- that may fail, and otherwise nothing
 abbrev pub CutOutcome : Bool → ShellFault → ℕ → ℕ → List ℕ → Type 0
 CutOutcome may_fail fault.BadStart sessions edits sent = ⊥
 CutOutcome may_fail fault.Input sessions edits sent = ⊥

@@ -1,4 +1,4 @@
--- What sessions do during a run, and what is known of them when the table is closed.
+-- What sessions do during a run, and what they know when the table is closed.
 -- Internal: no public contract cites it.
 use Rattle.std.specs.Prelude.{◌≡◌, ◌≢◌, ℕ, ℤ, ◌%◌, ◌<◌, ◌≤◌, List, [], ◌∷◌, ◌++◌, None, Some, OnOk, IsOk, Result, length, slice_get}
 use Rattle.far_types.specs.declared.answer.Answer.{Answer}
@@ -31,7 +31,7 @@ pub record Ended : Type 0 where
 abbrev pub IsWorked : ℕ → Known → Ended → Type 0
 IsWorked n me ended = OnOk ended.outcome (Makes (session_number me % 4) n me ended.session)
 
--- the same for all sessions, in order
+-- all sessions have made their inserts in this way, in order
 pub record AreWorked (n : ℕ) (sessions : List Known) (worked : List Ended) : Type 0 where
   pub count : length worked ≡ length sessions
   pub each : (i : ℕ) (me : Known) (ended : Ended)
@@ -48,12 +48,12 @@ pub record Looked (p : Planned) (k : ℕ) (ended : Ended) (me : Known)
   pub others : (i : ℕ) → i < 4 → i ≢ k → at me i ≡ at ended.session i
   pub is : reading ≡ gauge_of p (at me k).seen
 
--- the same, at its home stripe
+-- a session that was not stopped has read the gauge of its home stripe
 abbrev pub IsRead : Planned → Ended → Known → Reading → Type 0
 IsRead p ended me reading = Looked p (session_number ended.session % 4) ended me reading
 
 -- session s has made n inserts on its home stripe and nothing elsewhere. The reading matches what it has seen there, and
--- just these inserts are its own
+-- exactly these inserts are its own
 pub record IsGauged (p : Planned) (s n : ℕ) (me : Known) (reading : Reading) : Type 0 where
   pub number : session_number me ≡ s
   pub none : (k : ℕ) → k < 4 → k ≢ s % 4 → (at me k).mine ≡ []
@@ -61,7 +61,7 @@ pub record IsGauged (p : Planned) (s n : ℕ) (me : Known) (reading : Reading) :
   pub own : by_session s (at me (s % 4)).seen ≡ inserts s n
   pub is : reading ≡ gauge_of p (at me (s % 4)).seen
 
--- the same for all sessions of a plan, in order
+-- all sessions of a plan have made their inserts and read the gauge in this way, in order
 pub record AreGauged (p : Planned) (n : ℕ) (sessions : List Known)
     (readings : List Reading) : Type 0 where
   pub count : length sessions ≡ p.sessions
@@ -71,7 +71,7 @@ pub record AreGauged (p : Planned) (n : ℕ) (sessions : List Known)
       → slice_get readings s ≡ Some reading
       → IsGauged p s n me reading
 
--- the readings and the answer after all sessions of a plan have ended. Which rows the answer counts is not known yet
+-- the readings and the answer after all sessions of a plan have ended. It is not yet known which rows the answer counts
 pub record AreLeft (p : Planned) (n : ℕ) (sessions : List Known) (o : Outcome) : Type 0 where
   pub gauged : AreGauged p n sessions o.gauges.items
   pub answer : IsAnswer p 0 o.answer

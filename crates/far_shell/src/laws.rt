@@ -11,8 +11,8 @@ use far_store::FarTickets;
 /// script may have more reads than it has bytes. So if it ends with `Input`, a line or a load is not valid UTF-8, or the
 /// script ends inside a load.
 ///
-/// The premise is what `run_script` says of such a script at a fault. The conclusion says the same with no other reason for
-/// missing bytes than the end of the script.
+/// The premise is what `run_script` says of such a script at a fault. The conclusion is the same, except that bytes are
+/// missing only because the script ended.
 pub fn a_short_script_at_hand_comes_whole<S: FarTickets>()
     ensures { (may_fail : Bool) → (script : List ℕ) → (old : Option (List ℕ))
         → (new : Option (List ℕ)) → (why : ShellFault) → length script < 1048576

@@ -98,7 +98,7 @@ fn planned<N: PlanTag + Send + Sync, R: Threads + Wait + Sync>(
 /// Runs sessions on threads over one shared table:
 ///
 /// 1. Each session inserts `edits` rows of the number 1 on its home stripe. A background worker tries to evict as many
-///    objects, from one stripe after the other.
+///    objects, from each stripe in turn.
 /// 2. When all have ended, the gauge of each session's home stripe is read, and the gauge is asked over all stripes.
 /// 3. The table is closed.
 ///
@@ -108,7 +108,7 @@ fn planned<N: PlanTag + Send + Sync, R: Threads + Wait + Sync>(
 /// evicts an object and tries again. Ends with:
 ///
 /// - `Memory`, if a call runs out of memory;
-/// - `Turns`, if an edit was tried 10,000 times or is refused for another reason, or if the closed stripes give another
+/// - `Turns`, if an edit was tried 10,000 times or is refused for another reason, or if the closed stripes have another
 ///   answer than before.
 pub fn run_sessions<R: Threads + Wait + Sync>(
     rt: &R,

@@ -1,4 +1,4 @@
--- The numbers of places are those of 64 bits after an edit.
+-- After an edit the numbers of the places still fit 64 bits.
 use Rattle.std.proofs.Common.{◌≡◌, ℕ, zero, suc, true, List, [], ◌∷◌, ◌++◌, ℤ, get_or, set, replicate, Option, None, refl, sym, subst}
 use Rattle.far_types.specs.declared.cell.Cell.{Cell}
 use Rattle.far_types.specs.Cells.{CellFits, RowFits}
@@ -37,7 +37,7 @@ none-at zero i = refl
 none-at (suc n) zero = refl
 none-at (suc n) (suc i) = none-at n i
 
--- a row without a value has no number
+-- the numbers of a row of default values fit 64 bits
 pub default_value-fits : (n m : ℕ) (values : Values) → values ≡ record { numbers = replicate n None; texts = replicate m None } → (column_indexes : List ColumnIndex) → RowFits (row_of column_indexes values)
 default_value-fits n m values is column_indexes = subst (λ (v : Values). RowFits (row_of column_indexes v)) (sym is) (each column_indexes) where
   default_value : Values

@@ -1,4 +1,4 @@
--- What an edit without a fault of its own is like, and one that is not refused.
+-- Consequences of an edit that has no fault of its own, and of one that is not refused.
 use Rattle.std.proofs.Common.{◌≡◌, ◌≢◌, ℕ, ◌<◌, Bool, true, false, not, List, [], ◌∷◌, length, Option, None, Some, refl, sym, ap, arith, ◌∙◌}
 use Rattle.std.specs.Prelude.{◌==◌, ◌&&◌, is_none, option_map, slice_get}
 use Rattle.std.specs.List.{list_all, list_any, zip}
@@ -27,7 +27,7 @@ is-true : (b : Bool) → not b ≡ false → b ≡ true
 is-true true is = refl
 is-true false is = absurd cc
 
--- a row
+-- a row that the table takes
 pub record IsRow (schema : List Kind) (limits : Limits) (places : List Place) (row : List Cell) : Type 0 where
   pub of_kinds : kinds_fit schema row ≡ true
   pub width : length row ≡ length schema
@@ -55,7 +55,7 @@ is-false : (b : Bool) → not b ≡ true → b ≡ false
 is-false true is = absurd cc
 is-false false is = refl
 
--- if each cell may stand in its column, all are of their kinds and none is too long
+-- if each cell fits its column, the row is of the schema's kinds and has no cell that is too long
 each-stands : (schema : List Kind) (row : List Cell) → length row ≡ length schema → list_all (λ (at : Kind × Cell). is_of_kind at.0 at.1 && not (is_too_long at.1)) (zip schema row) ≡ true
     → (kinds_fit schema row ≡ true) × (list_any is_too_long row ≡ false)
 each-stands [] [] width each = (refl, refl)
@@ -68,7 +68,7 @@ each-stands (kind ∷ schema) (cell ∷ row) width each =
     let short = is-false (is_too_long cell) here.1 in
     (rw (here.0, rest.0) refl, rw (short, rest.1) refl)
 
--- then only a full table refuses the row
+-- a row whose cells fit is refused only if the table is full
 pub full-alone : (schema : List Kind) (row : List Cell) → ((length row == length schema) && list_all (λ (at : Kind × Cell). is_of_kind at.0 at.1 && not (is_too_long at.1)) (zip schema row)) ≡ true
     → (limits : Limits) (places : List Place) → first_of (edit_faults schema limits places (edit.Insert row)) ≡ first_of ((length places == limits.places, refusal.TableFull) ∷ [])
 full-alone schema row stands limits places =
@@ -76,7 +76,7 @@ full-alone schema row stands limits places =
     let right = each-stands schema row (eqb-true (length row) (length schema) both.0) both.1 in
     rw (right.0, both.0, right.1) refl
 
--- a cell, and its place
+-- a cell that the table takes at a place and a column
 pub record IsCell (schema : List Kind) (places : List Place) (p c : ℕ) (cell : Cell) : Type 0 where
   pub column : is_none (slice_get schema c) ≡ false
   pub of_kind : is_of_other_kind (slice_get schema c) cell ≡ false
@@ -98,12 +98,12 @@ some-of : {A : Type 0} (found : Option A) → is_none found ≡ false → (x : A
 some-of None is = absurd cc
 some-of (Some x) is = (x, refl)
 
--- a column of a kind has an index
+-- a column with a kind has an index
 pub column_index-of : (found : Option ColumnIndex) (kind : Kind) → option_map kind_of found ≡ Some kind → (s : ColumnIndex) × (found ≡ Some s)
 column_index-of None kind is = absurd (none-some kind is)
 column_index-of (Some s) kind is = (s, refl)
 
--- a place that is there is among the flags
+-- the number of a place that exists is below the number of flags
 pub place-below : (columns : List (List Cell)) (flags : List Bool) (p : ℕ) → is_none (slice_get (places_of columns flags) p) ≡ false → p < length flags
 place-below columns flags p is =
     let found = some-of (slice_get (places_of columns flags) p) is in
@@ -116,11 +116,11 @@ module _ {K : Type 0} (s : LiveState K) (e : Edit) (free : edit_due s e ≡ None
   parts : (first_of (edit_faults s.table.schema s.table.limits s.table.places e) ≡ None) × (first_of (obstacles s e) ≡ None)
   parts = free-parts (edit_faults s.table.schema s.table.limits s.table.places e) (obstacles s e) free
 
-  -- an edit that is not refused has no fault of its own
+  -- the edit has no fault of its own
   pub faultless : first_of (edit_faults s.table.schema s.table.limits s.table.places e) ≡ None
   faultless = parts.0
 
-  -- and the edits are not used up
+  -- the table may still be edited
   pub edits-left : s.table.edits ≢ s.table.limits.edits
   edits-left =
       let here = (free-parts (absents s.rows (group_of s e)) _ parts.1).1 in
@@ -128,6 +128,6 @@ module _ {K : Type 0} (s : LiveState K) (e : Edit) (free : edit_due s e ≡ None
       let used = (free-parts (no_space s e) _ space).1 in
       eqb-false s.table.edits s.table.limits.edits (free-head (s.table.edits == s.table.limits.edits) refusal.EditsUsedUp _ used).0
 
-  -- and no object of the row group is away
+  -- no object of the row group is away
   pub all-here : first_of (absents s.rows (group_of s e)) ≡ None
   all-here = (free-parts (absents s.rows (group_of s e)) _ parts.1).0

@@ -1,4 +1,4 @@
--- Why an insert and a removal are refused: by the rows over objects, and in the plain table's words.
+-- The refusal of an insert or a removal by the rows over objects is the one that is due to the table.
 use Rattle.std.proofs.Common.{◌≡◌, ℕ, ◌/◌, ◌<◌, ◌≤◌, Bool, true, false, not, List, [], ◌∷◌, ◌++◌, map, length, Option, None, Some, refl, sym, ap, subst, ◌∙◌, arith}
 use Rattle.std.specs.Prelude.{◌==◌, ◌||◌, cond, nat_lt}
 use Rattle.std.specs.List.{list_any}
@@ -28,7 +28,7 @@ use Rattle.far_table.specs.Edits.{edit_due, group_of}
 use Rattle.far_table.proofs.FirstOfLaws.{first-behind, passed, or-assoc, last-used}
 use Rattle.far_table.proofs.Places.{length-places}
 
--- an object that was written at most as often as the table was edited may be written while the table may be edited
+-- if no object was written more often than the table was edited, and the table may be edited, each object may be written
 pub not-out : {X K : Type 0} (limits : Limits) (edits : ℕ) (m : Movement X K) → AreWritten limits edits m → edits ≤ limits.edits → (edits == limits.edits) ≡ false → (o : ℕ) → (written_out m o).0 ≡ false
 not-out limits edits m bounded few left o =
     let ne = eqb-false edits limits.edits left in
@@ -49,7 +49,7 @@ module _ {K : Type 0} (content : K → List ℕ) (schema : List Kind) (limits : 
   abbrev t : TableRows K
   t = rows_in content schema limits held new_row edits
 
-  -- whether the edits are used up
+  -- whether the table has reached its limit of edits
   abbrev used : Bool
   used = edits == limits.edits
 
@@ -85,11 +85,11 @@ module _ {K : Type 0} (content : K → List ℕ) (schema : List Kind) (limits : 
       ∙ (λ i. first_of (absents held (next-group i) ++ (overfills (holds.kinds i) limits e t.places, refusal.ChunkFull) ∷ end))
       ∙ sym (passed (edit_faults schema limits t.places e) (absents held (group_of (asked t) e) ++ (overfills schema limits e t.places, refusal.ChunkFull) ∷ end) free)
 
-  -- an insert of the loaded row, which has no fault of its own
+  -- the refusal of an insert of the loaded row, if the row has no fault of its own
   pub insert-due : (row : List Cell) → row_of held.column_indexes new_row ≡ row → first_of (edit_faults schema limits t.places (edit.Insert row)) ≡ None → option_or (insert_refusal content limits held new_row) last ≡ edit_due (asked t) (edit.Insert row)
   insert-due row is = subst (λ r. first_of (edit_faults schema limits t.places (edit.Insert r)) ≡ None → option_or (insert_refusal content limits held new_row) last ≡ edit_due (asked t) (edit.Insert r)) is loaded-due
 
-  -- a removal of a place that is alive
+  -- the refusal of a removal, if it has no fault of its own
   pub remove-due : (p : ℕ) → first_of (edit_faults schema limits t.places (edit.Remove p)) ≡ None → option_or (first_of (absents held (p / limits.group))) last ≡ edit_due (asked t) (edit.Remove p)
   remove-due p free =
       let end : List (Bool × Refusal) = (false, refusal.ChunkFull) ∷ (used, refusal.EditsUsedUp) ∷ [] in

@@ -1,4 +1,4 @@
--- Why a set is refused: by the rows over objects, and in the plain table's words.
+-- The refusal of a set by the rows over objects is the one that is due to the table.
 use Rattle.std.proofs.Common.{◌≡◌, ℕ, zero, suc, ◌/◌, ◌<◌, Bool, false, not, List, [], ◌∷◌, ◌++◌, length, ℤ, Option, None, Some, refl, sym, ap, subst, ◌∙◌, arith}
 use Rattle.std.specs.Prelude.{◌==◌, ◌&&◌, cond, option_map, slice_get}
 use Rattle.std.specs.Option.{option_and_then, option_map_or, option_or}
@@ -69,7 +69,7 @@ module _ {K : Type 0} (content : K → List ℕ) (schema : List Kind) (limits : 
   abbrev last : Option Refusal
   last = first_of ((used, refusal.EditsUsedUp) ∷ [])
 
-  -- the text that a set writes does not fit
+  -- whether the region lacks space for the texts of the row group after the set
   abbrev crowded : Edit → ℕ → ℕ → Bool
   crowded e c g = not (fits_in held.text_objects.memory.state (text_object_length limits c g (places_after e t.places)))
 
@@ -117,6 +117,6 @@ module _ {K : Type 0} (content : K → List ℕ) (schema : List Kind) (limits : 
         ∙ sym (first-behind away end)
         ∙ sym (passed (edit_faults schema limits t.places e) (away ++ end) free)
 
-    -- a set of a value that has no fault of its own
+    -- the refusal of a set, if the value has no fault of its own
     pub set-due : (cell : Cell) → cell_of value ≡ cell → first_of (edit_faults schema limits t.places (edit.Set p c cell)) ≡ None → option_or (cell_set_refusal content limits held c p value) last ≡ edit_due (asked t) (edit.Set p c cell)
     set-due cell is = subst (λ (x : Cell). first_of (edit_faults schema limits t.places (edit.Set p c x)) ≡ None → option_or (cell_set_refusal content limits held c p value) last ≡ edit_due (asked t) (edit.Set p c x)) is value-due

@@ -39,24 +39,24 @@ use Rattle.far_table.specs.FarGroups.{IsCopy}
 use Rattle.far_table.proofs.Groups.{lent-cells, texts-lent}
 use Rattle.far_table.proofs.Places.{length-places}
 
--- a form of numbers means its numbers
+-- the cells of a form of numbers are its numbers
 ints-lent : (form : List ℕ) → IsIntsForm form → cells_meant form ≡ map int_cell (ints_meaning form)
 ints-lent form is =
     let test : (slice_index form 1 == 1) ≡ false = ap (λ byte. byte == 1) (ints_second form is) in
     ap (λ (b : Bool). cells_in (cond b (lent.Texts (texts_meaning form)) (lent.Ints (ints_meaning form)))) test
 
--- row groups of lists of one length have one length
+-- the same row group of two lists of equal length has the same length in both
 group-long : {X Y : Type 0} (size g : ℕ) (xs : List X) (ys : List Y) → length xs ≡ length ys → length (in_group size g xs) ≡ length (in_group size g ys)
 group-long size g xs ys same =
     length-take size (drop (g * size) xs)
     ∙ ap (min size) (length-drop (g * size) xs ∙ ap (λ n. n - g * size) same ∙ sym (length-drop (g * size) ys))
     ∙ sym (length-take size (drop (g * size) ys))
 
--- a row group, once a function is applied to all
+-- a row group of a mapped list is the mapped row group
 group-map : {X Y : Type 0} (f : X → Y) (size g : ℕ) (xs : List X) → in_group size g (map f xs) ≡ map f (in_group size g xs)
 group-map f size g xs = ap (take size) (drop-map f (g * size) xs) ∙ take-map f size (drop (g * size) xs)
 
--- the first cells of some
+-- appending cells keeps the first ones
 front-cell : (xs more : List Cell) (i : ℕ) → i < length xs → get_or (xs ++ more) i cell.Missing ≡ get_or xs i cell.Missing
 front-cell [] more i within = absurd (omega (arith, within))
 front-cell (x ∷ xs) more zero within = refl
@@ -69,7 +69,7 @@ module _ {K : Type 0} (content : K → List ℕ) (r : Rows K) (are : AreRows con
   cells-at : (s : ColumnIndex) → slice_get r.column_indexes column ≡ Some s → option_map (in_group r.size group) (slice_get (all_cells content r) column) ≡ Some (in_group r.size group (column_in (all_numbers content r) (all_texts content r) s))
   cells-at s is = ap (option_map (in_group r.size group)) (slice_get-map (column_in (all_numbers content r) (all_texts content r)) r.column_indexes column ∙ ap (option_map (column_in (all_numbers content r) (all_texts content r))) is)
 
-  -- the list of an object of numbers begins with those of its row group
+  -- the list of an object of numbers begins with the numbers of its row group
   record HasNumbers (list : Numbers) : Type 0 where
     front : Numbers
     default_values : Numbers
@@ -102,7 +102,7 @@ module _ {K : Type 0} (content : K → List ℕ) (r : Rows K) (are : AreRows con
             ∙ ap Some (ap (λ ns. in_group r.size group (map int_cell ns)) read ∙ group-map int_cell r.size group numbers ∙ ap (λ n. map int_cell (in_group n group numbers)) (sym same_length.0));
       }
 
-  -- the form of an object of texts is that of its row group
+  -- the form of an object of texts encodes the texts of its row group
   record HasTexts (bytes : List ℕ) : Type 0 where
     cells : option_map (in_group r.size group) (slice_get (all_cells content r) column) ≡ Some (map text_cell (texts_meaning bytes))
 
@@ -135,14 +135,14 @@ module _ {K : Type 0} (content : K → List ℕ) (r : Rows K) (are : AreRows con
   places-long : length places ≡ length (in_group r.size group r.alive)
   places-long = group-long r.size group (places_in content r) r.alive (length-places (all_cells content r) r.alive)
 
-  -- cells that begin with those of a row group are of its places
+  -- cells that begin with the cells of a row group are the cells of its places
   begins : (front more cells : List Cell) → option_map (in_group r.size group) (slice_get (all_cells content r) column) ≡ Some front → length front ≡ length (in_group r.size group r.alive) → cells ≡ front ++ more → IsOfPlaces places (column, cells)
   begins front more cells are_those long is i place at =
       let within : i < length front = omega (arith, slice_get_within places i place at, places-long, long) in
       ap Some (ap (λ (cs : List Cell). get_or cs i cell.Missing) is ∙ front-cell front more i within)
       ∙ lent-cells (all_cells content r) r.alive r.size group column front are_those i place at
 
-  -- the far copy of an object of numbers
+  -- the far copy of an object of numbers has the cells of its row group
   copied-number : object_at r column group ≡ Some (object.Number o) → (t : K) (list : Numbers) → number_lists content r.number_objects o ≡ Some list → SpellsNumbers list (content t) → IsCopy content r group column t
   copied-number at t list there spelled =
       let ints : AreInts list = record { range = spelled.range; count = spelled.has } in
@@ -156,7 +156,7 @@ module _ {K : Type 0} (content : K → List ℕ) (r : Rows K) (are : AreRows con
             (ints-lent (content t) form ∙ ap (map int_cell) (means ∙ has.is) ∙ map-append int_cell has.front has.default_values);
       }
 
-  -- and of one of texts
+  -- the far copy of an object of texts has the cells of its row group
   copied-text : object_at r column group ≡ Some (object.Text o) → (t : K) (list : List ℕ) → lists_of content r.text_objects o ≡ Some list → SpellsTexts list (content t) → IsCopy content r group column t
   copied-text at t list there spelled =
       let form : IsTextsForm (content t) = subst IsTextsForm (sym spelled.is) spelled.has in
@@ -169,7 +169,7 @@ module _ {K : Type 0} (content : K → List ℕ) (r : Rows K) (are : AreRows con
             ∙ lent-cells (all_cells content r) r.alive r.size group column (map text_cell (texts_meaning (content t))) has.cells i place here;
       }
 
--- the far form of a row group of a column has the cells of its places
+-- the far copy of a row group of a column has the cells of its places
 pub copied : {K : Type 0} (content : K → List ℕ) (r : Rows K) → AreRows content r → (column group : ℕ) (t : K) → IsCopyOf content r t column group → IsCopy content r group column t
 copied {K} content r are column group t copy = by (object_at r column group) refl copy where
   number : (o : ℕ) → object_at r column group ≡ Some (object.Number o) → (list : Option Numbers) → number_lists content r.number_objects o ≡ list → IsSomeAnd list (λ l. SpellsNumbers l (content t)) → IsCopy content r group column t

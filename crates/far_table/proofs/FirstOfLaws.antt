@@ -1,4 +1,4 @@
--- The first refusal that applies, of tests behind others.
+-- The first refusal that applies, in a list of tests that others follow.
 use Rattle.std.proofs.Common.{◌≡◌, Bool, true, false, List, [], ◌∷◌, ◌++◌, Option, None, Some, refl, ap, ◌∙◌, sym}
 use Rattle.std.specs.Prelude.{cond}
 use Rattle.std.specs.Option.{option_or}
@@ -14,11 +14,11 @@ pub first-behind : (cases more : List (Bool × Refusal)) → first_of (cases ++ 
 first-behind [] more = refl
 first-behind (case ∷ cases) more = ap (cond case.0 (Some case.1)) (first-behind cases more) ∙ one-more case.0 case.1 (first_of cases) (first_of more)
 
--- what is refused first is refused
+-- a refusal of the first tests comes before all later ones
 pub refused-first : (cases more : List (Bool × Refusal)) (e : Refusal) → first_of cases ≡ Some e → first_of (cases ++ more) ≡ Some e
 refused-first cases more e is = first-behind cases more ∙ ap (λ o. option_or o (first_of more)) is
 
--- if nothing is refused first, the rest decides
+-- if no first test applies, the later ones decide
 pub passed : (cases more : List (Bool × Refusal)) → first_of cases ≡ None → first_of (cases ++ more) ≡ first_of more
 passed cases more free = first-behind cases more ∙ ap (λ o. option_or o (first_of more)) free
 
@@ -26,7 +26,7 @@ none-of : (first later : Option Refusal) → option_or first later ≡ None → 
 none-of None later free = (refl, free)
 none-of (Some e) later free = absurd cc
 
--- nothing is refused if neither part is
+-- if no test of the list applies, none of either part does
 pub free-parts : (cases more : List (Bool × Refusal)) → first_of (cases ++ more) ≡ None → (first_of cases ≡ None) × (first_of more ≡ None)
 free-parts cases more free = none-of (first_of cases) (first_of more) (sym (first-behind cases more) ∙ free)
 
@@ -38,7 +38,7 @@ pub or-assoc : (a b c : Option Refusal) → option_or (option_or a b) c ≡ opti
 or-assoc None b c = refl
 or-assoc (Some e) b c = refl
 
--- an object is written out only if the table is
+-- an object reaches its limit of writes only if the table reaches its limit of edits, so its test may be left out
 pub last-used : (object table : Bool) → (table ≡ false → object ≡ false) → cond object (Some refusal.EditsUsedUp) (cond table (Some refusal.EditsUsedUp) None) ≡ cond table (Some refusal.EditsUsedUp) None
 last-used true true only = refl
 last-used true false only = absurd (let e : true ≡ false = only refl in cc)

@@ -1,4 +1,4 @@
--- What a row group lends is what its places have.
+-- The columns and flags that a row group lends are those of its places.
 use Rattle.std.proofs.Common.{◌≡◌, ℕ, zero, suc, ◌+◌, ◌*◌, ◌<◌, Bool, List, [], ◌∷◌, map, take, drop, get_or, Option, None, Some, refl, sym, ap, ◌∙◌, arith}
 use Rattle.std.specs.Prelude.{◌==◌, true, cond, option_map, slice_get, slice_index}
 use Rattle.std.specs.List.{enumerate_from}
@@ -17,19 +17,19 @@ use Rattle.far_rows.specs.Places.{row_at, places_of}
 use Rattle.far_aggregates.specs.Lending.{IsOfPlaces}
 use Rattle.far_table.proofs.Places.{place-get}
 
--- the second byte of a form of texts says so
+-- the second byte of a form of texts is 1
 kind-of : (texts : List (Option (List ℕ))) → slice_index (texts_form texts) 1 ≡ 1
 unfolding texts_form head
 kind-of texts = refl
 
--- a form of texts means its texts
+-- the cells of a form of texts are its texts
 pub texts-lent : (form : List ℕ) → IsTextsForm form → cells_meant form ≡ map text_cell (texts_meaning form)
 texts-lent form is =
     let second : slice_index form 1 ≡ 1 = ap (λ bytes. slice_index bytes 1) is.is ∙ kind-of (texts_meaning form) in
     let test : (slice_index form 1 == 1) ≡ true = ap (λ byte. byte == 1) second in
     ap (λ (b : Bool). cells_in (cond b (lent.Texts (texts_meaning form)) (lent.Ints (ints_meaning form)))) test
 
--- an element of a row group stands at its place
+-- element i of a row group is element i after the group's beginning in the whole list
 taken-at : {A : Type 0} (xs : List A) (n i : ℕ) (x : A) → slice_get (take n xs) i ≡ Some x → (i < n) × (slice_get xs i ≡ Some x)
 taken-at xs zero i x at = absurd (none-some x at)
 taken-at [] (suc n) i x at = absurd (none-some x at)
@@ -62,7 +62,7 @@ row-at : (columns : List (List Cell)) (p : ℕ) (place : Place) (flag : Option B
 row-at columns p place None same = absurd (none-some place same)
 row-at columns p place (Some b) same = sym (ap (λ (q : Place). q.cells) (same_Some record { cells = row_at columns p; alive = b } place same))
 
--- the cells of a column in a row group are those of its places
+-- the cells of a column in a row group are the cells of its places
 pub lent-cells : (columns : List (List Cell)) (flags : List Bool) (size g number : ℕ) (cells : List Cell) → option_map (in_group size g) (slice_get columns number) ≡ Some cells → IsOfPlaces (in_group size g (places_of columns flags)) (number, cells)
 lent-cells columns flags size g number cells lent i place at = by (slice_get columns number) refl where
   by : (found : Option (List Cell)) → slice_get columns number ≡ found → Some (cell_of i (number, cells)) ≡ slice_get place.cells number
@@ -76,7 +76,7 @@ lent-cells columns flags size g number cells lent i place at = by (slice_get col
       ∙ sym (slice_get-map (λ (cs : List Cell). get_or cs p cell.Missing) columns number ∙ ap (option_map (λ (cs : List Cell). get_or cs p cell.Missing)) is)
       ∙ sym (ap (λ (cs : List Cell). slice_get cs number) row)
 
--- the flags of a row group are those of its places
+-- the flags of a row group are the flags of its places
 all-flags : (rows : ℕ → List Cell) (n : ℕ) (flags : List Bool) → map (λ (place : Place). place.alive) (map (λ (at : ℕ × Bool). record { cells = rows at.0; alive = at.1 }) (enumerate_from n flags)) ≡ flags
 all-flags rows n [] = refl
 all-flags rows n (flag ∷ flags) = ap (λ (rest : List Bool). flag ∷ rest) (all-flags rows (n + 1) flags)
@@ -91,6 +91,6 @@ flags-lent columns flags size g =
 abbrev pair : ℕ → List Cell → ℕ × List Cell
 pair number cells = (number, cells)
 
--- what is lent of a column of texts stands for their cells
+-- a lent form of texts has the texts as cells
 pub form-lent : (number : ℕ) (form : List ℕ) → IsTextsForm form → ◌≡◌ {A = ℕ × List Cell} (number, cells_meant form) (number, map text_cell (texts_meaning form))
 form-lent number form is = ap (λ (cells : List Cell). pair number cells) (texts-lent form is)

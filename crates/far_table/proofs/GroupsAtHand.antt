@@ -1,4 +1,4 @@
--- The columns that an aggregate needs are at hand if the objects of the row group are local.
+-- If no object of the row group is away, all columns that an aggregate needs are in memory.
 use Rattle.std.proofs.Common.{◌≡◌, ℕ, zero, suc, ◌+◌, ◌/◌, ◌<◌, Bool, true, false, List, [], ◌∷◌, map, length, Option, None, Some, sym, ap, subst, ◌∙◌}
 use Rattle.std.specs.Prelude.{cond, is_none, slice_get}
 use Rattle.std.proofs.lemmas.List.{length-map}
@@ -28,7 +28,7 @@ module _ {K : Type 0} (r : Rows K) (g : ℕ) where
   none-away n (t ∷ column_indexes) free (suc k) s at = none-away (n + 1) column_indexes (free-head (away_at r g t).0 (refusal.Absent n g) (first_of (absents_from r g (n + 1) column_indexes)) free).1 k s at
 
 module _ {K : Type 0} (content : K → List ℕ) (held : Rows K) (are : AreRows content held) (p : ℕ) (inside : p < length held.alive) (free : first_of (absents held (p / held.size)) ≡ None) where
-  -- a column's object is there and local
+  -- each column of the row group is in memory
   at-hand : (c : ℕ) → c < length held.column_indexes → has_column record { rows = held; group = p / held.size } c ≡ true
   at-hand c within =
       let g = p / held.size in
@@ -39,7 +39,7 @@ module _ {K : Type 0} (content : K → List ℕ) (held : Rows K) (are : AreRows 
   abbrev has : ℕ → Bool
   has = has_column record { rows = held; group = p / held.size }
 
-  -- and so are those that any registered aggregate needs
+  -- so each registered aggregate finds the columns that it needs
   pub all-served : ((schema : List Kind) (spec : Spec) (some : ℕ → Bool) → spec_refusal schema spec ≡ None → ((c : ℕ) → c < length schema → some c ≡ true) → IsServed some spec)
       → (schema : List Kind) → map kind_of held.column_indexes ≡ schema → (aggregates : List (Option Registered)) → AreChecked schema aggregates → AreServed has aggregates
   all-served law schema kinds [] checked = tt

@@ -1,4 +1,4 @@
--- A column that is not at hand is away.
+-- A column that is not in memory is away.
 use Rattle.std.proofs.Common.{◌≡◌, ℕ, ◌*◌, ◌<◌, Bool, true, false, List, [], ◌∷◌, length, Option, Some, refl, sym, ap, ◌∙◌}
 use Rattle.std.specs.Prelude.{is_none, slice_get}
 use Rattle.std.specs.Option.{option_map_or}
@@ -12,7 +12,7 @@ use Rattle.far_table.specs.Groups.{has_column}
 use Rattle.far_table.proofs.EditsSetRefusals.{found-at}
 use Rattle.far_table.proofs.WatchingColumns.{lend-at}
 
--- a column that is not at hand, of a row group that has a place, is away
+-- if a column of a row group with places is not in memory, its object is away
 pub not-at-hand : {K : Type 0} (content : K → List ℕ) (r : Rows K) (are : AreRows content r) (spec : Spec) (column g : ℕ) → column < length r.column_indexes → g * r.size < length r.alive → has_column record { rows = r; group = g } column ≡ false → (absent_in r column g).0 ≡ true
 not-at-hand content r are spec column g inside begun lacking =
     let found = found-at r.column_indexes column inside in

@@ -1,4 +1,4 @@
--- What is lent of the columns of a row group, one column after the other.
+-- The columns that a row group lends, looked up one after another.
 use Rattle.std.proofs.Common.{◌≡◌, ◌≢◌, ◌⊎◌, ℕ, zero, suc, ◌+◌, ◌<◌, ◌≤◌, true, false, List, [], ◌∷◌, length, get_or, replicate, set, Option, None, Some, Result, Ok, Err, inl, inr, refl, sym, ap, subst, ◌∙◌, arith}
 use Rattle.std.specs.Prelude.{is_none, option_map, slice_get, IfOk}
 use Rattle.std.specs.Option.{option_or}
@@ -28,20 +28,20 @@ none-yet (suc n) zero = refl
 none-yet (suc n) (suc column) = none-yet n column
 
 module _ {K : Type 0} (content : K → List ℕ) (g : GroupRows K) where
-  -- the columns below one were looked at, and of the others nothing is there yet
+  -- the columns below k are looked up, and the others are still empty
   pub record AreBelow (k : ℕ) (columns : List (Option LentColumn)) : Type 0 where
     pub count : length columns ≡ 16
     pub lent : (column : ℕ) → column < k → IsLentOf content g column (get_or columns column None)
     pub rest : (column : ℕ) → k ≤ column → get_or columns column None ≡ None
 
-  -- nothing was looked at yet
+  -- at the beginning no column is looked up
   pub none-below : AreBelow 0 (replicate 16 None)
   none-below = record { count = refl; lent = λ column under. absurd (omega (arith, under)); rest = λ column past. none-yet 16 column }
 
   refused : (column : ℕ) (e : Refusal) → Some e ≡ evac_refusal g.rows column g.group → has_column g column ≡ false
   refused column e due = ap is_none (sym due)
 
-  -- what a look at a column gives
+  -- the result of looking up one column
   pub looked : (column : ℕ) (r : Result LentColumn Refusal) → refusal_in r ≡ evac_refusal g.rows column g.group → IfOk r IsLent
       → IfOk r (λ lent. option_map (in_group g.rows.size g.group) (slice_get (all_cells content g.rows) column) ≡ Some (cells_lent lent))
       → IsLentOf content g column (result_ok r)
@@ -62,11 +62,11 @@ module _ {K : Type 0} (content : K → List ℕ) (g : GroupRows K) where
     by column under (inr (inr more)) = absurd (omega (arith, under, more))
     by column under (inl same) = subst (λ (c : ℕ). IsLentOf content g c (get_or (set columns k found) c None)) (sym same) (subst (IsLentOf content g k) (sym (get_or-set_same columns k found None inside)) is)
 
-  -- past the columns nothing is there
+  -- the row group has no column past the last
   no-column : (column : ℕ) → length g.rows.column_indexes ≤ column → has_column g column ≡ false
   no-column column past = λ i. is_none (option_or (first_of ((is_none (slice_get_past g.rows.column_indexes column past i), refusal.NoColumn) ∷ (is_none (object_at g.rows column g.group), refusal.OutOfRange) ∷ [])) (first_of (absent_in g.rows column g.group ∷ [])))
 
-  -- all columns were looked at
+  -- at the end all columns are looked up
   pub all-below : (columns : List (Option LentColumn)) → AreBelow (length g.rows.column_indexes) columns → (column : ℕ) → IsLentOf content g column (get_or columns column None)
   all-below columns below column = by (cases_order column (length g.rows.column_indexes)) where
     past-all : length g.rows.column_indexes ≤ column → IsLentOf content g column (get_or columns column None)

@@ -1,4 +1,4 @@
--- What goes out of the aggregates once the rows are changed: the columns of the row group are at hand.
+-- After an edit, the columns of the row group are in memory, so that aggregates can retract pairs.
 use Rattle.std.proofs.Common.{◌≡◌, ℕ, ◌+◌, ◌/◌, ◌<◌, Bool, true, List, [], ◌∷◌, map, length, Option, None, refl, sym, ap, subst, ◌∙◌, arith}
 use Rattle.far_types.specs.declared.cell.Kind.{Kind}
 use Rattle.far_types.specs.declared.refusal.Refusal.{Refusal}
@@ -20,22 +20,22 @@ use Rattle.far_table.proofs.Places.{length-places}
 use Rattle.far_table.proofs.GroupsAtHand.{all-served}
 
 module _ {K : Type 0} (r : Rows K) (flags : List Bool) where
-  -- which objects are away has nothing to do with the flags
+  -- which objects are away does not depend on the flags
   pub absents-flags : (g n : ℕ) (column_indexes : List ColumnIndex) → absents_from (record r { alive = flags }) g n column_indexes ≡ absents_from r g n column_indexes
   absents-flags g n [] = refl
   absents-flags g n (column_index.Number i ∷ column_indexes) = ap (λ (rest : List (Bool × Refusal)). absent_at r n g (column_index.Number i) ∷ rest) (absents-flags g (n + 1) column_indexes)
   absents-flags g n (column_index.Text i ∷ column_indexes) = ap (λ (rest : List (Bool × Refusal)). absent_at r n g (column_index.Text i) ∷ rest) (absents-flags g (n + 1) column_indexes)
 
-  -- a place is dead, and the same objects are away
+  -- after a removal the same objects are away
   pub absents-cleared : (now : Rows K) (g : ℕ) → now ≡ record r { alive = flags } → absents now g ≡ absents r g
   absents-cleared now g is = ap (λ (rows : Rows K). absents rows g) is ∙ absents-flags g 0 r.column_indexes
 
 module _ {K : Type 0} (content : K → List ℕ) (t : TableRows K) (places : t.places ≡ places_in content t.held) (size : t.held.size ≡ t.limits.group) where
-  -- the places of a row group are those that its objects hold
+  -- the places that the row group's objects hold are the places of the table's row group
   pub places-here : (g : ℕ) → places_here content record { rows = t.held; group = g } ≡ in_group t.limits.group g t.places
   places-here g = λ i. in_group (size i) g (sym places i)
 
-  -- all columns that the aggregates need are at hand
+  -- each registered aggregate finds the columns that it needs
   pub served-here : ((schema : List Kind) (spec : Spec) (some : ℕ → Bool) → spec_refusal schema spec ≡ None → ((c : ℕ) → c < length schema → some c ≡ true) → IsServed some spec)
       → AreRows content t.held → map kind_of t.held.column_indexes ≡ t.schema → (p : ℕ) → p < length t.places → first_of (absents t.held (p / t.limits.group)) ≡ None
       → (aggregates : List (Option Registered)) → AreChecked t.schema aggregates → AreServed (has_column record { rows = t.held; group = p / t.limits.group }) aggregates
@@ -44,6 +44,6 @@ module _ {K : Type 0} (content : K → List ℕ) (t : TableRows K) (places : t.p
       subst (λ n. AreServed (has_column record { rows = t.held; group = p / n }) aggregates) size
       (all-served content t.held are p (omega (arith, inside, long)) (subst (λ n. first_of (absents t.held (p / n)) ≡ None) (sym size) free) law t.schema kinds aggregates checked)
 
--- the row group of a place, as it is lent
+-- the lent row group is the one with the number g
 pub lent-is : {K : Type 0} (t : TableRows K) (lent : GroupRows K) (n g : ℕ) → n ≡ g → lent ≡ record { rows = t.held; group = n } → lent ≡ record { rows = t.held; group = g }
 lent-is t lent n g same is = is ∙ (λ i. record { rows = t.held; group = same i })

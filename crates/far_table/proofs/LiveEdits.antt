@@ -1,4 +1,4 @@
--- What a table with aggregates is once an edit is made, and why one is refused.
+-- A table with aggregates after an edit, and why an edit is refused.
 use Rattle.std.proofs.Common.{◌≡◌, ℕ, zero, suc, ◌/◌, ◌<◌, Bool, true, false, not, List, map, length, replicate, Option, None, Some, refl, sym, ap, subst, ◌∙◌, arith}
 use Rattle.std.specs.Prelude.{IsSome, ◌≤◌, is_none, is_some, option_map, slice_get}
 use Rattle.std.proofs.lemmas.List.{length-map}
@@ -40,43 +40,43 @@ use Rattle.far_table.proofs.EditsSetRefusals.{found-at}
 abbrev no_aggregate : Option Registered
 no_aggregate = None
 
--- nothing is registered
+-- a table without aggregates has valid registrations
 pub none-checked : (schema : List Kind) (n : ℕ) → AreChecked schema (replicate n no_aggregate)
 none-checked schema zero = tt
 none-checked schema (suc n) = (tt, none-checked schema n)
 
 module _ {K : Type 0} where
-  -- aggregates that are shown alike
+  -- the state shows only registrations, so equal registrations show equal states
   pub shown-same : (t : TableRows K) (r : ℕ) (was now : List RegistryEntry) → registered_of now ≡ registered_of was → state_of t r now ≡ state_of t r was
   shown-same t r was now same = λ i. record { table = record { schema = t.schema; limits = t.limits; places = t.places; edits = t.edits; registrations = r; aggregates = same i }; rows = t.held }
 
   pub same-live : (t : TableRows K) (r : ℕ) (was now : List RegistryEntry) → registered_of now ≡ registered_of was → IsLive t r was → Keeps t.limits.group t.places now → IsLive t r now
   same-live t r was now same live kept = record { registrations_few = live.registrations_few; kept = kept; checked = subst (AreChecked t.schema) (sym same) live.checked }
 
-  -- another row is loaded
+  -- loading a row does not change the state
   pub loaded-state : (old new : TableRows K) (r : ℕ) (registry : List RegistryEntry) → new ≡ record old { new_row = new.new_row } → state_of new r registry ≡ state_of old r registry
   loaded-state old new r registry stays = ap (λ (t : TableRows K). state_of t r registry) stays
 
   pub loaded-live : (old new : TableRows K) (r : ℕ) (registry : List RegistryEntry) → new ≡ record old { new_row = new.new_row } → IsLive old r registry → IsLive new r registry
   loaded-live old new r registry stays live = subst (λ (t : TableRows K). IsLive t r registry) (sym stays) record { registrations_few = live.registrations_few; kept = live.kept; checked = live.checked }
 
-  -- a call is refused with what is due, and the observed state stays
+  -- a call that returns the due refusal and leaves the state refuses as it should
   pub refuses-due : (shown observed after : LiveState K) (e : Edit) (r : Refusal) → shown ≡ observed → after ≡ shown → Some r ≡ edit_due shown e → Refuses (edit_due observed e) true observed r after
   refuses-due shown observed after e r same stays is = (stays ∙ same, subst (λ (s : LiveState K). MayRefuse (edit_due s e) true r) same (subst (λ (o : Option Refusal). MayRefuse o true r) is refl))
 
-  -- likewise if nothing is due, for lack of memory
+  -- a call that returns `NoMemory` when no refusal is due, and leaves the state, refuses as it should
   pub refuses-memory : (shown observed after : LiveState K) (e : Edit) (r : Refusal) → shown ≡ observed → after ≡ shown → None ≡ edit_due shown e → r ≡ refusal.NoMemory → Refuses (edit_due observed e) true observed r after
   refuses-memory shown observed after e r same stays free is = (stays ∙ same, subst (λ (s : LiveState K). MayRefuse (edit_due s e) true r) same (subst (λ (o : Option Refusal). MayRefuse o true r) free (is, refl)))
 
-  -- rows and aggregates alone, as those of a table
+  -- rows and a registry, seen as a table with aggregates
   pub live-alone : (t : TableRows K) (registry : List RegistryEntry) → Keeps t.limits.group t.places registry → AreChecked t.schema (registered_of registry) → IsLive t 0 registry
   live-alone t registry kept checked = record { registrations_few = omega arith; kept = kept; checked = checked }
 
-  -- what is kept is that of the places, as the aggregates' calls ask for it
+  -- the registry is up to date in the form that the calls of aggregates require
   pub keeps-fit : (t : TableRows K) (r : ℕ) (registry : List RegistryEntry) (limits : Limits) → limits ≡ t.limits → AreLimits t.limits → length t.places ≤ t.limits.places → PlacesFit t.places → IsLive t r registry → AreUpToDate limits.group t.places registry
   keeps-fit t r registry limits same bounds few fit live = record { kept = subst (λ (l : Limits). Keeps l.group t.places registry) (sym same) live.kept; few = omega (arith, few, bounds.places_high); fit = fit }
 
-  -- an edit is made
+  -- the table after the edit is the one that the definition of the edit says
   pub made-table : (old new : TableRows K) (e : Edit) (r : ℕ) (was now : List RegistryEntry) → IsMade old new e → registered_of now ≡ registered_of was → (state_of new r now).table ≡ after_edit e (state_of old r was).table
   made-table old new e r was now made same = λ i. record { schema = made.schema i; limits = made.limits i; places = made.places i; edits = made.edits i; registrations = r; aggregates = same i }
 
@@ -86,18 +86,18 @@ module _ {K : Type 0} where
   pub made-live : (old new : TableRows K) (e : Edit) (r : ℕ) (was now : List RegistryEntry) → IsMade old new e → registered_of now ≡ registered_of was → IsLive old r was → Keeps new.limits.group new.places now → IsLive new r now
   made-live old new e r was now made same live kept = record { registrations_few = live.registrations_few; kept = kept; checked = made-checked old new e r was now made same live }
 
-  -- the pairs to retract are retracted from what is kept of the new places
+  -- the retracted pairs, in terms of the new table instead of the old one
   pub retracts-after : (old new : TableRows K) (e : Edit) (p : ℕ) (limits : Limits) (now : List RegistryEntry) (pending : Pending) → limits ≡ old.limits → IsMade old new e → RetractsAll limits.group (p / limits.group) (places_after e old.places) now pending → RetractsAll new.limits.group (p / new.limits.group) new.places now pending
   retracts-after old new e p limits now pending same made retracts =
       let bounds : limits ≡ new.limits = same ∙ sym made.limits in
       subst (λ (l : Limits). RetractsAll l.group (p / l.group) new.places now pending) bounds (subst (λ (ps : List Place). RetractsAll limits.group (p / limits.group) ps now pending) (sym made.places) retracts)
 
-  -- what is kept of the places after an edit is that of the new places
+  -- the registry's content, in terms of the new table instead of the old one
   pub keeps-after : (old new : TableRows K) (e : Edit) (limits : Limits) (now : List RegistryEntry) → limits ≡ old.limits → IsMade old new e → Keeps limits.group (places_after e old.places) now → Keeps new.limits.group new.places now
   keeps-after old new e limits now same made kept =
       subst (λ (l : Limits). Keeps l.group new.places now) (same ∙ sym made.limits) (subst (λ (ps : List Place). Keeps limits.group ps now) (sym made.places) kept)
 
--- the loaded row is appended
+-- an insert appends the loaded row
 module _ {K : Type 0} (content : K → List ℕ) (old mid new : TableRows K) (row : List Cell) (stays : mid ≡ record old { new_row = mid.new_row }) (loaded : row_of mid.held.column_indexes mid.new_row ≡ row) (appended : IsAppended content mid new) where
   made : IsMade mid new (edit.Insert row)
   made = subst (λ (cells : List Cell). IsMade mid new (edit.Insert cells)) loaded appended.made
@@ -114,7 +114,7 @@ module _ {K : Type 0} (content : K → List ℕ) (old mid new : TableRows K) (ro
       let bounds : Keeps new.limits.group (places_after (edit.Insert row) mid.places) now = subst (λ (l : Limits). Keeps l.group (places_after (edit.Insert row) mid.places) now) (sym made.limits) kept in
       made-live mid new (edit.Insert row) r was now made same (loaded-live old mid r was stays live) (subst (λ (ps : List Place). Keeps new.limits.group ps now) (sym made.places) bounds)
 
--- a value is put in a column of a place
+-- a set writes a value to a column of a place
 module _ {K : Type 0} (old new : TableRows K) (p c : ℕ) where
   pub made-with : (one other : Cell) → one ≡ other → IsMade old new (edit.Set p c one) → IsMade old new (edit.Set p c other)
   made-with one other same made = subst (λ (cell : Cell). IsMade old new (edit.Set p c cell)) same made
@@ -133,7 +133,7 @@ is-true : (b : Bool) → not b ≡ false → b ≡ true
 is-true true is = refl
 is-true false is = absurd cc
 
--- a place that is there and not dead
+-- a place that exists and is not dead is alive with its row
 alive-row : (at : Option Place) (row : List Cell) → is_none at ≡ false → is_dead at ≡ false → option_map (λ (place : Place). place.cells) at ≡ Some row → at ≡ Some (alive_with row)
 alive-row None row there living is = absurd cc
 alive-row (Some place) row there living is =
@@ -141,14 +141,14 @@ alive-row (Some place) row there living is =
     let alive : place.alive ≡ true = is-true place.alive living in
     λ i. Some (record { cells = cells i; alive = alive i })
 
--- a place of which no removal is refused
+-- a removal that is not refused names a place that is alive
 remove-alive : (schema : List Kind) (limits : Limits) (places : List Place) (p : ℕ) (row : List Cell) → first_of (edit_faults schema limits places (edit.Remove p)) ≡ None → option_map (λ (place : Place). place.cells) (slice_get places p) ≡ Some row → slice_get places p ≡ Some (alive_with row)
 remove-alive schema limits places p row free is =
     let there = free-head (is_none (slice_get places p)) refusal.NoRow _ free in
     let living = free-head (is_dead (slice_get places p)) refusal.RemovedRow _ there.1 in
     alive-row (slice_get places p) row there.0 living.0 is
 
--- a place, and a column, of which no set is refused
+-- a set that is not refused names a column and a place that is alive
 set-behind : (schema : List Kind) (limits : Limits) (places : List Place) (p c : ℕ) (cell : Cell) → first_of (edit_faults schema limits places (edit.Set p c cell)) ≡ None → (is_none (slice_get schema c) ≡ false) × (first_of (edit_faults schema limits places (edit.Remove p)) ≡ None)
 set-behind schema limits places p c cell free =
     let column = free-head (is_none (slice_get schema c)) refusal.NoColumn _ free in
@@ -163,7 +163,7 @@ found-some (Some x) is = (x, refl)
 there-below : (places : List Place) (p : ℕ) → is_none (slice_get places p) ≡ false → p < length places
 there-below places p is = let found = found-some (slice_get places p) is in slice_get_within places p found.0 found.1
 
--- a row has a cell in each column of the schema
+-- each row has a cell in each column of the schema
 module _ {K : Type 0} (content : K → List ℕ) (schema : List Kind) (held : Rows K) (kinds : map kind_of held.column_indexes ≡ schema) where
   row-width : (p : ℕ) (row : List Cell) → slice_get (places_in content held) p ≡ Some (alive_with row) → length row ≡ length schema
   row-width p row at =
@@ -180,7 +180,7 @@ module _ {K : Type 0} (content : K → List ℕ) (schema : List Kind) (held : Ro
       let found = found-at row c (omega (arith, below, width)) in
       ap is_some found.1
 
--- the place of a removal that is not refused
+-- a removal that is not refused names a place of the table
 module _ {K : Type 0} (t : TableRows K) (p : ℕ) (free : None ≡ edit_due (asked t) (edit.Remove p)) where
   right : first_of (edit_faults t.schema t.limits t.places (edit.Remove p)) ≡ None
   right = faultless (asked t) (edit.Remove p) (sym free)
@@ -197,7 +197,7 @@ module _ {K : Type 0} (t : TableRows K) (p : ℕ) (free : None ≡ edit_due (ask
   pub remove-inside : (new : TableRows K) → IsMade t new (edit.Remove p) → p < length new.places
   remove-inside new made = let same = ap length made.places ∙ length-changed after_remove p t.places in omega (arith, remove-below, same)
 
--- the place and the column of a set that is not refused
+-- a set that is not refused names a place and a column of the table
 module _ {K : Type 0} (t : TableRows K) (p c : ℕ) (cell : Cell) (free : None ≡ edit_due (asked t) (edit.Set p c cell)) where
   behind : (is_none (slice_get t.schema c) ≡ false) × (first_of (edit_faults t.schema t.limits t.places (edit.Remove p)) ≡ None)
   behind = set-behind t.schema t.limits t.places p c cell (faultless (asked t) (edit.Set p c cell) (sym free))

@@ -1,4 +1,4 @@
--- What always holds of a table with aggregates holds after its objects moved.
+-- The invariant of a table with aggregates, after its objects moved.
 use Rattle.std.proofs.Common.{◌≡◌, ℕ, List, Result, sym, ap, subst}
 use Rattle.std.specs.Prelude.{OnOk, OnErr}
 use Rattle.std.proofs.lemmas.Result.{on_ok_weaker}
@@ -15,7 +15,7 @@ module _ {K : Type 0} (old now : TableRows K) (registrations : ℕ) (registry : 
   stays-live : now ≡ record old { held = now.held } → IsLive old registrations registry → IsLive now registrations registry
   stays-live stays live = subst (λ (t : TableRows K). IsLive t registrations registry) (sym stays) record { registrations_few = live.registrations_few; kept = live.kept; checked = live.checked }
 
-  -- a call moved objects, or was refused
+  -- a call moved objects or was refused
   module _ {A : Type 0} (r : Result A Refusal) (moves : Rows K → Rows K → Type 0) (ok : OnOk r (AreMoved moves old now)) (err : OnErr r (now ≡ old)) where
     pub moved-live : IsLive old registrations registry → IsLive now registrations registry
     moved-live live = by-outcome r ok err (λ (done : AreMoved moves old now). stays-live done.stays live) (λ (same : now ≡ old). subst (λ (t : TableRows K). IsLive t registrations registry) (sym same) live)

@@ -1,4 +1,4 @@
--- The contents of the columns that are away, one column after the other.
+-- The contents of the columns that are away, read one column after another.
 use Rattle.std.proofs.Common.{◌≡◌, ◌⊎◌, inl, inr, ℕ, zero, suc, ◌+◌, ◌<◌, Bool, true, false, List, [], ◌∷◌, ◌++◌, Option, None, Some, IsSome, refl, sym, ap, subst, ◌∙◌, arith}
 use Rattle.std.specs.Prelude.{◌==◌, cond, option_map, All}
 use Rattle.std.specs.List.{find}
@@ -18,7 +18,7 @@ use Rattle.far_table.specs.MixedGroups.{IsRead, AreReadBelow, AreRead}
 abbrev Read : Type 0
 Read = ℕ × List ℕ
 
--- what holds of all contents holds of one that is found
+-- a property of all contents is a property of the one that is found
 pub found-read : (P : Read → Type 0) (n : ℕ) (reads : List Read) → All P reads → (form : List ℕ) → Some form ≡ option_map (λ (read : Read). read.1) (find (λ read. read.0 == n) reads) → P (n, form)
 found-read P n [] all form is = absurd (none-some form (sym is))
 found-read P n (read ∷ reads) all form is = by (read.0 == n) refl (found-read P n reads (λ k d within. all (suc k) d (omega (arith, within))) form) where
@@ -29,7 +29,7 @@ found-read P n (read ∷ reads) all form is = by (read.0 == n) refl (found-read 
       subst (λ (k : ℕ). P (k, form)) number (subst (λ (bytes : List ℕ). P (read.0, bytes)) (sym same) (all 0 read (omega arith)))
   by false test others = others (is ∙ ap (λ (b : Bool). option_map (λ (r : Read). r.1) (cond b (Some read) (find (λ r. r.0 == n) reads))) test)
 
--- nothing is found if nothing is read of what is found
+-- a content that is found can be read
 pub none-read : {A : Type 0} (found : Option Read) → None ≡ option_map (λ (read : Read). read.1) found → IsSome found → A
 none-read None is there = absurd (let clash : false ≡ true = there in cc)
 none-read (Some read) is there = absurd (none-some read.1 is)
@@ -46,7 +46,7 @@ module _ {K : Type 0} (content : K → List ℕ) (g : GroupRows K) (spec : Spec)
   pub none-yet : AreReadBelow content g 0 spec []
   none-yet = record { each = λ k d within. absurd (omega (arith, within)); all = λ column under. absurd (omega (arith, under)) }
 
-  -- a column that is not needed, or is at hand
+  -- a column that is not needed, or is in memory, is passed over
   pub one-past : (n : ℕ) (reads : List Read) → AreReadBelow content g n spec reads → (needs spec n ≡ true → has_column g n ≡ false → ⊥) → AreReadBelow content g (n + 1) spec reads
   one-past n reads are idle = record { each = are.each; all = λ column under. by column under (cases_order column n) } where
     by : (column : ℕ) → column < n + 1 → (column ≡ n) ⊎ ((column < n) ⊎ (n < column)) → needs spec column ≡ true → has_column g column ≡ false → IsSome (find (λ (read : Read). read.0 == column) reads)
@@ -54,7 +54,7 @@ module _ {K : Type 0} (content : K → List ℕ) (g : GroupRows K) (spec : Spec)
     by column under (inr (inl less)) wanted away = are.all column less wanted away
     by column under (inr (inr more)) wanted away = absurd (omega (arith, under, more))
 
-  -- the content of one column more
+  -- reading one more column appends its content
   pub one-read : (n : ℕ) (reads : List Read) (bytes : List ℕ) → AreReadBelow content g n spec reads → IsRead content g (n, bytes) → AreReadBelow content g (n + 1) spec (reads ++ (n, bytes) ∷ [])
   one-read n reads bytes are is = record {
     each = All-append (IsRead content g) reads ((n, bytes) ∷ []) are.each only;
@@ -71,10 +71,10 @@ module _ {K : Type 0} (content : K → List ℕ) (g : GroupRows K) (spec : Spec)
     by column under (inr (inl less)) wanted away = some-or (find (λ (read : Read). read.0 == column) reads) (cond (n == column) (Some (n, bytes)) None) (are.all column less wanted away)
     by column under (inr (inr more)) wanted away = absurd (omega (arith, under, more))
 
-  -- all columns that are needed were looked at
+  -- once all needed columns are passed, each that was away is read
   pub all-read : (n : ℕ) (reads : List Read) → AreReadBelow content g n spec reads → ((column : ℕ) → needs spec column ≡ true → column < n) → AreRead content g spec reads
   all-read n reads are below = record { each = are.each; all = λ column wanted away. are.all column (below column wanted) wanted away }
 
--- a copy that was read
+-- the content of a copy's ticket is the content of the column
 pub copy-read : {K : Type 0} (content : K → List ℕ) (r : Rows K) (group column : ℕ) (ticket : K) → IsCopy content r group column ticket → IsRead content record { rows = r; group = group } (column, content ticket)
 copy-read content r group column ticket copy = record { form = copy.form; cells = copy.cells }

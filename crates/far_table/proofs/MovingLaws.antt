@@ -1,4 +1,4 @@
--- Objects moved: what always holds of the rows of a table holds still, and the places stay.
+-- Calls that only move objects keep the invariant of a table's rows, and the places.
 use Rattle.std.proofs.Common.{◌≡◌, ◌≢◌, ◌↔◌, ℕ, zero, suc, ◌+◌, ◌-◌, ℤ, List, [], ◌∷◌, length, map, Option, None, Some, Result, refl, sym, ap, subst, ◌∙◌, arith}
 use Rattle.std.specs.Prelude.{All, IsSomeAnd, IsErrOf, OnOk, OnErr, slice_get, slice_set}
 use Rattle.std.specs.declared.result.Result.TheVariants.{Ok, Err}
@@ -31,12 +31,12 @@ use Rattle.far_aggregates.specs.Accumulators.{PlacesFit}
 use Rattle.far_table.specs.TableRows.{TableRows, AreWritten, AreTableRows, rows_in}
 use Rattle.far_table.specs.Moving.{AreMoved, IsPinned, IsUnpinned, IsTouched, IsCommitted, IsInstalled, IsCompactedOf}
 
--- objects were written as often as before, and may be written as often
+-- no object was written, and the limit of writes is the same
 pub record AreAsWritten {X K L : Type 0} (old : Movement X K) (new : Movement X L) : Type 0 where
   pub max_writes : new.max_writes ≡ old.max_writes
   pub versions : (o : ℕ) → version_of new o ≡ version_of old o
 
--- only objects moved, none of which was written; they may be of another store
+-- only objects moved, and none was written; they may be in another store
 pub record AreStill {K L : Type 0} (old : Rows K) (new : Rows L) : Type 0 where
   pub column_indexes : new.column_indexes ≡ old.column_indexes
   pub size : new.size ≡ old.size
@@ -56,7 +56,7 @@ module _ {K : Type 0} where
     found None = refl
     found (Some object_record) = refl
 
-  -- another record for an object, which says that it was written as often
+  -- a change of an object's record that keeps its version keeps the number of writes
   writes-with : (records : List (ObjectRecord K)) (o : ℕ) (change : ObjectRecord K → ObjectRecord K) → ((e : ObjectRecord K) → (change e).version ≡ e.version) → (p : ℕ) → writes (with_record records o change) p ≡ writes records p
   writes-with [] o change same p = refl
   writes-with (e ∷ records) zero change same zero = same e
@@ -175,7 +175,7 @@ module _ {K : Type 0} (content : K → List ℕ) (schema : List Kind) (limits : 
       new_row_fit = subst (λ (column_indexes : List ColumnIndex). RowFits (row_of column_indexes new_row)) (sym still.column_indexes) kept.new_row_fit;
     }
 
-  -- a call moved objects, or was refused
+  -- a call moved objects or was refused
   module _ {A : Type 0} (t : TableRows K) (is : rows_in content schema limits old new_row edits ≡ t) (r : Result A Refusal) (now : Rows K) (moves : Rows K → Rows K → Type 0) (ok : OnOk r (moves old now)) (err : OnErr r (now ≡ old)) (cells : all_cells content now ≡ all_cells content old) (still : moves old now → AreStill old now) where
     pub moved-invariant : AreTableRows content schema limits old new_row edits → AreTableRows content schema limits now new_row edits
     moved-invariant kept = still-invariant content now cells (by-outcome r ok err still (λ (same : now ≡ old). subst (AreStill old) (sym same) (nothing-still old))) kept

@@ -1,4 +1,4 @@
--- What a build rests on holds still, and then its contents are those of its row group.
+-- If a build may be merged, its contents are those of its row group.
 use Rattle.std.proofs.Common.{◌≡◌, ℕ, ◌<◌, Bool, true, List, map, length, Option, None, Some, sym, ap, ◌∙◌, arith}
 use Rattle.std.specs.Prelude.{◌↔◌, IsTrue, IsSomeAnd, nat_lt, option_map}
 use Rattle.std.proofs.lemmas.Bool.Decides.{nat_tests}
@@ -18,7 +18,7 @@ use Rattle.far_rows.specs.Copies.{copy_of}
 use Rattle.far_table.specs.Offloading.{Build, HoldsStill, IsMergeable, HaveOneNumber, ticket_for}
 use Rattle.far_table.specs.FarGroups.{AllNeeded, IsCopy, AreCopies}
 
--- a column that an aggregate needs is one of the table
+-- each column that an aggregate needs is a column of the table
 pub needed-below : ((schema : List Kind) (spec : Spec) (some : ℕ → Bool) → spec_refusal schema spec ≡ None → ((c : ℕ) → c < length schema → some c ≡ true) → IsServed some spec)
     → {K : Type 0} (held : Rows K) (schema : List Kind) → map kind_of held.column_indexes ≡ schema → (spec : Spec) → spec_refusal schema spec ≡ None → (c : ℕ) → needs spec c ≡ true → c < length held.column_indexes
 needed-below law held schema kinds spec right c wanted =
@@ -33,7 +33,7 @@ some-has None P there then = absurd there
 some-has (Some a) P there then = then a there
 
 module _ {K : Type 0} (number_of : K → ℕ) (s : LiveState K) (build : Build K) where
-  -- the flags are those of the row group
+  -- the flags of a build that may be merged are the flags of its row group
   pub still-alive : IsMergeable number_of s build → build.job.alive ≡ in_group s.rows.size build.group s.rows.alive
   still-alive still = some-has (aggregate_at s.table build.aggregate) (HoldsStill number_of s build) still (λ a holds. holds.alive)
 
@@ -53,11 +53,11 @@ module _ {K : Type 0} (number_of : K → ℕ) (s : LiveState K) (build : Build K
       λ still. exact.1 (λ c within wanted. still.tickets c (ap (λ (p : Spec). needs p c) same ∙ wanted)),
     )
 
-    -- all else holds still, and it is the tickets that decide
+    -- the build may be merged exactly if its tickets are still current
     pub tickets-decide : Some spec ≡ option_map (λ (a : Registered). a.spec) (aggregate_at s.table build.aggregate) → Some registration ≡ option_map (λ (a : Registered). a.registration) (aggregate_at s.table build.aggregate) → is_pending_in (aggregate_at s.table build.aggregate) build.group ≡ true → IsTrue r ↔ IsMergeable number_of s build
     tickets-decide = under (aggregate_at s.table build.aggregate)
 
--- the contents are those of the row group
+-- the contents of the tickets are those of the row group
 pub still-copies : {K : Type 0} (content : K → List ℕ) (rows : Rows K) (build : Build K) (spec : Spec) → build.job.spec ≡ spec → build.job.alive ≡ in_group rows.size build.group rows.alive → ((c : ℕ) → needs spec c ≡ true → c < length rows.column_indexes)
     → AllNeeded (length rows.column_indexes) spec (λ c. IsSomeAnd (ticket_for build.job.tickets c) (IsCopy content rows build.group c)) → AreCopies content record { rows = rows; build = build }
 still-copies content rows build spec same alive below copies = record {

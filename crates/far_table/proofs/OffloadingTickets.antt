@@ -1,4 +1,4 @@
--- The tickets of columns, one column after the other.
+-- The tickets of columns, collected one column after another.
 use Rattle.std.proofs.Common.{◌≡◌, ◌⊎◌, inl, inr, ℕ, zero, suc, ◌+◌, ◌<◌, ◌≤◌, Bool, true, false, List, [], ◌∷◌, ◌++◌, length, drop, Option, None, Some, refl, sym, ap, subst, ◌∙◌, arith}
 use Rattle.std.specs.Prelude.{◌==◌, ◌&&◌, cond, is_none, option_map, slice_get, All, IfSome, IsSomeAnd}
 use Rattle.std.specs.List.{find, cons_option}
@@ -30,12 +30,12 @@ use Rattle.far_table.specs.Offloading.{ticket_for, dirty_from}
 use Rattle.far_table.specs.FarGroups.{contents_under, IsCopy}
 use Rattle.far_table.proofs.EditsSetRefusals.{found-at}
 
--- what holds of what is found holds of what it is made to
+-- a property of the images of values is a property of a mapped option
 pub if-mapped : {A K : Type 0} (f : A → K) (found : Option A) (P : K → Type 0) → IfSome found (λ a. P (f a)) → IfSome (option_map f found) P
 if-mapped f None P holds = tt
 if-mapped f (Some a) P holds = holds
 
--- whether something is there
+-- mapping an option keeps whether it is empty
 pub none-mapped : {A K : Type 0} (f : A → K) (found : Option A) (is : Option K) (b : Bool) → option_map f found ≡ is → is_none found ≡ b → is_none is ≡ b
 none-mapped f None is b same none = ap is_none (sym same) ∙ none
 none-mapped f (Some a) is b same none = ap is_none (sym same) ∙ none
@@ -44,7 +44,7 @@ pub and-none : (wanted none : Bool) → none ≡ false → (wanted && none) ≡ 
 and-none true none is = is
 and-none false none is = refl
 
--- something holds of a column more, which may be needed or not
+-- a property of the needed columns below k, and of column k if it is needed, holds for all below k + 1
 pub one-needed : (P : ℕ → Type 0) (spec : Spec) (k : ℕ) → ((column : ℕ) → column < k → needs spec column ≡ true → P column) → (needs spec k ≡ true → P k) → (column : ℕ) → column < k + 1 → needs spec column ≡ true → P column
 one-needed P spec k below here column under = by (cases_order column k) where
   by : (column ≡ k) ⊎ ((column < k) ⊎ (k < column)) → needs spec column ≡ true → P column
@@ -55,7 +55,7 @@ one-needed P spec k below here column under = by (cases_order column k) where
 pub not-needed : {A : Type 0} (spec : Spec) (k : ℕ) (b : Bool) → b ≡ needs spec k → b ≡ false → needs spec k ≡ true → A
 not-needed spec k b same idle wanted = absurd (let clash : true ≡ false = sym wanted ∙ sym same ∙ idle in cc)
 
--- a ticket that is found is among the tickets
+-- a property of all tickets is a property of the one that is found
 pub found-among : {A : Type 0} (P : A → Type 0) (test : A → Bool) (xs : List A) → All P xs → IfSome (find test xs) P
 found-among P test [] all = tt
 found-among P test (x ∷ xs) all = by (test x) (found-among P test xs (λ k d within. all (suc k) d (omega (arith, within)))) where
@@ -63,7 +63,7 @@ found-among P test (x ∷ xs) all = by (test x) (found-among P test xs (λ k d w
   by true others = all 0 x (omega arith)
   by false others = others
 
--- there is no object if the look-up is refused
+-- if the look-up is refused, there is no object
 pub none-refused : {K : Type 0} (r : Rows K) (column group : ℕ) (e : Refusal) → Some e ≡ object_refusal r column group → object_at r column group ≡ None
 none-refused r column group e due = by (object_at r column group) refl where
   by : (found : Option Object) → object_at r column group ≡ found → object_at r column group ≡ None
@@ -84,11 +84,11 @@ module _ {K : Type 0} where
   or-none None = refl
   or-none (Some x) = refl
 
-  -- the tickets with that of one column more
+  -- the tickets after one more column, which may have none
   abbrev pub with_copy : List (ℕ × K) → ℕ → Option K → List (ℕ × K)
   with_copy tickets column copy = tickets ++ cons_option (option_map {U = ℕ × K} (λ ticket. (column, ticket)) copy) []
 
-  -- what is added is the ticket that was found
+  -- the appended ticket is the one that was found
   pub with-found : {A : Type 0} (f : A → K) (tickets new : List (ℕ × K)) (column : ℕ) (found : Option A) → new ≡ tickets ++ cons_option (option_map {U = ℕ × K} (λ a. (column, f a)) found) [] → new ≡ with_copy tickets column (option_map f found)
   with-found f tickets new column None is = is
   with-found f tickets new column (Some a) is = is
@@ -105,21 +105,21 @@ module _ {K : Type 0} where
       ∙ or-map (λ x. x.1) (find test tickets) (find test more)
       ∙ ap (option_or (ticket_for tickets k)) (one column k copy)
 
-  -- a ticket of the same content is one of a copy too
+  -- a ticket with the same content as a copy's is a copy too
   pub same-copy : (content : K → List ℕ) (r : Rows K) (group column : ℕ) (own ticket : K) → content own ≡ content ticket → IsCopy content r group column own → IsCopy content r group column ticket
   same-copy content r group column own ticket same copy = record {
     form = subst IsForm same copy.form;
     cells = subst (λ (form : List ℕ). IsOfPlaces (in_group r.size group (places_in content r)) (column, cells_meant form)) same copy.cells;
   }
 
-  -- the ticket of a column is of the store of the others
+  -- a property of all tickets is a property of a column's ticket
   pub ticket-among : (P : K → Type 0) (tickets : List (ℕ × K)) (column : ℕ) (t : K) → All (λ ticket. P ticket.1) tickets → ticket_for tickets column ≡ Some t → P t
   ticket-among P tickets column t all is = by (find (λ (ticket : ℕ × K). ticket.0 == column) tickets) (found-among (λ (ticket : ℕ × K). P ticket.1) (λ ticket. ticket.0 == column) tickets all) is where
     by : (found : Option (ℕ × K)) → IfSome found (λ ticket. P ticket.1) → option_map (λ (ticket : ℕ × K). ticket.1) found ≡ Some t → P t
     by None holds same = absurd (none-some t same)
     by (Some ticket) holds same = subst P (same_Some ticket.1 t same) holds
 
-  -- the columns below a number have their tickets, and the others none yet
+  -- the columns below n have their tickets, and the others have none
   pub record AreTicketsBelow (want : ℕ → Option K) (n : ℕ) (tickets : List (ℕ × K)) : Type 0 where
     pub below : (k : ℕ) → k < n → ticket_for tickets k ≡ want k
     pub rest : (k : ℕ) → n ≤ k → ticket_for tickets k ≡ None
@@ -144,7 +144,7 @@ module _ {K : Type 0} where
         added tickets n k copy ∙ ap (λ b. option_or (ticket_for tickets k) (cond b copy None)) other ∙ or-none (ticket_for tickets k) ∙ are.below k less
     by k under (inr (inr more)) = absurd (omega (arith, under, more))
 
-  -- all columns were looked at
+  -- at the end each column has its ticket
   pub all-below : (want : ℕ → Option K) (n : ℕ) (tickets : List (ℕ × K)) → AreTicketsBelow want n tickets → ((k : ℕ) → n ≤ k → want k ≡ None) → (k : ℕ) → ticket_for tickets k ≡ want k
   all-below want n tickets are past k = by (cases_order k n) where
     by : (k ≡ n) ⊎ ((k < n) ⊎ (n < k)) → ticket_for tickets k ≡ want k
@@ -152,7 +152,7 @@ module _ {K : Type 0} where
     by (inr (inl less)) = are.below k less
     by (inr (inr more)) = are.rest k (omega (arith, more)) ∙ sym (past k (omega (arith, more)))
 
-  -- what holds of all tickets holds with one more
+  -- a property of all tickets and of the new one is a property of all
   pub all-with : (P : ℕ × K → Type 0) (tickets : List (ℕ × K)) (column : ℕ) (copy : Option K) → All P tickets → IfSome copy (λ ticket. P (column, ticket)) → All P (with_copy tickets column copy)
   all-with P tickets column None all new = All-append P tickets [] all (λ k d within. absurd (omega (arith, within)))
   all-with P tickets column (Some t) all new = All-append P tickets ((column, t) ∷ []) all only where
@@ -160,14 +160,14 @@ module _ {K : Type 0} where
     only zero d within = new
     only (suc k) d within = absurd (omega (arith, within))
 
-  -- past the columns the far store has nothing
+  -- the far store has no copy of a column past the last
   pub no-copy : (r : Rows K) (column group : ℕ) → length r.column_indexes ≤ column → copy_of r column group ≡ None
   no-copy r column group past = ap (λ (found : Option ColumnIndex). option_and_then (copy_in r) (option_and_then (λ (s : ColumnIndex). option_map (object_in s) (object_of r s group)) found)) (slice_get_past r.column_indexes column past)
 
   pub no-needed : (r : Rows K) (spec : Spec) (group column : ℕ) → length r.column_indexes ≤ column → cond (needs spec column) (copy_of r column group) None ≡ None
   no-needed r spec group column past = ap (λ (copy : Option K). cond (needs spec column) copy None) (no-copy r column group past) ∙ elim (needs spec column) as (λ b. ◌≡◌ {A = Option K} (cond b None None) None) [ true ↦ refl | false ↦ refl ]
 
-  -- a content is found if its ticket is
+  -- the content of a column is found exactly if its ticket is
   pub content-for : (content : K → List ℕ) (tickets : List (ℕ × K)) (column : ℕ) → option_map (λ (x : ℕ × List ℕ). x.1) (find (λ x. x.0 == column) (contents_under content tickets)) ≡ option_map content (ticket_for tickets column)
   content-for content [] column = refl
   content-for content (ticket ∷ tickets) column =
@@ -176,7 +176,7 @@ module _ {K : Type 0} where
         | false ↦ content-for content tickets column
       ]
 
-  -- bytes are the far form of a column of a row group
+  -- these bytes are the far form of this column of this row group
   pub record IsReadOf (content : K → List ℕ) (r : Rows K) (group column : ℕ) (form : List ℕ) : Type 0 where
     pub is_form : IsForm form
     pub cells : IsOfPlaces (in_group r.size group (places_in content r)) (column, cells_meant form)
@@ -185,7 +185,7 @@ module _ {K : Type 0} where
     of-ticket : option_map (λ (x : ℕ × List ℕ). x.1) (find (λ x. x.0 == column) contents) ≡ option_map content (ticket_for tickets column)
     of-ticket = ap (λ (cs : List (ℕ × List ℕ)). option_map (λ (x : ℕ × List ℕ). x.1) (find (λ x. x.0 == column) cs)) same ∙ content-for content tickets column
 
-    -- the content that is found is that of the column
+    -- the content that is found is the far form of the column
     pub read-copy : (form : List ℕ) → Some form ≡ option_map (λ (x : ℕ × List ℕ). x.1) (find (λ x. x.0 == column) contents) → IsReadOf content r group column form
     read-copy form found =
         let ticket = mapped content (ticket_for tickets column) form (sym (found ∙ of-ticket)) in
@@ -195,7 +195,7 @@ module _ {K : Type 0} where
           cells = subst (λ (bytes : List ℕ). IsOfPlaces (in_group r.size group (places_in content r)) (column, cells_meant bytes)) ticket.2 copy.cells;
         }
 
-    -- and one is found
+    -- the content of a column with a copy is found
     pub one-read : {A : Type 0} → None ≡ option_map (λ (x : ℕ × List ℕ). x.1) (find (λ x. x.0 == column) contents) → A
     one-read none = by (ticket_for tickets column) (none ∙ of-ticket) copied where
       by : {A : Type 0} (ticket : Option K) → None ≡ option_map content ticket → IsSomeAnd ticket (IsCopy content r group column) → A
@@ -203,7 +203,7 @@ module _ {K : Type 0} where
       by (Some t) is there = absurd (none-some (content t) is)
 
   module _ (r : Rows K) (spec : Spec) (g : ℕ) where
-    -- the columns from one on
+    -- the refusal by the columns from k on
     abbrev pub left : ℕ → Option Refusal
     left k = first_of (dirty_from r spec g k (drop k r.column_indexes))
 

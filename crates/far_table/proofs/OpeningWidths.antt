@@ -1,4 +1,4 @@
--- How many columns of each kind a table has when it is opened.
+-- The number of columns of each kind in a table that is opened.
 use Rattle.std.proofs.Common.{◌≡◌, ℕ, suc, ◌+◌, ◌<◌, ◌≤◌, List, [], ◌∷◌, length, drop, get_or, refl, ap, arith}
 use Rattle.std.proofs.lemmas.List.{drop_all}
 use Rattle.far_types.specs.declared.cell.Kind.{Kind}
@@ -26,7 +26,7 @@ texts-few size limit n [] = omega arith
 texts-few size limit n (kind.Int ∷ kinds) = let few = texts-few size limit (n + 1) kinds in omega (arith, few)
 texts-few size limit n (kind.Text ∷ kinds) = let few = texts-few size limit (n + 1) kinds in omega (arith, few)
 
--- the first k kinds are counted
+-- the counts of the first k kinds
 pub record AreCounted (numbers texts : ℕ) (kinds : List Kind) (k : ℕ) : Type 0 where
   pub ints : (size : ℕ) → numbers + length (numbers_from size 0 (drop k kinds)) ≡ length (numbers_from size 0 kinds)
   pub strings : (size limit : ℕ) → texts + length (texts_from size limit 0 (drop k kinds)) ≡ length (texts_from size limit 0 kinds)
@@ -39,7 +39,7 @@ module _ (numbers texts : ℕ) (kinds : List Kind) (k : ℕ) (counted : AreCount
   few-strings = let all = counted.strings 0 0 in let few = texts-few 0 0 0 kinds in omega (arith, all, few)
 
   module _ (past : length kinds ≤ k) where
-    -- all were counted
+    -- at the end all kinds are counted
     pub all-ints : (size : ℕ) → numbers ≡ length (numbers_from size 0 kinds)
     all-ints size = let none = ap (λ (ks : List Kind). length (numbers_from size 0 ks)) (drop_all k kinds past) in let all = counted.ints size in omega (arith, none, all)
 

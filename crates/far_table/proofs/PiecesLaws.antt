@@ -1,4 +1,4 @@
--- Pieces that are folded separately come to what the whole table does.
+-- The partials of pieces that are folded separately are the partials of the whole table.
 use Rattle.std.proofs.Common.{◌≡◌, ℕ, suc, ◌+◌, ◌<◌, ◌≤◌, Bool, true, false, List, [], ◌∷◌, ◌++◌, length, refl, sym, ap, subst, ◌∙◌, arith, slice_index_or, Result, Ok, Err, Option, Some}
 use Rattle.std.specs.Prelude.{◌==◌, cond, IfOk, IsOk, is_ok}
 use Rattle.std.specs.List.{cons_option}
@@ -25,7 +25,7 @@ few-in (Ok x) = omega arith
 few-in (Err e) = few-of e
 
 module _ (spec : Spec) (wide : ℕ) (places : List Place) where
-  -- pieces from the i-th on
+  -- these are the pieces from number i on
   abbrev pub AreFrom : ℕ → List Piece → Type 0
   AreFrom i pieces = (k : ℕ) (d : Piece) → k < length pieces → IsPiece spec wide places (i + k) (slice_index_or pieces k d)
 
@@ -45,14 +45,14 @@ module _ (spec : Spec) (wide : ℕ) (places : List Place) where
     by (Ok done) at = ap result_ok at ∙ ap Some (subst (λ (p : Result PartialDone Refusal). IfOk p (λ it. it ≡ partial_at spec wide places i)) at is.partial)
     by (Err e) at = absurd (clash at whole)
 
-  -- what they come to
+  -- their partials are the partials of the table from number i on
   pub all-from : (i : ℕ) (pieces : List Piece) → AreFrom i pieces → AreWhole pieces → all_partials pieces ≡ partials_from spec wide places i (length pieces)
   all-from i [] are whole = refl
   all-from i (piece ∷ pieces) are whole =
       ap (λ (o : Option PartialDone). cons_option o (all_partials pieces)) (of-piece i piece (first-from i piece pieces are) whole.0)
       ∙ ap (λ (rest : List PartialDone). partial_at spec wide places i ∷ rest) (all-from (i + 1) pieces (rest-from i piece pieces are) whole.1)
 
-  -- each met a fault at most
+  -- each piece met at most one fault
   pub few-faults : (i : ℕ) (pieces : List Piece) → AreFrom i pieces → HaveFewFaults pieces
   few-faults i [] are = tt
   few-faults i (piece ∷ pieces) are = (
@@ -60,7 +60,7 @@ module _ (spec : Spec) (wide : ℕ) (places : List Place) where
     few-faults (i + 1) pieces (rest-from i piece pieces are),
   )
 
--- the partials so far, and the pieces that are still to be put to them
+-- the partials that are collected, and the pieces that are not collected yet
 pub record AreGathered (pieces : List Piece) (partials : List PartialDone) (rest : List Piece) : Type 0 where
   pub all : partials ++ all_partials rest ≡ all_partials pieces
   pub whole : AreWhole rest → AreWhole pieces
@@ -68,7 +68,7 @@ pub record AreGathered (pieces : List Piece) (partials : List PartialDone) (rest
 pub none-gathered : (pieces : List Piece) → AreGathered pieces [] pieces
 none-gathered pieces = record { all = refl; whole = λ whole. whole }
 
--- one piece more
+-- collecting the partial of one more piece
 pub one-gathered : (pieces : List Piece) (partials new : List PartialDone) (piece : Piece) (rest : List Piece) → AreGathered pieces partials (piece ∷ rest) → IsOk piece.partial → IfOk piece.partial (λ done. new ≡ partials ++ done ∷ []) → AreGathered pieces new rest
 one-gathered pieces partials new piece rest are ok added = record {
   all = by piece.partial refl ∙ are.all;

@@ -1,4 +1,4 @@
--- Runs of row groups that are folded into one partial each: their places, and what these come to.
+-- Runs of row groups that are folded into one partial each: their places and their results.
 use Rattle.std.proofs.Common.{◌≡◌, inl, inr, ℕ, ◌+◌, ◌-◌, ◌*◌, ◌/◌, ◌<◌, ◌≤◌, ◌^◌, List, [], ◌++◌, length, take, drop, max, sym, ap, subst, ◌∙◌, arith, slice_index_or}
 use Rattle.std.proofs.Math.Nat.{mul_assoc, mul_comm, mul-le-mul_right, div-lt_iff_lt-mul, lt-div-mul-add, div-mul-le_self}
 use Rattle.std.proofs.Math.Seq.{take-add}
@@ -53,7 +53,7 @@ few-times len wide pieces some h =
     let less = (div-lt_iff_lt-mul {k = wide} {x = len + wide - 1} {y = pieces + 1} some).1 below in
     omega (arith, less)
 
--- pieces are no longer than all row groups
+-- a piece has at most as many row groups as the table
 pub ceil-short : (count workers ceil : ℕ) → 0 < workers → ceil * workers < count + workers → ceil ≤ count
 ceil-short count workers ceil some last =
     elim (cases_lt count ceil) [
@@ -73,7 +73,7 @@ module _ (places : List Place) where
   same-part : (n m a b : ℕ) → n ≡ m → a ≡ b → take n (drop a places) ≡ take m (drop b places)
   same-part n m a b first start = ap (λ k. take k (drop a places)) first ∙ ap (λ k. take m (drop k places)) start
 
-  -- what reaches over the end is as long as it may be
+  -- a range that reaches past the end has all places up to the end
   to-the-end : (n m a : ℕ) → length places ≤ a + n → length places ≤ a + m → take n (drop a places) ≡ take m (drop a places)
   to-the-end n m a one other =
       let rest = length-drop a places in
@@ -85,7 +85,7 @@ module _ (places : List Place) where
       let second = take_all m (drop b places) (omega (arith, length-drop b places)) ∙ drop_all b places other in
       first ∙ sym second
 
-  -- a piece of so many row groups is one row group of a table whose row groups are so much wider
+  -- a piece of several row groups is one row group of a table with wider row groups
   pub run-wide : (size count long i : ℕ) → length places ≤ count * size → run_of size (begin_of count long i) (begin_of count long (i + 1)) places ≡ in_group (long * size) i places
   run-wide size count long i all =
       let next = next-times i long in
@@ -119,9 +119,9 @@ module _ (places : List Place) where
             ]
       ]
 
-  -- ---- one row group more
+  -- ---- one more row group
 
-  -- no row group
+  -- a run of no row group has no places
   pub run-none : (size from : ℕ) → run_of size from from places ≡ []
   run-none size from =
       let level : from - from ≡ 0 = omega arith in
@@ -168,12 +168,12 @@ module _ (places : List Place) where
       ∙ ap extrema (sym (filter_map-append (place_pair spec) (run_of size from group places) (in_group size group places)))
       ∙ ap (λ l. extrema (pairs_here spec l)) (sym (run-more size from group low))
 
--- what a piece comes to is what its wide row group does
+-- the partial of a piece is the partial of its wide row group
 pub as-one : (spec : Spec) (places : List Place) (size count long i : ℕ) → length places ≤ count * size
     → partial_of spec.fold (pairs_here spec (run_of size (begin_of count long i) (begin_of count long (i + 1)) places)) ≡ partial_at spec (long * size) places i
 as-one spec places size count long i all = ap (λ (ps : List Place). partial_of spec.fold (pairs_here spec ps)) (run-wide places size count long i all)
 
--- ---- how many pieces there are
+-- ---- the number of pieces
 
 pub positive : (long size : ℕ) → 0 < long → 0 < size → 0 < long * size
 positive long size some many = let up : 1 * size ≤ long * size = mul-le-mul_right size (omega (arith, some)) in omega (arith, up, many)
@@ -184,16 +184,16 @@ few-wide len size count long pieces some all enough =
     let wide : len ≤ pieces * (long * size) = subst (λ n. len ≤ n) (mul_assoc pieces long size) (at-most len (count * size) (pieces * long * size) all up) in
     few-times len (long * size) pieces some wide
 
--- the row groups that are counted hold all places
+-- the counted row groups hold all places
 pub all-held : (len size count : ℕ) → 0 < size → count ≡ groups size len → len ≤ count * size
 all-held len size count some is =
     rounded-up len size ((len + size - 1) / size * size) (count * size) some (lt-div-mul-add {a = len + size - 1} {b = size} some) (ap (λ n. n * size) is)
 
--- and no more than one of them is not full
+-- at most the last row group is not full
 pub not-much-more : (len size count : ℕ) → count ≡ groups size len → count * size ≤ len + size - 1
 not-much-more len size count is = rounded-down len size ((len + size - 1) / size * size) (count * size) (div-mul-le_self (len + size - 1) size) (ap (λ n. n * size) is)
 
--- a piece has no more places than that
+-- so a piece has fewer than 2 ^ 25 places
 pub narrow : (len size count long : ℕ) → size ≤ 2 ^ 16 → len ≤ 2 ^ 24 → count ≡ groups size len → long ≤ max count 1 → long * size < 2 ^ 25
 narrow len size count long small few is short =
     let most = not-much-more len size count is in
@@ -202,7 +202,7 @@ narrow len size count long small few is short =
       | inr some ↦ let up : long * size ≤ count * size = mul-le-mul_right size (omega (arith, some, short)) in omega (arith, up, most, few, small)
     ]
 
--- ---- pieces that are known by their numbers
+-- ---- pieces that are identified by their numbers
 
 module _ (spec : Spec) (wide : ℕ) (places : List Place) (number : ℕ) (pieces : List Piece) (many : length pieces ≡ number)
     (each : (i : ℕ) (d : Piece) → i < number → IsPiece spec wide places i (slice_index_or pieces i d)) where
@@ -217,7 +217,7 @@ module _ (spec : Spec) (wide : ℕ) (places : List Place) (number : ℕ) (pieces
   pub wide-whole : AreWhole pieces → all_partials pieces ≡ partials_from spec wide places 0 number
   wide-whole whole = all-from spec wide places 0 pieces in-order whole ∙ ap (partials_from spec wide places 0) many
 
--- what all pieces come to, in the words of the table that has row groups as wide as they
+-- the partials of all pieces are the partials of a table with wider row groups
 pub wide-given : (spec : Spec) (places : List Place) (size held long wide number len : ℕ) (pieces : List Piece) (partials : List PartialDone) → size ≡ held → wide ≡ long * size → number ≡ groups wide len → length pieces ≡ number
     → ((i : ℕ) (d : Piece) → i < number → IsPiece spec (long * held) places i (slice_index_or pieces i d)) → AreWhole pieces → partials ≡ all_partials pieces → partials ≡ partials_from spec wide places 0 (groups wide len)
 wide-given spec places size held long wide number len pieces partials same wide-is counted many each whole gathered =

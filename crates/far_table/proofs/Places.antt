@@ -1,4 +1,4 @@
--- What the places have of the columns and the flags.
+-- The places of a table, from its columns and flags.
 use Rattle.std.proofs.Common.{◌≡◌, ℕ, zero, suc, ◌+◌, Bool, List, [], ◌∷◌, map, length, Option, None, Some, refl, sym, ap, ◌∙◌, arith}
 use Rattle.std.specs.Prelude.{option_map, slice_get}
 use Rattle.std.specs.List.{enumerate_from}
@@ -21,7 +21,7 @@ placed-get f n (suc p) (flag ∷ flags) =
     let e : n + 1 + p ≡ n + suc p = omega arith in
     placed-get f (n + 1) p flags ∙ (λ i. option_map (λ b. record { cells = f (e i); alive = b }) (slice_get flags p))
 
--- a place has its flag and the row that stands there
+-- place p has flag p and row p
 pub place-get : (columns : List (List Cell)) (flags : List Bool) (p : ℕ) → slice_get (places_of columns flags) p ≡ option_map (λ flag. record { cells = row_at columns p; alive = flag }) (slice_get flags p)
 place-get columns flags p = let e : 0 + p ≡ p = omega arith in placed-get (row_at columns) 0 p flags ∙ (λ i. option_map (λ b. record { cells = row_at columns (e i); alive = b }) (slice_get flags p))
 
@@ -35,6 +35,6 @@ alive-get columns flags p = ap (option_map (λ (place : Place). place.alive)) (p
 pub cells-get : (columns : List (List Cell)) (flags : List Bool) (p : ℕ) (flag : Bool) → slice_get flags p ≡ Some flag → option_map (λ (place : Place). place.cells) (slice_get (places_of columns flags) p) ≡ Some (row_at columns p)
 cells-get columns flags p flag at = ap (option_map (λ (place : Place). place.cells)) (place-get columns flags p ∙ ap (option_map (λ b. record { cells = row_at columns p; alive = b })) at)
 
--- a place that is there has a flag
+-- a place that exists has its flag
 pub flag-there : (columns : List (List Cell)) (flags : List Bool) (p : ℕ) (place : Place) → slice_get (places_of columns flags) p ≡ Some place → slice_get flags p ≡ Some place.alive
 flag-there columns flags p place at = sym (alive-get columns flags p) ∙ ap (option_map (λ (q : Place). q.alive)) at

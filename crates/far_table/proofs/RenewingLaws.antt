@@ -1,4 +1,4 @@
--- Far copies went into another store: what always holds of the rows of a table holds still, and the places stay.
+-- Moving the far copies to another store keeps the invariant of a table's rows, and the places.
 use Rattle.std.proofs.Common.{◌≡◌, ℕ, zero, suc, List, [], ◌∷◌, length, map, Option, refl, sym, ap, subst, ◌∙◌, arith}
 use Rattle.std.specs.List.{zip}
 use Rattle.far_types.specs.declared.cell.Kind.{Kind}

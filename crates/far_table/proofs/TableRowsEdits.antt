@@ -1,4 +1,4 @@
--- What always holds of the parts of a table's rows holds after an edit.
+-- An edit keeps the invariant of a table's rows.
 use Rattle.std.proofs.Common.{◌≡◌, ◌≢◌, ℕ, suc, ◌+◌, ◌≤◌, ℤ, true, false, if◌then◌else◌, List, [], ◌∷◌, ◌++◌, length, map, set, Option, None, Some, inl, inr, refl, sym, ap, subst, ◌∙◌, arith}
 use Rattle.std.specs.Prelude.{All, slice_get}
 use Rattle.std.specs.Option.{option_map_or}
@@ -32,7 +32,7 @@ use Rattle.far_aggregates.specs.Accumulators.{PlacesFit}
 use Rattle.far_table.specs.TableRows.{AreWritten, AreTableRows}
 use Rattle.far_table.proofs.AccumulatorsFits.{fit-appended, fit-set, fit-removed}
 
--- how often objects may be written stays
+-- pushing values keeps the limit of writes
 module _ {K : Type 0} where
   one-changes : (m : Movement (Option ℤ) K) (c : Vector (Option ℤ)) (x : Option ℤ) → (objects_after_push m c x).max_writes ≡ m.max_writes
   one-changes m c x = elim (is_full c) as (λ b. (if b then after_create m (next_name c) (next_group c x) else after_write_range m c c.len (x ∷ [])).max_writes ≡ m.max_writes) [ true ↦ refl | false ↦ refl ]
@@ -57,7 +57,7 @@ module _ {K : Type 0} where
     | inr begun ↦ (let given = moved.replaced begun in ap (λ (m : Movement ℕ K). m.max_writes) given.2 ∙ after_write-changes _ given.0)
   ]
 
--- each column stays as it is but for a value more
+-- pushing a row keeps the number of columns and their limits
 length-numbers : (n : ℕ) (columns : NumberColumns) → length (after_push_all n columns) ≡ length columns
 length-numbers n [] = refl
 length-numbers n (c ∷ columns) = ap suc (length-numbers (n + 1) columns)
@@ -92,7 +92,7 @@ module _ {K : Type 0} (content : K → List ℕ) (is_of : K → List ℕ → Typ
     new_row_fit = subst (λ (column_indexes : List ColumnIndex). RowFits (row_of column_indexes new_row)) (sym pushed.column_indexes) holds.new_row_fit;
   }
 
-  -- all but objects stays, and they may be written as often as before
+  -- only objects changed, and they may be written as often as before
   record IsAlike (now : Rows K) : Type 0 where
     pub column_indexes : now.column_indexes ≡ old.column_indexes
     pub size : now.size ≡ old.size
@@ -148,7 +148,7 @@ module _ {K : Type 0} (content : K → List ℕ) (is_of : K → List ℕ → Typ
     new_row_fit = holds.new_row_fit;
   }
 
-  -- another row of such a width is loaded
+  -- loading another row of the same width keeps the invariant
   pub loaded-invariant : (next : Values) → length next.numbers ≡ length new_row.numbers → length next.texts ≡ length new_row.texts → RowFits (row_of old.column_indexes next) → AreTableRows content schema limits old next edits
   loaded-invariant next numbers texts fits = record {
     bounds = holds.bounds;

@@ -1,4 +1,4 @@
--- What always holds of a table's rows holds when they are opened.
+-- The invariant of a table's rows holds when they are opened.
 use Rattle.std.proofs.Common.{◌≡◌, ℕ, ◌+◌, List, [], ◌∷◌, map, length, replicate, None, refl, ap, ◌∙◌, arith}
 use Rattle.std.specs.Prelude.{All}
 use Rattle.std.proofs.lemmas.List.{length-replicate}

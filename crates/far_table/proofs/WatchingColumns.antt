@@ -1,4 +1,4 @@
--- The columns that an aggregate needs are looked at one after the other.
+-- The columns that an aggregate needs, checked one after another.
 use Rattle.std.proofs.Common.{◌≡◌, ℕ, ◌+◌, ◌*◌, ◌/◌, ◌<◌, ◌≤◌, Bool, true, false, List, [], ◌∷◌, length, drop, Option, None, Some, refl, sym, ap, subst, ◌∙◌, arith}
 use Rattle.std.specs.Prelude.{◌&&◌, cond, is_none, option_map, slice_get}
 use Rattle.std.specs.Option.{option_and_then, option_map_or, option_or}
@@ -20,7 +20,7 @@ use Rattle.far_table.specs.Watching.{needed_from}
 use Rattle.far_table.proofs.EditsSetRefusals.{found-at, object-there}
 
 module _ {K : Type 0} (content : K → List ℕ) (held : Rows K) (are : AreRows content held) (p : ℕ) (inside : p < length held.alive) where
-  -- a column of a row group that has a place is not at hand if its object is away
+  -- a column of a row group with places is refused exactly if its object is away
   pub lend-due : (c : ℕ) (s : ColumnIndex) → slice_get held.column_indexes c ≡ Some s → evac_refusal held c (p / held.size) ≡ first_of (((away_at held (p / held.size) s).0, refusal.Absent c (p / held.size)) ∷ [])
   lend-due c s lies =
       let g = p / held.size in
@@ -30,7 +30,7 @@ module _ {K : Type 0} (content : K → List ℕ) (held : Rows K) (are : AreRows 
       let here : first_of (absent_in held c g ∷ []) ≡ first_of (((away_at held g s).0, refusal.Absent c g) ∷ []) = ap (λ (t : Option ColumnIndex). first_of (option_map_or (absent_at held c g) t (false, refusal.StaleJob) ∷ [])) lies in
       ap (λ (o : Option Refusal). option_or o (first_of (absent_in held c g ∷ []))) known ∙ here
 
--- a row group begins at a place
+-- the row group of a row group's first place is this row group
 pub first-place : (g size : ℕ) → 0 < size → (g * size) / size ≡ g
 first-place g size some = let e : g * size ≡ g * size + 0 = omega arith in ap (λ n. n / size) e ∙ div-mul-add g size 0 some
 
@@ -51,11 +51,11 @@ module _ {K : Type 0} (r : Rows K) (spec : Spec) (g : ℕ) where
       ap (λ (column_indexes : List ColumnIndex). first_of (needed_from r spec g k column_indexes)) (stands k s at below)
       ∙ ap (λ (b : Bool). cond b (Some (refusal.Absent k g)) (left (k + 1))) away
 
-  -- all were looked at
+  -- after the last column no refusal is left
   pub none-left : (k : ℕ) → length r.column_indexes ≤ k → left k ≡ None
   none-left k past = ap (λ (column_indexes : List ColumnIndex). first_of (needed_from r spec g k column_indexes)) (drop_all k r.column_indexes past)
 
--- a row group has a place, by what the rows return
+-- a row group has a place, from the size and the length that the rows return
 pub begun-at : {K : Type 0} (g : ℕ) (rows held : Rows K) → rows ≡ held → (size len : ℕ) → rows.size ≡ size → length rows.alive ≡ len → g * size < len → g * held.size < length held.alive
 begun-at g rows held same size len group all begun = subst (λ (r : Rows _). g * r.size < length r.alive) same (subst (λ (n : ℕ). g * n < length rows.alive) (sym group) (subst (λ (n : ℕ). g * size < n) (sym all) begun))
 
@@ -72,24 +72,24 @@ and-false true = refl
 and-false false = refl
 
 module _ {K : Type 0} (content : K → List ℕ) (held : Rows K) (are : AreRows content held) (spec : Spec) (g : ℕ) (begun : g * held.size < length held.alive) where
-  -- whether a column of the row group is at hand
+  -- a column of the row group is refused exactly if its object is away
   pub lend-at : (c : ℕ) (s : ColumnIndex) → slice_get held.column_indexes c ≡ Some s → evac_refusal held c g ≡ first_of (((away_at held g s).0, refusal.Absent c g) ∷ [])
   lend-at c s lies = subst (λ (h : ℕ). evac_refusal held c h ≡ first_of (((away_at held h s).0, refusal.Absent c h) ∷ [])) (first-place g held.size are.some) (lend-due content held are (g * held.size) begun c s lies)
 
-  -- a column that is not needed is passed over
+  -- a column that is not needed causes no refusal
   pub step-past : (k : ℕ) → k < length held.column_indexes → needs spec k ≡ false → left held spec g k ≡ left held spec g (k + 1)
   step-past k below idle =
       let found = found-at held.column_indexes k below in
       next-here held spec g k found.0 below found.1 (ap (λ b. b && (away_at held g found.0).0) idle)
 
-  -- a column that is at hand
+  -- a column that is in memory causes no refusal
   pub step-here : (k : ℕ) → k < length held.column_indexes → None ≡ evac_refusal held k g → left held spec g k ≡ left held spec g (k + 1)
   step-here k below here =
       let found = found-at held.column_indexes k below in
       let answered = not-due (away_at held g found.0).0 (refusal.Absent k g) (here ∙ lend-at k found.0 found.1) in
       next-here held spec g k found.0 below found.1 (ap (λ b. needs spec k && b) answered ∙ and-false (needs spec k))
 
-  -- and one that is needed and away
+  -- a needed column that is away causes the refusal
   pub step-away : (k : ℕ) (e : Refusal) → k < length held.column_indexes → needs spec k ≡ true → Some e ≡ evac_refusal held k g → left held spec g k ≡ Some e
   step-away k e below wanted away =
       let found = found-at held.column_indexes k below in

@@ -1,4 +1,4 @@
--- Why an aggregate is not registered, or a row group not scanned.
+-- Why an aggregate is not registered, or a row group is not scanned.
 use Rattle.std.proofs.Common.{◌≡◌, ◌≢◌, ℕ, zero, suc, ◌<◌, ◌≤◌, Bool, true, false, not, List, [], ◌∷◌, set, Option, None, Some, refl, subst, sym, ap, ◌∙◌, arith}
 use Rattle.std.specs.Prelude.{◌^◌, ◌==◌, cond, is_none, nat_lt}
 use Rattle.std.specs.Option.{option_or}
@@ -14,11 +14,11 @@ use Rattle.far_types.specs.Table.{Table, Registered, is_pending}
 use Rattle.far_table.specs.State.{LiveState, IsChecked, AreChecked}
 use Rattle.far_table.specs.Watching.{lowest_free, group_count, needed_from, watch_refusal, scan_refusal}
 
--- what is due is returned
+-- a call may return the due refusal
 pub due : (o : Option Refusal) (grows : Bool) (e : Refusal) → o ≡ Some e → MayRefuse o grows e
 due o grows e is = subst (λ due. MayRefuse due grows e) (sym is) refl
 
--- if nothing is due, memory may have run out
+-- if no refusal is due, a call may return `NoMemory`
 pub for-memory : (o : Option Refusal) (e : Refusal) → o ≡ None → e ≡ refusal.NoMemory → MayRefuse o true e
 for-memory o e free is = subst (λ due. MayRefuse due true e) (sym free) (is, refl)
 
@@ -62,7 +62,7 @@ module _ {K : Type 0} (s : LiveState K) (r : Registered) (g : ℕ) where
   pub scan-left : g < group_count s.table → is_pending r.pending g ≡ true → scan_refusal s (Some r) g ≡ first_of away
   scan-left within left = scan-in within ∙ ap (λ b. cond (not b) (Some refusal.StaleJob) (first_of away)) left
 
--- an aggregate that may be had, or none, is put under a number
+-- writing a valid registration, or none, keeps the registrations valid
 pub checked-put : (schema : List Kind) (aggregates : List (Option Registered)) (a : ℕ) (aggregate : Option Registered) → AreChecked schema aggregates → IsChecked schema aggregate → AreChecked schema (set aggregates a aggregate)
 checked-put schema [] a aggregate checked is = tt
 checked-put schema (other ∷ rest) zero aggregate checked is = (is, checked.1)

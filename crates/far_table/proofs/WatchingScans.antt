@@ -1,4 +1,4 @@
--- A row group is scanned into an aggregate.
+-- Scanning a row group into an aggregate.
 use Rattle.std.proofs.Common.{◌≡◌, ℕ, zero, suc, ◌+◌, ◌-◌, ◌*◌, ◌<◌, Bool, true, false, List, [], ◌∷◌, map, length, Option, None, Some, Result, Ok, Err, refl, sym, ap, subst, ◌∙◌, arith}
 use Rattle.std.specs.Prelude.{◌&&◌, cond, is_none, nat_lt, slice_get, slice_set, option_map, IfErr, OnOk, OnErr}
 use Rattle.std.proofs.Math.Nat.{le-div_iff_mul-le}
@@ -27,7 +27,7 @@ use Rattle.far_table.proofs.FirstOfLaws.{free-head}
 use Rattle.far_table.proofs.WatchingColumns.{lend-at}
 use Rattle.far_table.proofs.WatchingLaws.{checked-put}
 
--- a row group that is counted begins at a place
+-- a row group below the number of row groups has a place
 pub begun : (g size len : ℕ) → 0 < size → g < groups size len → g * size < len
 begun g size len some counted =
     let up = (le-div_iff_mul-le {k = size} {x = g + 1} {y = len + size - 1} some).0 (omega (arith, counted)) in
@@ -39,7 +39,7 @@ and-then true b is free = free
 and-then false b is free = absurd cc
 
 module _ {K : Type 0} (r : Rows K) (spec : Spec) (g : ℕ) where
-  -- no object of a column that is needed is away
+  -- if no needed column is refused, none of their objects is away
   none-needed : (n : ℕ) (column_indexes : List ColumnIndex) → first_of (needed_from r spec g n column_indexes) ≡ None → (k : ℕ) (s : ColumnIndex) → slice_get column_indexes k ≡ Some s → needs spec (n + k) ≡ true → (away_at r g s).0 ≡ false
   none-needed n [] free k s at wanted = absurd (none-some s at)
   none-needed n (t ∷ column_indexes) free zero s at wanted =
@@ -53,7 +53,7 @@ module _ {K : Type 0} (r : Rows K) (spec : Spec) (g : ℕ) where
       none-needed (n + 1) column_indexes head.1 k s at (ap (needs spec) next ∙ wanted)
 
 module _ {K : Type 0} (content : K → List ℕ) (held : Rows K) (are : AreRows content held) (g : ℕ) (inside : g * held.size < length held.alive) where
-  -- the columns that an aggregate needs are at hand if none of them is away
+  -- if no needed column is away, the aggregate finds all columns that it needs
   pub scan-served : ((schema : List Kind) (spec : Spec) (some : ℕ → Bool) → spec_refusal schema spec ≡ None → ((c : ℕ) → c < length schema → some c ≡ true) → IsServed some spec)
       → (schema : List Kind) → map kind_of held.column_indexes ≡ schema → (spec : Spec) → spec_refusal schema spec ≡ None → None ≡ first_of (needed_from held spec g 0 held.column_indexes) → IsServed (has_column record { rows = held; group = g }) spec
   scan-served law schema kinds spec right free = record {
@@ -75,7 +75,7 @@ module _ {K : Type 0} (content : K → List ℕ) (held : Rows K) (are : AreRows 
         let answered = none-needed held spec g 0 held.column_indexes (sym free) c found.0 found.1 (ap (needs spec) zero-plus ∙ wanted) in
         ap is_none (lend-at content held are spec g inside c found.0 found.1 ∙ ap (λ (b : Bool). cond b (Some (refusal.Absent c g)) None) answered)
 
--- what the specification that a reader returns says of the aggregate
+-- whether there is an aggregate, from the specification that a reader returns
 pub no-aggregate : (found : Option Registered) → None ≡ option_map (λ (r : Registered). r.spec) found → found ≡ None
 no-aggregate None is = refl
 no-aggregate (Some r) is = absurd (none-some r.spec is)
@@ -98,13 +98,13 @@ checked-scanned : (schema : List Kind) (g : ℕ) (found : Option Registered) →
 checked-scanned schema g None checked = tt
 checked-scanned schema g (Some r) checked = checked
 
--- what is registered may be had over the schema still, whether a row group was scanned or not
+-- the registrations stay valid, whether a row group is scanned or not
 pub scanned-checked : {A : Type 0} (schema : List Kind) (aggregates after : List (Option Registered)) (a g : ℕ) (r : Result A Refusal)
     → OnOk r (after ≡ slice_set aggregates a (entry_after_scan g (flattened (slice_get aggregates a)))) → OnErr r (after ≡ aggregates) → AreChecked schema aggregates → AreChecked schema after
 scanned-checked schema aggregates after a g (Ok x) scanned same checked = subst (AreChecked schema) (sym scanned) (checked-put schema aggregates a _ checked (checked-scanned schema g (flattened (slice_get aggregates a)) (checked-at schema aggregates a checked)))
 scanned-checked schema aggregates after a g (Err e) scanned same checked = subst (AreChecked schema) (sym same) checked
 
--- a call that is refused for lack of memory alone
+-- the refusal of a call that can only run out of memory
 pub for-memory-alone : {A P : Type 0} (Q : Refusal → Type 0) (r : Result A Refusal) → IfErr r (λ e. e ≡ refusal.NoMemory) → OnErr r P → ((e : Refusal) → e ≡ refusal.NoMemory → P → Q e) → IfErr r Q
 for-memory-alone Q (Ok x) memory same then = tt
 for-memory-alone Q (Err e) memory same then = then e memory same

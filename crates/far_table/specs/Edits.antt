@@ -1,4 +1,4 @@
--- Why an edit of rows over objects is refused, and what it does.
+-- Why an edit of rows over objects is refused, and its effect.
 use Rattle.std.specs.Prelude.{◌≡◌, ℕ, ◌+◌, ◌/◌, ◌==◌, ◌&&◌, not, Bool, false, List, [], ◌∷◌, ◌++◌, map, length, Option, None, Some, option_map, slice_get, slice_set}
 use Rattle.far_types.specs.declared.edit.Edit.{Edit}
 use Rattle.far_types.specs.declared.edit.Edit.TheVariants as edit
@@ -23,12 +23,12 @@ module _ {K : Type 0} (s : LiveState K) where
   group_of (edit.Set p c cell) = p / s.table.limits.group
   group_of (edit.Remove p) = p / s.table.limits.group
 
-  -- how long the text object of a column is that the edit writes
+  -- the length of the text object of a column that the edit writes
   abbrev pub length_after : Edit → ℕ → ℕ
   length_after e column = text_object_length s.table.limits column (group_of e)
       (places_after e s.table.places)
 
-  -- what the edit writes does not fit into the free space. An insert places the texts of all columns and then, if a row group begins,
+  -- the edit's new cells do not fit into the free space. An insert places the texts of all columns and then, if a row group begins,
   -- numbers. A set places its text
   abbrev pub no_space : Edit → List (Bool × Refusal)
   no_space (edit.Insert row) = no_space_for_texts s.rows
@@ -41,19 +41,19 @@ module _ {K : Type 0} (s : LiveState K) where
   ) ∷ []
   no_space (edit.Remove p) = []
 
-  -- why an edit without a fault of its own may be refused. The object of some column is away. A text object would be too long. There is
-  -- no space. The edits are used up
+  -- why an edit without a fault of its own may be refused: the object of some column is away, a text object would be too long, there is
+  -- no space, or the table has reached its limit of edits
   abbrev pub obstacles : Edit → List (Bool × Refusal)
   obstacles e = absents s.rows (group_of e)
       ++ ((overfills s.table.schema s.table.limits e s.table.places, refusal.ChunkFull)
       ∷ (no_space e ++ (s.table.edits == s.table.limits.edits, refusal.EditsUsedUp) ∷ []))
 
-  -- why an edit is refused, running out of memory aside: the first that applies
+  -- why an edit is refused, except for lack of memory: the first refusal that applies
   abbrev pub edit_due : Edit → Option Refusal
   edit_due e = first_of (edit_faults s.table.schema s.table.limits s.table.places e ++ obstacles e)
 
 module _ {K : Type 0} (old new : TableRows K) where
-  -- the edit is made: the places are those of the plain table, and it counts. The loaded row stays where it is
+  -- the edit is made: the places are those of the plain table, and the edit counts. The loaded row is unchanged
   pub record IsMade (e : Edit) : Type 0 where
     pub schema : new.schema ≡ old.schema
     pub limits : new.limits ≡ old.limits
@@ -62,12 +62,12 @@ module _ {K : Type 0} (old new : TableRows K) where
     pub new_row : new.new_row ≡ old.new_row
 
 module _ {K : Type 0} (content : K → List ℕ) where
-  -- the loaded row may be appended: nothing refuses it, and its objects say the same
+  -- the loaded row may be appended: nothing refuses it, and neither do its objects
   pub record MayPush (t : TableRows K) : Type 0 where
     pub due : edit_due (asked t) (edit.Insert (row_of t.held.column_indexes t.new_row)) ≡ None
     pub objects : push_refusal content t.held t.new_row ≡ None
 
-  -- a value may be put in a column of a place
+  -- a value may be written to a column of a place
   pub record MayPut (t : TableRows K) (column place : ℕ) (value : NewCell) : Type 0 where
     pub of_kind : option_map kind_of (slice_get t.held.column_indexes column) ≡ Some (kind_in value)
     pub due : edit_due (asked t) (edit.Set place column (cell_of value)) ≡ None
@@ -79,13 +79,13 @@ module _ {K : Type 0} (content : K → List ℕ) where
       pub made : IsMade old new (edit.Insert (row_of old.held.column_indexes old.new_row))
       pub held : IsPushed content old.held old.new_row new.held
 
-    -- a value is put in a column of a place; the same objects are away
+    -- a value is written to a column of a place; the same objects are away
     pub record IsPut (column place : ℕ) (value : NewCell) : Type 0 where
       pub made : IsMade old new (edit.Set place column (cell_of value))
       pub held : IsSet content old.held column place value new.held
       pub here : (g : ℕ) → absents new.held g ≡ absents old.held g
 
--- a place is dead
+-- a place is marked as dead
 pub record IsCleared {K : Type 0} (old new : TableRows K) (place : ℕ) : Type 0 where
   pub made : IsMade old new (edit.Remove place)
   pub held : new.held ≡ record old.held { alive = slice_set old.held.alive place false }

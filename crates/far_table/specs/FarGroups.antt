@@ -11,7 +11,7 @@ use Rattle.far_rows.specs.Places.{places_in}
 use Rattle.far_aggregates.specs.Lending.{IsOfPlaces}
 use Rattle.far_table.specs.Offloading.{Build, ticket_for}
 
--- rows, and a build of one of their row groups that was carried
+-- rows, and a carried build of one of their row groups
 pub record FarRows (K : Type 0) : Type 0 where
   pub rows : Rows K
   pub build : Build K
@@ -20,7 +20,7 @@ pub record FarRows (K : Type 0) : Type 0 where
 abbrev pub contents_under : {K : Type 0} → (K → List ℕ) → List (ℕ × K) → List (ℕ × List ℕ)
 contents_under content tickets = map (λ ticket. (ticket.0, content ticket.1)) tickets
 
--- something holds of each column below a number that an aggregate needs
+-- each column below `count` that the aggregate needs has the property P
 abbrev pub AllNeeded : ℕ → Spec → (ℕ → Type 0) → Type 0
 AllNeeded count spec P = (column : ℕ) → column < count → needs spec column ≡ true → P column
 
@@ -33,21 +33,21 @@ module _ {K : Type 0} where
   abbrev pub needs_column : FarRows K → ℕ → Bool
   needs_column g column = needs g.build.job.spec column
 
-  -- a content is that of a column of the row group
+  -- a ticket's content is the far form of a column of the row group
   pub record IsCopy (content : K → List ℕ) (r : Rows K) (group column : ℕ)
       (ticket : K) : Type 0 where
     pub form : IsForm (content ticket)
     pub cells : IsOfPlaces (in_group r.size group (places_in content r))
         (column, cells_meant (content ticket))
 
-  -- the tickets that the build needs are those of contents of the row group's columns, and its flags are those of the places
+  -- each ticket that the build needs has the content of a column of the row group, and the build's flags are those of the places
   pub record AreCopies (content : K → List ℕ) (g : FarRows K) : Type 0 where
     pub tickets : (column : ℕ) → needs g.build.job.spec column ≡ true
         → IsSomeAnd (ticket_for g.build.job.tickets column)
         (IsCopy content g.rows g.build.group column)
     pub alive : g.build.job.alive ≡ in_group g.rows.size g.build.group g.rows.alive
 
-  -- what is lent: the specification, the flags and the contents are those of the build
+  -- the row group lends the specification, the flags and the contents of the build
   pub record AreLentFrom (content : K → List ℕ) (g : FarRows K) (spec : Spec) (flags : List Bool)
       (contents : List (ℕ × List ℕ)) : Type 0 where
     pub copies : AreCopies content g

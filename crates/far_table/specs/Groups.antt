@@ -13,16 +13,16 @@ pub record GroupRows (K : Type 0) : Type 0 where
   pub group : ℕ
 
 module _ {K : Type 0} where
-  -- its places
+  -- the places of the row group
   abbrev pub places_here : (K → List ℕ) → GroupRows K → List Place
   places_here content g = in_group g.rows.size g.group (places_in content g.rows)
 
-  -- whether the object of one of its columns is there and local
+  -- whether a column exists and its object of the row group is local
   abbrev pub has_column : GroupRows K → ℕ → Bool
   has_column g column = is_none (evac_refusal g.rows column g.group)
 
   module _ (content : K → List ℕ) (g : GroupRows K) where
-    -- this is lent of a column: its cells in the row group, if its object is there and local
+    -- the row group lends a column: its cells, if the column exists and its object is local
     pub record IsLentOf (column : ℕ) (found : Option LentColumn) : Type 0 where
       pub there : has_column g column ≡ true → IsSome found
       pub form : IfSome found IsLent
@@ -31,7 +31,7 @@ module _ {K : Type 0} where
           (slice_get (all_cells content g.rows) column)
           ≡ Some (cells_lent lent))
 
-    -- what was lent of the columns, and the flags of the places
+    -- the row group lends these columns, and the flags of its places
     pub record AreLent (columns : List (Option LentColumn)) (flags : List Bool) : Type 0 where
       pub count : length columns ≡ 16
       pub lent : (column : ℕ) → IsLentOf column (slice_index_or columns column None)

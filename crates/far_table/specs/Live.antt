@@ -30,19 +30,19 @@ module _ {K : Type 0} where
     rows = t.held;
   }
 
-  -- what always holds of a table's parts: the aggregates are those of its places as they are now
+  -- the invariant of a table's parts: the aggregates are those of its current places
   pub record IsLive (t : TableRows K) (registrations : ℕ)
       (registry : List RegistryEntry) : Type 0 where
     pub registrations_few : registrations ≤ 2 ^ 32
     pub kept : Keeps t.limits.group t.places registry
     pub checked : AreChecked t.schema (registered_of registry)
 
-  -- a call is refused: nothing changes, and this was due, or an allocation failed
+  -- a call is refused: nothing changes, and this refusal was due, or an allocation failed
   abbrev pub Refuses : Option Refusal → Bool → LiveState K → Refusal → LiveState K → Type 0
   Refuses due grows old given new = (new ≡ old) × MayRefuse due grows given
 
-  -- how the rows change by an edit. What is set is a value of its column's kind, even if it is missing: so the column's object
-  -- is written, whatever the cell was
+  -- how an edit changes the rows. A set writes a value of its column's kind, even if it is missing, so it writes the column's object
+  -- whatever the cell was before
   abbrev pub Moves : (K → List ℕ) → Rows K → Edit → Rows K → Type 0
   Moves content old (edit.Insert row) new = (values : Values)
       × (row_of old.column_indexes values ≡ row)

@@ -1,4 +1,4 @@
--- A row group as it is lent for a recount: a column that is local in place, another from its content, which was read.
+-- A row group as it is lent for a recount: local columns in place, and other columns from their contents, which were read.
 -- Internal: no public contract cites it.
 use Rattle.std.specs.Prelude.{◌≡◌, ℕ, ◌<◌, ◌≤◌, ◌==◌, Bool, true, false, List, length, All, IsSome}
 use Rattle.std.specs.List.{find}
@@ -16,13 +16,13 @@ pub record MixedRows (K : Type 0) : Type 0 where
   pub group : GroupRows K
   pub spec : Spec
 
--- an aggregate of at most 4 tests, all of whose columns are columns of the rows
+-- an aggregate of at most 4 tests that needs only columns of the rows
 pub record MayFold {K : Type 0} (r : Rows K) (spec : Spec) : Type 0 where
   pub tests : length spec.filter ≤ 4
   pub columns : (column : ℕ) → needs spec column ≡ true → column < length r.column_indexes
 
 module _ {K : Type 0} where
-  -- its places
+  -- the places of the row group
   abbrev pub places_mixed : (K → List ℕ) → MixedRows K → List Place
   places_mixed content m = places_here content m.group
 
@@ -31,12 +31,12 @@ module _ {K : Type 0} where
   has_needed m column = needs m.spec column
 
   module _ (content : K → List ℕ) (g : GroupRows K) where
-    -- a content is that of its column in the row group
+    -- a content is the far form of its column in the row group
     pub record IsRead (read : ℕ × List ℕ) : Type 0 where
       pub form : IsForm read.1
       pub cells : IsOfPlaces (places_here content g) (read.0, cells_meant read.1)
 
-    -- contents of columns that are away: of those below a number, each that an aggregate needs is among them
+    -- contents of columns that are away: each column below n that the aggregate needs has one
     pub record AreReadBelow (n : ℕ) (spec : Spec) (contents : List (ℕ × List ℕ)) : Type 0 where
       pub each : All IsRead contents
       pub all : (column : ℕ) → column < n
@@ -44,7 +44,7 @@ module _ {K : Type 0} where
           → has_column g column ≡ false
           → IsSome (find (λ read. read.0 == column) contents)
 
-    -- contents of all columns that an aggregate needs and that are away
+    -- contents of all columns that the aggregate needs and that are away
     pub record AreRead (spec : Spec) (contents : List (ℕ × List ℕ)) : Type 0 where
       pub each : All IsRead contents
       pub all : (column : ℕ) → needs spec column ≡ true

@@ -1,4 +1,4 @@
--- Calls that move objects: the table stays the same, and with it each row, aggregate and answer.
+-- Calls that move objects: they change neither the table nor its rows, aggregates and answers.
 use Rattle.std.specs.Prelude.{◌≡◌, ℕ, List, length, IsSomeAnd}
 use Rattle.far_types.specs.declared.cell.Kind.{Kind}
 use Rattle.far_types.specs.declared.cell.Kind.TheVariants as kind
@@ -13,12 +13,12 @@ use Rattle.far_table.specs.State.{LiveState}
 use Rattle.far_table.specs.TableRows.{TableRows}
 
 module _ {K : Type 0} where
-  -- the object of a row group of a column is pinned once more
+  -- the object of a row group of a column has one more pin
   abbrev pub IsPinned : ℕ → ℕ → Rows K → Rows K → Type 0
   IsPinned column group old new = IsSomeAnd (object_at old column group)
       (λ object. new ≡ after_pin old object)
 
-  -- it is pinned once less
+  -- it has one pin less
   abbrev pub IsUnpinned : ℕ → ℕ → Rows K → Rows K → Type 0
   IsUnpinned column group old new = IsSomeAnd (object_at old column group)
       (λ object. new ≡ after_unpin old object)
@@ -28,7 +28,7 @@ module _ {K : Type 0} where
   IsTouched column group old new = IsSomeAnd (object_at old column group)
       (λ object. new ≡ after_touch old object)
 
-  -- a carried evacuation is accepted, its object has no pin, and is away
+  -- a carried evacuation is accepted: its object has no pin, and is evicted
   pub record IsCommitted (number_of : K → ℕ)
       (carried : ByKind (CarriedEvacuation K) (CarriedEvacuation K))
       (old new : Rows K) : Type 0 where
@@ -36,7 +36,7 @@ module _ {K : Type 0} where
     pub free : pins_by old carried ≡ 0
     pub away : new ≡ after_commit old carried
 
-  -- a carried fetch is accepted, its object fits, and is back
+  -- a carried fetch is accepted: its object fits, and is local again
   pub record IsInstalled (content : K → List ℕ) (number_of : K → ℕ)
       (fetched : ByKind (CarriedFetch K) (CarriedFetch K)) (old new : Rows K) : Type 0 where
     pub accepted : IsFetchAccepted number_of old fetched
@@ -56,23 +56,23 @@ module _ {K : Type 0} where
       ≡ record old
       { text_objects = record old.text_objects { memory = new.text_objects.memory } })
 
-  -- how many segments the objects of a kind have
+  -- the number of segments for the objects of a kind
   abbrev pub segments_of : Kind → Rows K → ℕ
   segments_of kind.Int r = length r.number_objects.memory.state
   segments_of kind.Text r = length r.text_objects.memory.state
 
-  -- none of them but this one is without parts
+  -- each segment for these objects, except this one, has a part
   abbrev pub HasNoOther : Kind → ℕ → Rows K → Type 0
   HasNoOther kind.Int segment r = HasNoEmptyOther r.number_objects.memory.state segment
   HasNoOther kind.Text segment r = HasNoEmptyOther r.text_objects.memory.state segment
 
   module _ (moves : Rows K → Rows K → Type 0) where
-    -- the objects that hold the places move like this, and nothing else changes
+    -- the objects that hold the places move in this way, and nothing else changes
     pub record AreMoved (old new : TableRows K) : Type 0 where
       pub stays : new ≡ record old { held = new.held }
       pub held : moves old.held new.held
 
-    -- the objects of a table move like this, and its rows, aggregates and edits stay
+    -- the objects of a table move in this way, and its rows, aggregates and edits are unchanged
     pub record IsMoved (old new : LiveState K) : Type 0 where
       pub table : new.table ≡ old.table
       pub rows : moves old.rows new.rows

@@ -1,4 +1,4 @@
--- Offloaded builds: what they hold, how they begin, and when they are accepted.
+-- Offloaded builds: their contents, how they begin, and when they are accepted.
 use Rattle.std.specs.Prelude.{◌≡◌, ℕ, ◌+◌, ◌==◌, ◌&&◌, not, Bool, true, nat_lt, cond, List, [], ◌∷◌, Option, None, Some, is_none, option_map, All, IsSomeAnd}
 use Rattle.std.specs.List.{find}
 use Rattle.far_types.specs.declared.spec.Spec.{Spec}
@@ -14,8 +14,8 @@ use Rattle.far_rows.specs.Copies.{copy_of}
 use Rattle.far_table.specs.State.{LiveState}
 use Rattle.far_table.specs.Watching.{aggregate_at, group_count, after_scan_at}
 
--- a build as it was begun: the number of the table, the aggregate, how many registrations were made before its own, and the row group.
--- The job is what is to be folded: the specification, a ticket for each column that it needs, and the flags of the row group's places
+-- a build when it begins: the number of the table, the aggregate, the number of registrations before its own, and the row group. The job
+-- has what is to be folded: the specification, a ticket for each column that it needs, and the flags of the row group's places
 pub record Build (K : Type 0) : Type 0 where
   pub number : ℕ
   pub aggregate : ℕ
@@ -24,7 +24,7 @@ pub record Build (K : Type 0) : Type 0 where
   pub job : Job K
 
 module _ {K : Type 0} where
-  -- the ticket of a column, of some tickets
+  -- the ticket of a column among these tickets
   abbrev pub ticket_for : List (ℕ × K) → ℕ → Option K
   ticket_for tickets column = option_map (λ ticket. ticket.1)
       (find (λ ticket. ticket.0 == column) tickets)
@@ -33,14 +33,14 @@ module _ {K : Type 0} where
   abbrev pub AreTicketsOf : (K → List ℕ → Type 0) → List ℕ → List (ℕ × K) → Type 0
   AreTicketsOf is_of id tickets = All (λ ticket. is_of ticket.1 id) tickets
 
-  -- there are two tickets, and they have one number
+  -- both tickets exist, and they have the same number
   abbrev pub HaveOneNumber : (K → ℕ) → Option K → Option K → Type 0
   HaveOneNumber number_of (Some own) (Some ticket) = number_of own ≡ number_of ticket
   HaveOneNumber number_of (Some own) None = ⊥
   HaveOneNumber number_of None ticket = ⊥
 
-  -- a test for each column of these indexes, of which the first is the n-th of the table. The aggregate needs the column, and the far
-  -- store does not have the row group as it is now
+  -- a test for each column of these indexes, of which the first is column n of the table: the aggregate needs the column, and the far
+  -- store does not have the row group in its current state
   abbrev pub dirty_from : Rows K → Spec → ℕ → ℕ → List ColumnIndex → List (Bool × Refusal)
   dirty_from r spec g n [] = []
   dirty_from r spec g n (s ∷ column_indexes) =
@@ -55,12 +55,12 @@ module _ {K : Type 0} where
       ∷ (not (is_pending aggregate.pending g), refusal.StaleJob)
       ∷ dirty_from s.rows aggregate.spec g 0 s.rows.column_indexes)
 
-  -- the registration and the specification are those of an aggregate
+  -- the build has the registration and the specification of this aggregate
   pub record IsBuildOf (build : Build K) (aggregate : Registered) : Type 0 where
     pub registration : build.registration ≡ aggregate.registration
     pub spec : build.job.spec ≡ aggregate.spec
 
-  -- a build of a row group into the aggregate of a number, begun now
+  -- a build of row group g into aggregate a, which begins now
   pub record IsOffloadBegun (s : LiveState K) (a g : ℕ) (build : Build K) : Type 0 where
     pub number : build.number ≡ s.rows.number_objects.number
     pub aggregate : build.aggregate ≡ a
@@ -72,7 +72,7 @@ module _ {K : Type 0} where
     pub alive : build.job.alive ≡ in_group s.rows.size g s.rows.alive
 
   module _ (number_of : K → ℕ) (s : LiveState K) (build : Build K) where
-    -- what a build rests on still holds, of the aggregate under its number
+    -- the build's assumptions about the aggregate under its number still hold
     pub record HoldsStill (aggregate : Registered) : Type 0 where
       pub number : build.number ≡ s.rows.number_objects.number
       pub registered : IsBuildOf build aggregate
@@ -82,11 +82,11 @@ module _ {K : Type 0} where
           (ticket_for build.job.tickets column)
       pub alive : build.job.alive ≡ in_group s.rows.size build.group s.rows.alive
 
-    -- a carried build is accepted
+    -- a carried build may be accepted
     abbrev pub IsMergeable : Type 0
     IsMergeable = IsSomeAnd (aggregate_at s.table build.aggregate) HoldsStill
 
-    -- and then its row group is scanned into its aggregate
+    -- a carried build is accepted: its row group is scanned into its aggregate
     pub record IsMerged (new : LiveState K) : Type 0 where
       pub accepted : IsMergeable
       pub state : new ≡ record s { table = after_scan_at build.aggregate build.group s.table }

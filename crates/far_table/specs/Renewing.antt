@@ -1,4 +1,4 @@
--- A table whose far copies go into another store: everything else stays.
+-- A table whose far copies move to another store: everything else is unchanged.
 use Rattle.far_rows.specs.Renewal.{RowsTickets, renewed_rows}
 use Rattle.far_table.specs.State.{LiveState}
 use Rattle.far_table.specs.TableRows.{TableRows}

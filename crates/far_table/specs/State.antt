@@ -13,16 +13,16 @@ pub record LiveState (K : Type 0) : Type 0 where
   pub table : Table
   pub rows : Rows K
 
--- a table as it is opened
+-- a new table
 abbrev pub empty_live_state : {K : Type 0} → List Kind → Limits → ℕ → LiveState K
 empty_live_state schema limits number = record
     { table = empty_table schema limits; rows = empty_rows schema limits number }
 
--- what is registered may be had over the schema
+-- a registered aggregate is valid for the schema
 abbrev pub IsChecked : List Kind → Option Registered → Type 0
 IsChecked schema None = Unit {0}
 IsChecked schema (Some aggregate) = spec_refusal schema aggregate.spec ≡ None
 
--- each registered aggregate may be had over the schema
+-- each registered aggregate is valid for the schema
 abbrev pub AreChecked : List Kind → List (Option Registered) → Type 0
 AreChecked schema aggregates = AllByRecursion (IsChecked schema) aggregates

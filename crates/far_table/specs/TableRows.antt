@@ -1,4 +1,4 @@
--- The rows of a table in the plain table's words, and the objects in which they lie.
+-- The rows of a table in the plain table's words, and the objects that hold them.
 use Rattle.std.specs.Prelude.{◌≡◌, ℕ, ◌≤◌, List, [], map, length}
 use Rattle.far_types.specs.declared.cell.Kind.{Kind}
 use Rattle.far_types.specs.declared.limits.Limits.{Limits}
@@ -13,8 +13,8 @@ use Rattle.far_rows.specs.Rows.{Rows}
 use Rattle.far_rows.specs.Places.{AreOf, places_in}
 use Rattle.far_rows.specs.Opening.{empty_rows}
 
--- the columns' kinds, the limits, the places, and how many edits were accepted. The new row is the one loaded last, which may be appended.
--- Behind it are the rows over objects that hold the places
+-- the columns' kinds, the limits, the places, the number of accepted edits, the new row, which is the one loaded last and may be
+-- appended, and the rows over objects that hold the places
 pub record TableRows (K : Type 0) : Type 0 where
   pub schema : List Kind
   pub limits : Limits
@@ -35,7 +35,7 @@ module _ {K : Type 0} where
     held = held;
   }
 
-  -- a table of which only what an edit's refusal looks at is known
+  -- a table with only the parts that the refusal of an edit depends on
   abbrev pub asked : TableRows K → LiveState K
   asked t = record {
     table = record {
@@ -54,7 +54,7 @@ module _ {K : Type 0} where
     pub max_writes : m.max_writes ≡ limits.edits
     pub versions : (o : ℕ) → version_of m o ≤ edits
 
-  -- what always holds of the parts of such rows
+  -- the invariant of the parts of such rows
   pub record AreTableRows (content : K → List ℕ) (schema : List Kind) (limits : Limits)
       (held : Rows K) (new_row : Values) (edits : ℕ) : Type 0 where
     pub bounds : AreLimits limits
@@ -69,7 +69,7 @@ module _ {K : Type 0} where
     pub fit : PlacesFit (places_in content held)
     pub new_row_fit : RowFits (row_of held.column_indexes new_row)
 
-  -- rows of a table as it is opened
+  -- rows of a new table
   pub record AreOpened (kinds : List Kind) (bounds : Limits) (number : ℕ)
       (t : TableRows K) : Type 0 where
     pub schema : t.schema ≡ kinds

@@ -18,11 +18,11 @@ use Rattle.far_table.specs.State.{LiveState}
 abbrev pub aggregate_at : Table → ℕ → Option Registered
 aggregate_at table a = flattened (slice_get table.aggregates a)
 
--- the lowest number under which none is registered
+-- the lowest number without an aggregate
 abbrev pub lowest_free : Table → Option ℕ
 lowest_free table = free_from 0 table.aggregates
 
--- how many row groups have a place
+-- the number of row groups that have a place
 abbrev pub group_count : Table → ℕ
 group_count table = groups table.limits.group (length table.places)
 
@@ -39,8 +39,8 @@ unwatch_refusal None = Some refusal.NoAggregate
 unwatch_refusal (Some aggregate) = None
 
 module _ {K : Type 0} where
-  -- a test for each column of these indexes, of which the first is the n-th of the table. The aggregate needs the column, and its object of
-  -- the row group is away
+  -- a test for each column of these indexes, of which the first is column n of the table: the aggregate needs the column, and its object
+  -- of the row group is away
   abbrev pub needed_from : Rows K → Spec → ℕ → ℕ → List ColumnIndex → List (Bool × Refusal)
   needed_from r spec g n [] = []
   needed_from r spec g n (s ∷ column_indexes) =
@@ -55,7 +55,7 @@ module _ {K : Type 0} where
       ∷ (not (is_pending aggregate.pending g), refusal.StaleJob)
       ∷ needed_from s.rows aggregate.spec g 0 s.rows.column_indexes)
 
--- a table with an aggregate under a number, or with none
+-- the table with this aggregate, or none, under a number
 abbrev pub with_aggregate : ℕ → Option Registered → Table → Table
 with_aggregate a aggregate table = record table
     { aggregates = slice_set table.aggregates a aggregate }
@@ -68,12 +68,12 @@ registered_now spec table = record {
   pending = all_pending table.limits.group table.places;
 }
 
--- the table once an aggregate is registered under this number
+-- the table after an aggregate is registered under this number
 abbrev pub after_register_at : ℕ → Spec → Table → Table
 after_register_at a spec table = record (with_aggregate a (Some (registered_now spec table)) table)
     { registrations = table.registrations + 1 }
 
--- a row group less is still pending in the aggregate of a number
+-- the table after row group g is scanned into aggregate a: one row group less is pending
 abbrev pub after_scan_at : ℕ → ℕ → Table → Table
 after_scan_at a g table = with_aggregate a (entry_after_scan g (aggregate_at table a)) table
 

@@ -59,7 +59,7 @@ fn content_of<S: FarRead>(
     Ok(Content { column, form })
 }
 
-/// Reads the contents under some tickets, one buffer for each.
+/// Reads the contents of these tickets, each into a buffer of its own.
 ///
 /// Refused with one of these:
 ///
@@ -85,7 +85,7 @@ pub(crate) fn contents_of<S: FarRead>(
     Ok(contents)
 }
 
-/// Reads the contents of the columns of a row group that an aggregate needs and that are away, one buffer for each.
+/// Reads the contents of the columns of a row group that an aggregate needs and that are away, each into a buffer of its own.
 ///
 /// Refused with one of these:
 ///
@@ -109,7 +109,7 @@ pub(crate) fn contents_away<S: FarRead>(
     ensures faults { meter.new ≡ meter.old + faults_in result }
     ensures refused { RefusedBy (21 ∷ 1 ∷ []) result }
 {
-    // For the proof: gives `AreRows`.
+    // For the proof: shows `AreRows`.
     let _len = rows.len();
     let mut contents = Vec::new(alloc);
     for column in 0..rows.column_indexes().len() {

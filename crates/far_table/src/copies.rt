@@ -19,8 +19,8 @@ use far_store::FarTickets;
 use far_types::{Refusal, Spec};
 use std::alloc::Global;
 
-/// Returns the ticket under which the far store has a row group of a column as it is now. `None` if the object is dirty, or
-/// there is none. Allocates nothing.
+/// Returns the ticket under which the far store has the current content of a row group of a column. `None` if the object is dirty
+/// or does not exist. Allocates nothing.
 pub(crate) fn copy_of<S: FarTickets>(rows: &Rows<S>, column: u32, group: u32) -> Option<&S::Ticket>
     ensures ticket { option_map (λ ticket. ticket.now) result ≡ copy_of rows.now column group }
     ensures copy { IfSome result (λ ticket. IsCopy S.content rows.now group column ticket.now) }
@@ -28,7 +28,7 @@ pub(crate) fn copy_of<S: FarTickets>(rows: &Rows<S>, column: u32, group: u32) ->
         → IfSome result (λ ticket. S.is_of ticket.now id) }
     ensures away { (absent_in rows.now column group).0 ≡ true → IsSome result }
 {
-    // For the proof: gives `AreRows`.
+    // For the proof: shows `AreRows`.
     let _len = rows.len();
     rows.copy(column as usize, group)
 }
@@ -49,7 +49,7 @@ pub(crate) fn away_copy<'a, S: FarTickets>(
         → has_column record { rows = rows.now; group = group } column ≡ false
         → IsSome result }
 {
-    // For the proof: gives `AreRows`.
+    // For the proof: shows `AreRows`.
     let _len = rows.len();
     if !spec.needs(column) || rows.group_column(column as usize, group).is_ok() {
         return None;
@@ -57,7 +57,7 @@ pub(crate) fn away_copy<'a, S: FarTickets>(
     copy_of(rows, column, group)
 }
 
-/// Checks that the far store has the columns of a row group that an aggregate needs, as they are now. Allocates nothing.
+/// Checks that the far store has the current content of each column of a row group that an aggregate needs. Allocates nothing.
 ///
 /// Refused with `StaleJob` (20) exactly if it lacks one.
 pub(crate) fn are_copied<S: FarTickets>(
@@ -68,7 +68,7 @@ pub(crate) fn are_copied<S: FarTickets>(
     ensures { refusal_in result
         ≡ first_of (dirty_from rows.now spec.now group 0 rows.now.column_indexes) }
 {
-    // For the proof: gives `AreRows`.
+    // For the proof: shows `AreRows`.
     let _len = rows.len();
     for column in 0..rows.column_indexes().len() {
         if lacks(rows, spec, column as u32, group) {
@@ -85,9 +85,9 @@ fn lacks<S: FarTickets>(rows: &Rows<S>, spec: &Spec, column: u32, group: u32) ->
     spec.needs(column) && copy_of(rows, column, group).is_none()
 }
 
-/// Returns the tickets of those columns, each with the index of its column.
+/// Returns the tickets of the columns that an aggregate needs, each with the index of its column.
 ///
-/// Refused with `NoMemory` (1) alone.
+/// Refused only with `NoMemory` (1).
 pub(crate) fn copies_of<S: FarTickets>(
     alloc: Global,
     rows: &Rows<S>,
@@ -105,7 +105,7 @@ pub(crate) fn copies_of<S: FarTickets>(
         (λ tickets. AreTicketsOf S.is_of (S.store_id store.now) tickets.items) }
     ensures memory { IfErr result (λ e. e ≡ Refusal.NoMemory) }
 {
-    // For the proof: gives `AreRows`.
+    // For the proof: shows `AreRows`.
     let _len = rows.len();
     let mut tickets = Vec::new(alloc);
     for column in 0..rows.column_indexes().len() {
@@ -134,7 +134,7 @@ fn needed_copy<'a, S: FarTickets>(
     copy_of(rows, column, group)
 }
 
-// Adds the ticket of a column, if there is one. Refused with `NoMemory` (1) alone.
+// Adds the ticket of a column, if there is one. Refused only with `NoMemory` (1).
 fn add<S: FarTickets>(
     tickets: &mut Vec<(u32, S::Ticket)>,
     store: &S,
@@ -162,7 +162,7 @@ fn ticket_for<S: FarTickets>(tickets: &[(u32, S::Ticket)], column: u32) -> Optio
     Some(&ticket.1)
 }
 
-// Returns whether the column's ticket, among these, has the number under which the far store has the row group as it is now.
+// Returns whether the column's ticket, among these, has the number under which the far store has the row group's current content.
 fn is_still<S: FarTickets>(
     rows: &Rows<S>,
     store: &S,
@@ -187,7 +187,7 @@ fn is_still<S: FarTickets>(
     store.same(own, ticket)
 }
 
-/// Returns whether `is_still` holds of each column that an aggregate needs. Allocates nothing.
+/// Returns whether `is_still` is true of each column that an aggregate needs. Allocates nothing.
 pub(crate) fn are_still<S: FarTickets>(
     rows: &Rows<S>,
     store: &S,
@@ -206,7 +206,7 @@ pub(crate) fn are_still<S: FarTickets>(
         (λ column. IsSomeAnd (ticket_for tickets.now column)
         (IsCopy S.content rows.now group column)) }
 {
-    // For the proof: gives `AreRows`.
+    // For the proof: shows `AreRows`.
     let _len = rows.len();
     for column in 0..rows.column_indexes().len() {
         if spec.needs(column as u32) && !is_still(rows, store, tickets, column as u32, group) {

@@ -39,7 +39,7 @@ fn observe_at<S: FarRead>(
     ensures faults { meter.new ≡ meter.old + faults_in result }
     ensures refused { RefusedBy (21 ∷ 1 ∷ []) result }
 {
-    // For the proof: gives `AreRows`, so how many places there are.
+    // For the proof: shows `AreRows`, which bounds the number of places.
     let _len = rows.len();
     let contents = contents_away(alloc, rows, store, meter, spec, group)?;
     observe_group(
@@ -50,7 +50,7 @@ fn observe_at<S: FarRead>(
     )
 }
 
-/// Returns the extrema of the row groups from one up to another.
+/// Returns the extrema of a run of row groups.
 ///
 /// Refused with `FarFault` (21) exactly if the meter rises, else with `NoMemory` (1).
 pub(crate) fn observe_run<S: FarRead>(

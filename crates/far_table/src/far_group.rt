@@ -10,11 +10,10 @@ use far_store::FarTickets;
 use far_types::Spec;
 use std::marker::Model;
 
-/// The row group of a carried build. The contents that were read are those of the rows as they are now. Contracts see the rows and
-/// the build.
+/// The row group of a carried build, whose contents are the current ones. Contracts see the rows and the build.
 #[derive(Drop)]
 pub(crate) struct FarGroup<'a, S: FarTickets> {
-    // For the proof: contracts alone read the rows and the build. What is lent was looked up when the row group was made.
+    // For the proof: only contracts read the rows and the build. The columns were looked up when the row group was made.
     rows: &'a Rows<S>,
     build: &'a OffloadBuild<S>,
     spec: &'a Spec,

@@ -1,5 +1,4 @@
-// What is wrong with an edit itself, whichever objects are local: the first of refusals 4 to 10, in their order. Nothing here
-// allocates.
+// Faults of an edit itself, whichever objects are local: the first of refusals 4 to 10, in their order. Nothing here allocates.
 ghost use Rattle.std.specs.Prelude.{◌≡◌, ◌==◌, ◌&&◌, not, ◌∷◌, [], ℕ, List, Option, is_none, length, option_map, slice_get};
 ghost use Rattle.std.specs.List.{list_all, list_any, zip};
 ghost use Rattle.far_types.specs.declared.cell.Cell.{Cell};
@@ -14,7 +13,7 @@ ghost use Rattle.far_scopes.specs.Refusing.{refusal_in};
 
 use far_types::{Cell, Kind, Limits, Refusal, Row, Schema};
 
-/// Returns whether a cell may stand in a column of this kind.
+/// Returns whether a cell is of this kind, or missing.
 fn is_of_kind(kind: Kind, cell: &Cell) -> bool
     ensures { result ≡ is_of_kind kind cell.now }
 {
@@ -52,14 +51,14 @@ fn has_too_long(row: &Row) -> bool
     row.as_slice().iter().any(|cell| is_too_long(cell))
 }
 
-/// Returns whether a cell may stand in a column of this kind, and is no text that is too long.
+/// Returns whether a cell is of this kind, or missing, and is not a text that is too long.
 fn may_stand(kind: Kind, cell: &Cell) -> bool
     ensures { result ≡ (is_of_kind kind cell.now && not (is_too_long cell.now)) }
 {
     is_of_kind(kind, cell) && !is_too_long(cell)
 }
 
-/// Returns whether each cell may stand in its column, at the columns that schema and row both have. It looks at each cell once.
+/// Returns whether each cell fits its column, at the columns that schema and row both have. Looks at each cell once.
 fn each_may_stand(schema: &Schema, row: &Row) -> bool
     ensures { result
         ≡ list_all (λ (at : Kind × Cell). is_of_kind at.0 at.1 && not (is_too_long at.1))
@@ -72,7 +71,7 @@ fn each_may_stand(schema: &Schema, row: &Row) -> bool
         .all(|(kind, cell)| may_stand(*kind, cell))
 }
 
-/// Returns whether a row has a cell for each column, and each may stand there.
+/// Returns whether a row has a cell for each column, and each cell fits.
 fn is_faultless(schema: &Schema, row: &Row) -> bool
     ensures { result
         ≡ ((length row.now == length schema.now)
@@ -120,7 +119,7 @@ pub(crate) fn row_faults(
     one_more(limits, len)
 }
 
-/// Checks a new cell of a column, at a place that is alive, dead or not there. Refused with the first of these that applies:
+/// Checks a new cell of a column, at a place that is alive, is dead or does not exist. Refused with the first of these that applies:
 /// `NoColumn` (4), `WrongKind` (5), `TextTooLong` (7), `NoRow` (8), `RemovedRow` (9).
 pub(crate) fn cell_faults(
     schema: &Schema,
@@ -145,7 +144,7 @@ pub(crate) fn cell_faults(
     living(alive)
 }
 
-/// Checks a place that is alive, dead or not there. Refused with `NoRow` (8) or `RemovedRow` (9).
+/// Checks a place that is alive, is dead or does not exist. Refused with `NoRow` (8) or `RemovedRow` (9).
 pub(crate) fn living(alive: Option<bool>) -> Result<(), Refusal>
     ensures { (at : Option Place) → option_map (λ p. p.alive) at ≡ alive
         → refusal_in result

@@ -1,6 +1,6 @@
 #![tactic(auto)]
-//! The rows of a table as the plain table has them, over objects that may be away. The crate says which edits they take, why one is
-//! refused, and what an edit changes.
+//! The rows of a table in the plain table's words, over objects that may be away. The crate decides which edits they accept and why one
+//! is refused, and makes the edits.
 
 mod contents;
 mod copies;

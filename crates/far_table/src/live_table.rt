@@ -27,7 +27,7 @@ use setting::put_cell;
 use std::alloc::Global;
 use std::marker::Model;
 
-/// A table whose rows lie in objects that are local or away, and whose aggregates are kept up to date under every edit.
+/// A table whose rows are in objects that are local or away, and whose aggregates are kept up to date under every edit.
 /// Contracts see the plain table and the rows that hold its places.
 #[derive(Drop)]
 pub struct LiveTable<S: FarTickets> {
@@ -53,7 +53,7 @@ impl<S: FarTickets> LiveTable<S> {
     ///
     /// Refused with the first of these that applies:
     ///
-    /// - `BadSchema` (2): the limits are not what a table may have.
+    /// - `BadSchema` (2): the limits are not valid.
     /// - `NoMemory` (1): an allocation fails.
     pub fn open(
         alloc: Global,
@@ -88,14 +88,14 @@ impl<S: FarTickets> LiveTable<S> {
         &self.rows
     }
 
-    /// Returns cells that are no longer needed: a later row may be made in their memory. Allocates nothing.
+    /// Returns cells that are no longer needed, whose memory a later row can reuse. Allocates nothing.
     pub fn spare_cells(&mut self) -> Vec<Cell>
         ensures { self.new ≡ self.old }
     {
         self.rows.spare_cells()
     }
 
-    /// Appends a row and returns its place. Refused as `TableRows::may_insert` says, else with `NoMemory` (1) alone. A refused
+    /// Appends a row and returns its place. Refused as `TableRows::may_insert` says, else only with `NoMemory` (1). A refused
     /// call changes nothing.
     pub fn insert(&mut self, row: Row) -> Result<u32, Refusal>
         ensures ok { OnOk result (IsEdited S.content self.old (edit.Insert row) self.new) }
@@ -108,7 +108,7 @@ impl<S: FarTickets> LiveTable<S> {
         self.rows.may_insert(row)?;
         let place = self.rows.len();
         let size = self.rows.limits().group;
-        // Without aggregates nothing is kept of the rows.
+        // Without aggregates there is nothing to update.
         if self.aggregates.is_empty() {
             self.rows.push(self.alloc)?;
             return Ok(place as u32);
@@ -125,8 +125,8 @@ impl<S: FarTickets> LiveTable<S> {
         Ok(place as u32)
     }
 
-    /// Puts a cell in a place's column; the same cell again counts as an edit too. Refused as `TableRows::may_set` says, else
-    /// with `NoMemory` (1) alone. A refused call changes nothing.
+    /// Sets the cell of a place in a column. Counts as an edit even if the cell had this value. Refused as `TableRows::may_set`
+    /// says, else only with `NoMemory` (1). A refused call changes nothing.
     pub fn set(&mut self, column: u32, place: u32, cell: Cell) -> Result<(), Refusal>
         ensures ok { OnOk result
             (IsEdited S.content self.old (edit.Set place column cell) self.new) }
@@ -148,7 +148,7 @@ impl<S: FarTickets> LiveTable<S> {
         Ok(())
     }
 
-    /// Marks a place dead; its cells stay. Refused as `TableRows::may_remove` says, else with `NoMemory` (1) alone. A refused
+    /// Marks a place as dead. Its cells stay. Refused as `TableRows::may_remove` says, else only with `NoMemory` (1). A refused
     /// call changes nothing.
     pub fn remove(&mut self, place: u32) -> Result<(), Refusal>
         ensures ok { OnOk result (IsEdited S.content self.old (edit.Remove place) self.new) }
@@ -158,13 +158,13 @@ impl<S: FarTickets> LiveTable<S> {
             → AreAt S.is_of id self.new.rows }
     {
         let _row = self.rows.may_remove(place)?;
-        // Without aggregates nothing is kept of the rows.
+        // Without aggregates there is nothing to update.
         if self.aggregates.is_empty() {
             self.rows.remove(place);
             return Ok(());
         }
         let size = self.rows.limits().group;
-        // For the proof: gives how many places there are, and that their numbers are those of 64 bits.
+        // For the proof: shows `AreTableRows`, which bounds the number of places and the numbers in them.
         let _len = self.rows.len();
         let Ok(row) = self.rows.place_row(place as usize) else {
             unreachable!()
@@ -178,7 +178,7 @@ impl<S: FarTickets> LiveTable<S> {
     }
 }
 
-// Retracts the pairs that the row of a place gave before an edit, which the rows have.
+// Retracts the pairs that the row of a place had before an edit, which is already made in the rows.
 fn retract_row<S: FarTickets>(
     rows: &TableRows<S>,
     aggregates: &mut Aggregates,
@@ -198,7 +198,7 @@ fn retract_row<S: FarTickets>(
         aggregates.retract_totals(pending);
         return;
     }
-    // For the proof: gives `AreRows`.
+    // For the proof: shows `AreRows`.
     let _held = rows.held();
     an_aggregate_is_served_by_the_columns_of_its_schema();
     aggregates.retract(&rows.group(pending.row_group()), pending);

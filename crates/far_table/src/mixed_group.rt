@@ -11,8 +11,8 @@ use far_store::FarTickets;
 use far_types::Spec;
 use std::marker::Model;
 
-/// A row group as an aggregate needs it: a local column is read in place, and one that is away from its content. Contracts see
-/// the rows, the number of the row group and the aggregate.
+/// A row group as an aggregate needs it: local columns are read in place, and others from their contents. Contracts see the rows,
+/// the number of the row group and the aggregate.
 #[derive(Drop)]
 pub(crate) struct MixedGroup<'a, S: FarTickets> {
     local: RowGroup<'a, S>,
@@ -31,7 +31,7 @@ impl<'a, S: FarTickets> Model for MixedGroup<'a, S> {
 }
 
 impl<'a, S: FarTickets> MixedGroup<'a, S> {
-    /// Returns the row group of a number, with the contents of the columns that the aggregate needs and that are away.
+    /// Returns the row group with this number, with the contents of the columns that the aggregate needs and that are away.
     /// Allocates nothing.
     pub(crate) fn new(
         rows: &'a Rows<S>,

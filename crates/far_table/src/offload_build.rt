@@ -12,8 +12,8 @@ use far_types::Refusal;
 use std::alloc::Global;
 use std::marker::Model;
 
-/// A begun offloaded build: the table and the registration that it is for, and the tickets and alive flags that it rests on. It
-/// borrows nothing, so any thread can carry it.
+/// A begun offloaded build: its table and registration, and the tickets and alive flags that it assumes. It borrows nothing, so any
+/// thread can carry it.
 ///
 /// `carry` reads the contents into buffers, and `merge` folds them. Computing an aggregate from far data without fetching its
 /// objects is AIFM's offloading (OSDI 2020, section 4.4). There the fold runs beside the far data.
@@ -40,8 +40,7 @@ impl<S: FarTickets> Model for OffloadBuild<S> {
     } };
 }
 
-/// An offloaded build whose contents were read. Contracts see the build. That the contents are those of its tickets is the
-/// invariant.
+/// An offloaded build whose contents were read. Contracts see the build. Its invariant: the contents are those of its tickets.
 #[derive(Drop)]
 pub struct OffloadCarried<S: FarTickets> {
     pub(crate) build: OffloadBuild<S>,
@@ -76,8 +75,7 @@ impl<S: FarTickets> OffloadBuild<S> {
         self.group
     }
 
-    /// Returns the ticket at an index of those whose contents the build reads; `None` if there are no more than `index` of
-    /// them. Allocates nothing.
+    /// Returns the ticket at an index, among those whose contents the build reads, or `None` past the last. Allocates nothing.
     pub fn ticket(&self, index: usize) -> Option<&S::Ticket>
         ensures { option_copied result ≡ slice_get (tickets_of self.now) index }
     {
@@ -87,7 +85,7 @@ impl<S: FarTickets> OffloadBuild<S> {
         }
     }
 
-    /// Returns the ticket of a number, of those whose contents the build reads; `None` if none has it. Allocates nothing.
+    /// Returns the ticket with a number, among those whose contents the build reads, or `None` if none has it. Allocates nothing.
     pub fn ticket_of(&self, store: &S, number: u64) -> Option<&S::Ticket>
         requires here { AreTicketsOf S.is_of (S.store_id store.now) self.now.job.tickets }
         ensures { option_copied result ≡ ticket_with S.number_of (tickets_of self.now) number }
@@ -133,15 +131,14 @@ impl<S: FarRead> OffloadBuild<S> {
 }
 
 impl<S: FarTickets> OffloadCarried<S> {
-    /// Returns the ticket at an index of those whose contents were read; `None` if there are no more than `index` of them.
-    /// Allocates nothing.
+    /// Returns the ticket at an index, among those whose contents were read, or `None` past the last. Allocates nothing.
     pub fn ticket(&self, index: usize) -> Option<&S::Ticket>
         ensures { option_copied result ≡ slice_get (tickets_of self.now) index }
     {
         self.build.ticket(index)
     }
 
-    /// Returns what was read. Allocates nothing.
+    /// Returns the contents that were read. Allocates nothing.
     pub(crate) fn contents(&self) -> &[Content]
         ensures { result.now ≡ contents_under S.content self.now.job.tickets }
     {

@@ -16,7 +16,7 @@ use far_store::{FarRead, Meter};
 use far_types::{Fold, Refusal, Spec};
 use std::alloc::Global;
 
-/// What the rows of a piece come to, and how many faults occurred.
+/// The partial aggregate of a piece, and the number of faults that occurred.
 #[derive(Drop)]
 pub(crate) struct Piece {
     pub(crate) partial: Result<PartialDone, Refusal>,
@@ -26,12 +26,12 @@ pub(crate) struct Piece {
 /// How row groups are cut into pieces of `long` row groups, of which the last may have fewer.
 #[derive(Clone, Copy)]
 pub(crate) struct Cut {
-    /// How many row groups there are.
+    /// The number of row groups.
     pub(crate) count: u32,
     pub(crate) long: u32,
 }
 
-/// Returns the row group with which a piece begins, and the one before it ends.
+/// Returns the row group at which a piece begins and the piece before it ends.
 fn begin_of(cut: Cut, piece: usize) -> u32
     requires { piece ≤ 64 }
     ensures { result ≡ begin_of cut.count cut.long piece }
@@ -39,7 +39,7 @@ fn begin_of(cut: Cut, piece: usize) -> u32
     (piece * cut.long as usize).min(cut.count as usize) as u32
 }
 
-// Folds the row groups from one up to another.
+// Folds a run of row groups.
 fn fold_run<S: FarRead>(
     alloc: Global,
     rows: &Rows<S>,

@@ -1,4 +1,4 @@
-// An aggregate that is computed from scratch: pieces of the table are folded separately, on threads, and put together.
+// Aggregates that are computed from scratch: pieces of the table are folded separately, on threads, and then merged.
 ghost use Rattle.std.specs.Prelude.{◌≡◌, ◌+◌, ◌*◌, ◌<◌, ◌≤◌, ◌^◌, ◌++◌, ◌∷◌, [], ℕ, length, max, IfOk, IfErr, IsOk, OnOk, slice_index_or, vec_capacity};
 ghost use Rattle.std.specs.Fn.{FnReturns};
 ghost use Rattle.std.specs.Fork.{GivesEach};
@@ -20,7 +20,7 @@ use far_types::{Answer, Refusal, Spec};
 use std::alloc::{AllocError, Global};
 use std::thread::{self, Threads};
 
-/// Returns how many row groups a piece has, if there are no more pieces than workers.
+/// Returns the number of row groups in a piece, so that there are at most as many pieces as workers.
 fn long_for(count: u32, workers: u32) -> u32
     requires some { 0 < workers }
     ensures all { count ≤ workers * result }
@@ -34,12 +34,12 @@ fn long_for(count: u32, workers: u32) -> u32
 #[derive(Clone, Copy)]
 struct WideCut {
     cut: Cut,
-    /// How many places a piece has.
+    /// The number of places in a piece.
     size: u32,
     pieces: usize,
 }
 
-/// Cuts a table of `places` places into no more pieces than there are workers.
+/// Cuts a table of `places` places into at most as many pieces as there are workers.
 fn wide_cut(size: u32, places: usize, workers: u32) -> WideCut
     requires size { 0 < size }
     requires small { size ≤ 2 ^ 16 }
@@ -61,10 +61,11 @@ fn wide_cut(size: u32, places: usize, workers: u32) -> WideCut
     }
 }
 
-/// Calls `f` at each number below `count`, and pushes the results in order into a list that has room for them. So no call runs in vain.
+/// Calls `f` with each number below `count`, and pushes the results in order into a list that has the capacity for them, so no call is
+/// wasted.
 ///
-/// This thread makes the first call, and starts a thread for each other if one can be made. It starts them all, since a thread that
-/// starts threads begins them later: a new one may first wait for the processor of the one that started it.
+/// This thread makes the first call, and starts a thread for each of the others if one can be made. It starts them all, because a
+/// thread that starts threads begins them late: a new one may first wait for the processor of the thread that started it.
 #[cycle(calls)]
 fn call_each<R: Threads + Sync, X: Send + Drop, F: Fn(usize) -> X + Sync>(
     rt: &R,
@@ -107,9 +108,9 @@ fn call_each<R: Threads + Sync, X: Send + Drop, F: Fn(usize) -> X + Sync>(
     results
 }
 
-/// Folds at most 64 pieces: the first in this thread, each other in a thread of its own if one can be made.
+/// Folds at most 64 pieces: the first in this thread, each of the others in a thread of its own if one can be made.
 ///
-/// Refused if there is no memory for the list of pieces. Then none is folded.
+/// Refused if there is no memory for the list of pieces. Then no piece is folded.
 fn fold_pieces<R: Threads + Sync, S: FarRead>(
     rt: &R,
     alloc: Global,
@@ -145,9 +146,9 @@ fn fold_pieces<R: Threads + Sync, S: FarRead>(
     Ok(call_each(rt, pieces, &fold, found))
 }
 
-/// Folds at most 64 pieces in this thread, one after the other.
+/// Folds at most 64 pieces in this thread, one after another.
 ///
-/// Refused if there is no memory for the list of pieces. Then none is folded.
+/// Refused if there is no memory for the list of pieces. Then no piece is folded.
 fn fold_in_turn<S: FarRead>(
     alloc: Global,
     rows: &Rows<S>,
@@ -219,7 +220,7 @@ fn gather(alloc: Global, pieces: Vec<Piece>, meter: &mut Meter) -> Result<Vec<Pa
 }
 
 /// Returns the answer of an aggregate over the rows, whichever objects are away. At most `workers` threads fold the row groups,
-/// in consecutive pieces. So what is merged in the end is one partial aggregate for each worker.
+/// in consecutive pieces, so at the end there is one partial aggregate to merge for each worker.
 ///
 /// Refused with `FarFault` (21) exactly if the meter rises, else with `NoMemory` (1).
 pub(crate) fn recount_rows<R: Threads + Sync, S: FarRead>(
@@ -251,7 +252,7 @@ pub(crate) fn recount_rows<R: Threads + Sync, S: FarRead>(
     answer_of(alloc, spec, partials, wide.size, places)
 }
 
-/// Returns what `recount_rows` does with one worker, without a runtime: this thread folds all row groups as one piece.
+/// Does the same as `recount_rows` with one worker, without a runtime: this thread folds all row groups as one piece.
 ///
 /// Refused with `FarFault` (21) exactly if the meter rises, else with `NoMemory` (1).
 pub(crate) fn recount_alone<S: FarRead>(

@@ -8,11 +8,11 @@ use far_rows::{LentColumn, Rows};
 use far_store::FarTickets;
 use std::marker::Model;
 
-/// A row group of a table. Its columns are read in place, and one whose object is away is not available. Contracts see the rows
+/// A row group of a table. Its columns are read in place; a column whose object is away is not available. Contracts see the rows
 /// and the number of the row group. A table has at most 16 columns.
 #[derive(Drop)]
 pub struct RowGroup<'a, S: FarTickets> {
-    // For the proof: contracts alone read the rows and the number. What is lent was looked up when the row group was made.
+    // For the proof: only contracts read the rows and the number. The columns were looked up when the row group was made.
     rows: &'a Rows<S>,
     group: u32,
     columns: [Option<LentColumn<'a>>; 16],
@@ -31,7 +31,7 @@ impl<'a, S: FarTickets> Model for RowGroup<'a, S> {
 }
 
 impl<'a, S: FarTickets> RowGroup<'a, S> {
-    /// Returns the row group of a number. It looks up all columns once, here. Allocates nothing.
+    /// Returns the row group with this number. Looks up all columns once, here. Allocates nothing.
     pub(crate) fn new(rows: &'a Rows<S>, group: u32) -> RowGroup<'a, S>
         ensures { result ≡ record { rows = rows.now; group = group } }
     {
@@ -64,14 +64,14 @@ impl<'a, S: FarTickets> LendGroup for RowGroup<'a, S> {
     }
 }
 
-// Returns what is lent of each column of a row group; `None` of one whose object is away, and past the columns.
+// Returns each column of a row group that is lent; `None` for a column whose object is away, and past the last column.
 fn columns_of<'a, S: FarTickets>(rows: &'a Rows<S>, group: u32) -> [Option<LentColumn<'a>>; 16]
     ensures count { length result ≡ 16 }
     ensures lent { (column : ℕ)
         → IsLentOf S.content record { rows = rows.now; group = group } column
         (slice_index_or result column None) }
 {
-    // For the proof: gives that there are at most 16 columns.
+    // For the proof: shows that there are at most 16 columns.
     let _len = rows.len();
     let mut columns = [None; 16];
     for column in 0..rows.column_indexes().len() {

@@ -1,4 +1,4 @@
-// The rows of a table as the plain table has them.
+// The rows of a table in the plain table's words.
 ghost use Rattle.std.specs.Prelude.{◌≡◌, ◌<◌, ◌≤◌, ◌/◌, ℕ, Some, length, map, option_map, slice_get, IfOk, IfErr};
 ghost use Rattle.far_types.specs.Bounds.{AreLimits};
 ghost use Rattle.far_types.specs.FirstOf.{first_of};
@@ -24,10 +24,10 @@ use far_types::{Kind, LentRow, Limits, Refusal, Schema};
 use std::alloc::Global;
 use std::marker::Model;
 
-/// The rows of a table under its limits, over objects that are local or away, and how many edits were accepted.
+/// The rows of a table under its limits, over objects that are local or away, and the number of accepted edits.
 ///
-/// An insert first takes its row, into values that are made once, when the table is opened. `new_row_ref` borrows it until it
-/// is appended. Contracts see the places as the plain table has them (`specs/TableRows.antt`), and the rows that hold them.
+/// An insert first loads its row into values that are made once, when the table is opened. `new_row_ref` borrows it until it is
+/// appended. Contracts see the places of the plain table (`specs/TableRows.antt`), and the rows that hold them.
 #[derive(Drop)]
 pub struct TableRows<S: FarTickets> {
     schema: Schema,
@@ -51,7 +51,7 @@ impl<S: FarTickets> TableRows<S> {
     /// Returns the rows of a table with this schema and these limits, without a row. The number distinguishes the jobs of its
     /// objects from those of other tables. Allocates all memory for elements.
     ///
-    /// Refused with `NoMemory` (1) alone.
+    /// Refused only with `NoMemory` (1).
     pub fn new(
         alloc: Global,
         schema: Schema,
@@ -88,14 +88,14 @@ impl<S: FarTickets> TableRows<S> {
         &self.limits
     }
 
-    /// Returns how many edits were accepted. Allocates nothing.
+    /// Returns the number of accepted edits. Allocates nothing.
     pub fn edits(&self) -> u64
         ensures { result ≡ self.now.edits }
     {
         self.edits
     }
 
-    /// Returns how many places there are, dead ones too. Allocates nothing.
+    /// Returns the number of places, including dead ones. Allocates nothing.
     pub fn len(&self) -> usize
         ensures len { result ≡ length self.now.places }
         ensures few { length self.now.places ≤ self.now.limits.places }
@@ -104,7 +104,7 @@ impl<S: FarTickets> TableRows<S> {
         self.rows.len()
     }
 
-    /// Returns how many row groups have a place. Allocates nothing.
+    /// Returns the number of row groups that have a place. Allocates nothing.
     pub fn groups(&self) -> usize
         ensures { result ≡ groups self.now.limits.group (length self.now.places) }
     {
@@ -134,9 +134,9 @@ impl<S: FarTickets> TableRows<S> {
         self.rows.row(place)
     }
 
-    /// Returns the row of a place. It looks at each column once, and reads a number when it is asked for. Allocates nothing.
+    /// Returns the row of a place. Looks at each column once, and reads a number only when the caller reads it. Allocates nothing.
     ///
-    /// Refused as `row` is, with `Absent` (16) alone.
+    /// Refused as `row` is.
     #[inline(always)]
     pub fn place_row(&self, place: usize) -> Result<PlaceRow<'_>, Refusal>
         requires { place < length self.now.places }
@@ -150,9 +150,9 @@ impl<S: FarTickets> TableRows<S> {
         Ok(row)
     }
 
-    /// Returns the row of a place. It borrows each cell when it is asked for. Allocates nothing.
+    /// Returns the row of a place. Borrows each cell only when the caller reads it. Allocates nothing.
     ///
-    /// Refused as `row` is, with `Absent` (16) alone.
+    /// Refused as `row` is.
     pub fn row_ref(&self, place: usize) -> Result<RowRef<'_, S>, Refusal>
         requires { place < length self.now.places }
         ensures row { IfOk result
@@ -178,23 +178,23 @@ impl<S: FarTickets> TableRows<S> {
         ensures places { self.now.places ≡ places_in S.content self.now.held }
         ensures size { self.now.held.size ≡ self.now.limits.group }
     {
-        // For the proof: gives `AreRows`.
+        // For the proof: shows `AreRows`.
         let _len = self.rows.len();
         &self.rows
     }
 
-    /// Returns the new row. It borrows each cell when it is asked for. Allocates nothing.
+    /// Returns the new row. Borrows each cell only when the caller reads it. Allocates nothing.
     #[inline(always)]
     pub(crate) fn new_row_ref(&self) -> NewRowRef<'_>
         ensures { result ≡ row_of self.now.held.column_indexes self.now.new_row }
     {
-        // For the proof: gives that each index is that of a column.
+        // For the proof: shows that each index is the index of a column.
         let _len = self.rows.len();
         self.new_row.row_ref(self.rows.column_indexes())
     }
 }
 
-// How many columns of numbers and of texts there are.
+// The numbers of int columns and of text columns.
 #[derive(Clone, Copy)]
 struct Widths {
     numbers: usize,

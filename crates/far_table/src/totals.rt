@@ -49,7 +49,7 @@ fn total_at<S: FarRead>(
     ensures faults { meter.new ≡ meter.old + faults_in result }
     ensures refused { RefusedBy (21 ∷ 1 ∷ []) result }
 {
-    // For the proof: gives `AreRows`, so how many places there are.
+    // For the proof: shows `AreRows`, which bounds the number of places.
     let _len = rows.len();
     let contents = contents_away(alloc, rows, store, meter, spec, group)?;
     scan_totals(
@@ -60,7 +60,7 @@ fn total_at<S: FarRead>(
     )
 }
 
-/// Returns the totals of the row groups from one up to another.
+/// Returns the totals of a run of row groups.
 ///
 /// Refused with `FarFault` (21) exactly if the meter rises, else with `NoMemory` (1).
 pub(crate) fn total_run<S: FarRead>(
@@ -89,7 +89,7 @@ pub(crate) fn total_run<S: FarRead>(
     ensures faults { meter.new ≡ meter.old + faults_in result }
     ensures refused { RefusedBy (21 ∷ 1 ∷ []) result }
 {
-    // For the proof: gives `AreRows`, so how many places there are.
+    // For the proof: shows `AreRows`, which bounds the number of places.
     let _len = rows.len();
     let mut live = LiveTotals::new(alloc, to - from);
     for group in from..to {

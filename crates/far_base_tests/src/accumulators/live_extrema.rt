@@ -69,7 +69,7 @@ fn merge_rows(alloc: Global, live: &mut LiveExtrema, rows: &[Row]) -> Result<(),
     ready
 }
 
-/// Sets the extrema of a row group to those of these rows.
+/// Sets the extrema of a row group to the extrema of these rows.
 fn set_rows(
     alloc: Global,
     live: &mut LiveExtrema,

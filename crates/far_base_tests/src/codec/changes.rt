@@ -35,7 +35,7 @@ fn changed_texts(
     Ok(Vec::new(alloc))
 }
 
-/// Returns the same for any bytes; no bytes if they are no form.
+/// Returns the same for any bytes; no bytes if they are not a form.
 fn changed(alloc: Global, bytes: &[u8], i: usize, word: Option<&str>) -> Result<Vec<u8>, Refusal> {
     let text = text(alloc, word)?;
     match <u8 as Elem>::unspell(alloc, bytes)? {

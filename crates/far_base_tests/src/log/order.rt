@@ -1,4 +1,4 @@
-// Checks that a list of offsets is that of a segment's parts.
+// Checks that a list of offsets has exactly the offsets of a segment's parts.
 ghost use Rattle.std.specs.Prelude.{◌≢◌, ◌<◌, ℕ, AllPairs, All, IsSome, IsTrue, Contains};
 ghost use Rattle.far_log.specs.RegionState.{segment_of, list_at};
 ghost use Rattle.far_log.specs.Effects.{IsOrder};

@@ -75,7 +75,7 @@ fn compacts(
 }
 
 impl Line {
-    /// Returns whether the region gives the expected reply to a call.
+    /// Returns whether the region returns the expected reply to a call.
     fn holds(self, alloc: Global, region: &mut Region<i64>) -> bool {
         match self {
             Line::Place(list, spot) => goes_to(region, list, Ok(place_of(spot))),
@@ -109,7 +109,7 @@ pub struct Case {
 }
 
 impl Case {
-    /// Returns whether the region gives the expected reply to each call.
+    /// Returns whether the region returns the expected reply to each call.
     pub fn is_right(&self, alloc: Global) -> Result<bool, Refusal> {
         let mut region = Region::new(alloc, u32::from(self.segments), self.size)?;
         Ok(plays(alloc, &mut region, self.lines))

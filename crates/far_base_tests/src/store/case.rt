@@ -61,7 +61,7 @@ pub fn logged<R: Drop>(
 }
 
 impl Case {
-    // Returns whether the store gives the expected replies. It is made again if memory runs out.
+    // Returns whether the store returns the expected replies. It is made again if memory runs out.
     pub fn holds<R: Threads + Wait + Sync + Drop>(&self, rt: &R, alloc: Global) -> bool {
         match self.tried(rt, alloc) {
             Err(Refusal::NoMemory) => self.tried(rt, alloc) == Ok(true),
@@ -69,7 +69,7 @@ impl Case {
         }
     }
 
-    // Returns whether a store made for the case, wrapped in a `FaultyStore`, gives the expected replies.
+    // Returns whether a store made for the case, wrapped in a `FaultyStore`, returns the expected replies.
     fn is_played<R: Threads + Sync, S: FarStore>(
         &self,
         rt: &R,
@@ -100,7 +100,7 @@ impl Case {
     }
 }
 
-// Ends the test at the first case whose store gives another reply.
+// Ends the test at the first case whose store returns another reply.
 pub fn all_hold<R: Abort + Threads + Wait + Sync + Drop>(rt: &R, alloc: Global, cases: &[Case]) {
     for case in cases {
         let name = case.name;

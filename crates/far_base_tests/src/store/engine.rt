@@ -77,7 +77,7 @@ static IN_FIVE_BYTES: [Line; 6] = [
     Put(&[], Ok(2)),
 ];
 
-// Returns whether a store over a log of five bytes gives the expected replies, and has used all five afterwards.
+// Returns whether a store over a log of five bytes returns the expected replies, and has used all five afterwards.
 fn uses_all<R: Threads + Wait + Sync + Drop>(
     rt: &R,
     alloc: Global,

@@ -27,7 +27,7 @@ pub enum Line {
     FourThreads(u64, usize, usize),
 }
 
-// Returns whether a store gives the expected reply to each call.
+// Returns whether a store returns the expected reply to each call.
 pub fn plays<R: Threads + Sync, S: FarStore>(
     rt: &R,
     store: &S,
@@ -45,7 +45,7 @@ pub fn plays<R: Threads + Sync, S: FarStore>(
 }
 
 impl Line {
-    // Returns whether a store gives the expected reply to a call. `ticket` is the last one that it returned.
+    // Returns whether a store returns the expected reply to a call. `ticket` is the last one that it returned.
     fn holds<R: Threads + Sync, S: FarStore>(
         self,
         rt: &R,

@@ -1,4 +1,4 @@
-// Clones are equal to what they are cloned from.
+// Clones are equal to the values that they are cloned from.
 use crate::cases::{all, must_be};
 use crate::types::samples::{row, schema, spec, text_key};
 use far_types::{Cell, Edit, Key, Kind, Refusal, Schema, Spec, clone_key};

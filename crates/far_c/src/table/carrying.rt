@@ -26,7 +26,7 @@ impl Table {
     ghost use Rattle.far_c.specs.Outcomes.{IsServed};
     ghost use Rattle.far_c.specs.Replies.{GivesDone};
 
-    /// Carries the job of a number.
+    /// Carries the job with this number.
     pub fn carry(&mut self, job: u64) -> Reply
         requires { self.old.world.faults < 2 ^ 62 }
         ensures served { IsServed (Step.Carry job) result self.old self.new }
@@ -45,7 +45,7 @@ impl Table {
         self.world.begin_coldest()
     }
 
-    /// Gives up the job of a number, as [`World::give_up_delivered`] does.
+    /// Drops the job with this number, as [`World::give_up_delivered`] does.
     pub fn give_up(&mut self, job: u64) -> Result<(), Refusal>
         ensures given_up { OnOk result
             (OnWorld (λ old new. new ≡ record old { jobs = without_job old.jobs job })
@@ -133,7 +133,7 @@ impl Table {
         self.world.record_lending(column, from, to)
     }
 
-    /// Goes on with new numbers below `capacity`, as [`World::migrate`] does.
+    /// Continues with new numbers below `capacity`, as [`World::migrate`] does.
     #[tactic(auto, using(crate::proofs::Faults::few_faults))]
     pub fn migrate(&mut self, capacity: u64) -> Result<(), Refusal>
         requires { self.old.world.faults < 2 ^ 62 }
@@ -158,7 +158,7 @@ impl Table {
     }
 }
 
-// An empty table, which stands where another one is taken out to be changed.
+// Returns an empty table, which replaces the table of the handle while that is changed.
 fn stand_in(alloc: Global) -> Result<World<HostStore>, Refusal>
     ensures faults { IfOk result (λ world. world.faults ≡ 0) }
     ensures memory { IfErr result (λ why. why ≡ Refusal.NoMemory) }

@@ -1,5 +1,5 @@
-// Ends a run. Closing proves that each history contains exactly its sessions' inserts, so the counted rows are exactly
-// those.
+// Ends a run. Closing proves that each history contains exactly its sessions' inserts, so the answer counts exactly the rows
+// of these inserts.
 ghost use Rattle.std.specs.Prelude.{◌≡◌, ◌↔◌, ℕ, ℤ, IfOk, IfNone, IfSome, IsOk, IsOkAnd, IsTrue};
 ghost use Rattle.far_types.specs.declared.answer.Answer.{Answer};
 ghost use Rattle.far_types.specs.Answers.{answer_over};

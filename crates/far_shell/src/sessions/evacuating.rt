@@ -8,7 +8,7 @@ use far_store::{FarStore, Meter};
 use far_types::Refusal;
 use std::sync::Wait;
 
-/// Tries to evict `tries` objects, from one stripe after the other. Skips a try that is refused.
+/// Tries to evict `tries` objects, from each stripe in turn. Skips a try that is refused.
 ///
 /// Ends with `Memory` if a call runs out of memory.
 pub(crate) fn evacuate_all<N: PlanTag, B: TableTag, S: FarStore, R: Wait>(

@@ -1,4 +1,4 @@
-// Objects of a table that are evacuated, fetched and pinned; each row, aggregate and answer stays.
+// Evicts, fetches, pins and compacts objects of a table. No row, aggregate or answer changes.
 ghost use Rattle.std.specs.Prelude.{◌≡◌, ◌≢◌, ◌↔◌, ◌⊎◌, ◌<◌, ◌≤◌, ℕ, List, true, None, Some, option_map, OnOk, OnErr, IfOk, IfErr, IfSome, IsErrOf};
 ghost use Rattle.far_types.specs.MayRefuse.{MayRefuse};
 ghost use Rattle.far_scopes.specs.Coldest.{coldest as coldest_in};
@@ -15,12 +15,12 @@ use far_store::FarTickets;
 use far_types::{Kind, Name, Refusal};
 
 impl<S: FarTickets> LiveTable<S> {
-    /// Begins to send the object of a row group of a column away. Changes nothing.
+    /// Begins to evict the object of a row group of a column. Changes nothing.
     ///
     /// Refused with the first of these that applies:
     ///
     /// - `NoColumn` (4): there is no such column.
-    /// - `OutOfRange` (14): no place of the row group is used.
+    /// - `OutOfRange` (14): the row group has no place.
     /// - `Absent` (16): the object is away.
     /// - `NoMemory` (1): an allocation fails.
     pub fn begin_evac(&self, store: &S, column: u32, group: u32) -> Result<RowsEvac<S>, Refusal>
@@ -34,12 +34,12 @@ impl<S: FarTickets> LiveTable<S> {
         self.rows.begin_evac(self.alloc, store, column, group)
     }
 
-    /// Begins to bring the object of a row group of a column back. Changes and allocates nothing.
+    /// Begins to fetch the object of a row group of a column. Changes and allocates nothing.
     ///
     /// Refused with the first of these that applies:
     ///
     /// - `NoColumn` (4): there is no such column.
-    /// - `OutOfRange` (14): no place of the row group is used.
+    /// - `OutOfRange` (14): the row group has no place.
     /// - `StaleJob` (20): the object is local.
     pub fn begin_fetch(&self, store: &S, column: u32, group: u32) -> Result<RowsFetch<S>, Refusal>
         requires here { AreAt S.is_of (S.store_id store.now) self.now.rows }
@@ -50,11 +50,11 @@ impl<S: FarTickets> LiveTable<S> {
         self.rows.begin_fetch(store, column, group)
     }
 
-    /// Sends the object of a carried evacuation away; each row, aggregate and answer stays. Allocates nothing.
+    /// Ends a carried eviction: its object is away. No row, aggregate or answer changes. Allocates nothing.
     ///
     /// Refused with the first of these that applies:
     ///
-    /// - `StaleJob` (20): what it rests on holds no more (`IsEvacAccepted`).
+    /// - `StaleJob` (20): its assumptions no longer hold (`IsEvacAccepted`).
     /// - `Pinned` (19): the object has a pin.
     ///
     /// A refused call changes nothing.
@@ -75,11 +75,11 @@ impl<S: FarTickets> LiveTable<S> {
         self.rows.commit(store, carried)
     }
 
-    /// Brings the object of a carried fetch back; each row, aggregate and answer stays.
+    /// Ends a carried fetch: its object is local. No row, aggregate or answer changes.
     ///
     /// Refused with the first of these that applies:
     ///
-    /// - `StaleJob` (20): what it rests on holds no more (`IsFetchAccepted`).
+    /// - `StaleJob` (20): its assumptions no longer hold (`IsFetchAccepted`).
     /// - `RegionFull` (17): no segment has the space.
     /// - `NoMemory` (1): an allocation fails.
     ///
@@ -102,14 +102,14 @@ impl<S: FarTickets> LiveTable<S> {
         self.rows.install(self.alloc, store, fetched)
     }
 
-    /// Pins the object of a row group of a column once more. Allocates nothing.
+    /// Adds a pin to the object of a row group of a column. Allocates nothing.
     ///
     /// Refused with the first of these that applies:
     ///
     /// - `NoColumn` (4): there is no such column.
-    /// - `OutOfRange` (14): no place of the row group is used.
+    /// - `OutOfRange` (14): the row group has no place.
     /// - `Absent` (16): the object is away.
-    /// - `EditsUsedUp` (24): it has 65,535 pins.
+    /// - `EditsUsedUp` (24): the object has 65,535 pins.
     ///
     /// A refused call changes nothing.
     pub fn pin(&mut self, column: u32, group: u32) -> Result<(), Refusal>
@@ -122,12 +122,12 @@ impl<S: FarTickets> LiveTable<S> {
         self.rows.pin(column, group)
     }
 
-    /// Pins the object of a row group of a column once less. Allocates nothing.
+    /// Removes a pin from the object of a row group of a column. Allocates nothing.
     ///
     /// Refused with the first of these that applies:
     ///
     /// - `NoColumn` (4): there is no such column.
-    /// - `OutOfRange` (14): no place of the row group is used.
+    /// - `OutOfRange` (14): the row group has no place.
     /// - `NotPinned` (18): the object has no pin.
     ///
     /// A refused call changes nothing.
@@ -141,13 +141,12 @@ impl<S: FarTickets> LiveTable<S> {
         self.rows.unpin(column, group)
     }
 
-    /// Marks the object of a row group of a column as recently used, if it is resident: it is hot and used last. Allocates
-    /// nothing.
+    /// Marks the object of a row group of a column as hot and most recently used, if it is local. Allocates nothing.
     ///
     /// Refused with the first of these that applies:
     ///
     /// - `NoColumn` (4): there is no such column.
-    /// - `OutOfRange` (14): no place of the row group is used.
+    /// - `OutOfRange` (14): the row group has no place.
     ///
     /// A refused call changes nothing.
     pub fn touch(&mut self, column: u32, group: u32) -> Result<(), Refusal>
@@ -160,11 +159,11 @@ impl<S: FarTickets> LiveTable<S> {
         self.rows.touch(column, group)
     }
 
-    /// Returns the name of the object that goes away first. It is the coldest of the kind whose local memory has less space in
-    /// proportion to its capacity. If both have as much, that kind is numbers. If that kind has no such object, it is the
-    /// coldest of the other. `None` exactly if neither kind has one. Allocates nothing.
+    /// Returns the eviction victim: the coldest object of the kind whose local memory has less space in proportion to its capacity, of
+    /// numbers if both have as much; or the coldest of the other kind if this one has none. `None` exactly if neither kind has one.
+    /// Allocates nothing.
     ///
-    /// The object is local and has no pin.
+    /// The victim is local and has no pin.
     pub fn coldest(&self) -> Option<Name>
         ensures coldest { result ≡ coldest self.now.rows }
         ensures local { IfSome result
@@ -180,13 +179,13 @@ impl<S: FarTickets> LiveTable<S> {
         self.rows.coldest()
     }
 
-    /// Compacts a segment of the objects of a kind. Its parts then lie in the lowest other segment without parts, one after
-    /// the other, those of hot objects first. None of their objects is hot afterwards.
+    /// Compacts a segment of the objects of a kind: moves its parts into the lowest other segment without parts, without gaps, those of
+    /// hot objects first. Clears the hot bits of these objects.
     ///
     /// Refused with the first of these that applies:
     ///
     /// - `OutOfRange` (14): there is no such segment.
-    /// - `RegionFull` (17): no other segment is without parts.
+    /// - `RegionFull` (17): every other segment has a part.
     /// - `NoMemory` (1): an allocation fails.
     ///
     /// A refused call changes nothing.

@@ -17,8 +17,8 @@ use far_store::FarTickets;
 use far_types::Refusal;
 
 impl<S: FarTickets> LiveTable<S> {
-    /// Returns whether `scan_group` would build a row group into the aggregate of a number, out of memory aside. If so, the row
-    /// group is still pending, and the columns that the aggregate needs are local. Allocates nothing.
+    /// Returns whether `scan_group` would scan a row group into an aggregate, unless memory runs out: the row group is pending, and the
+    /// columns that the aggregate needs are local. Allocates nothing.
     pub fn may_scan(&self, a: u32, group: u32) -> bool
         ensures { result ≡ is_none (scan_refusal self.now (aggregate_at self.now.table a) group) }
     {
@@ -29,7 +29,7 @@ impl<S: FarTickets> LiveTable<S> {
     fn scan_due(&self, a: u32, group: u32) -> Result<(), Refusal>
         ensures { refusal_in result ≡ scan_refusal self.now (aggregate_at self.now.table a) group }
     {
-        // For the proof: give `AreRows` and `AreLimits`.
+        // For the proof: show `AreRows` and `AreLimits`.
         let _held = self.rows.held();
         let _limits = self.rows.limits();
         let Some(spec) = self.aggregates.spec(a) else {
@@ -44,7 +44,7 @@ impl<S: FarTickets> LiveTable<S> {
         self.rows.may_scan(spec, group)
     }
 
-    /// Checks that `begin_offload` would begin, out of memory aside. Allocates nothing.
+    /// Checks that `begin_offload` would begin, unless memory runs out. Allocates nothing.
     ///
     /// Refused with the first of these that applies:
     ///
@@ -68,11 +68,9 @@ impl<S: FarTickets> LiveTable<S> {
         are_copied(self.rows.held(), spec, group)
     }
 
-    /// Begins to build a row group into the aggregate of a number from the far store's copies of its columns. The table stays
-    /// the same.
+    /// Begins to build a row group into an aggregate from the far store's copies of its columns. The table is unchanged.
     ///
-    /// Refused as `may_offload` is, with `NoAggregate` (12), `OutOfRange` (14) or `StaleJob` (20); else with `NoMemory` (1)
-    /// alone.
+    /// Refused as `may_offload` is, with `NoAggregate` (12), `OutOfRange` (14) or `StaleJob` (20), else only with `NoMemory` (1).
     pub fn begin_offload(&self, store: &S, a: u32, group: u32) -> Result<OffloadBuild<S>, Refusal>
         requires here { AreAt S.is_of (S.store_id store.now) self.now.rows }
         ensures begun { IfOk result (IsOffloadBegun self.now a group) }
@@ -85,7 +83,7 @@ impl<S: FarTickets> LiveTable<S> {
     {
         self.may_offload(a, group)?;
         let held = self.rows.held();
-        // For the proof: gives `AreRows`, so how many flags there are.
+        // For the proof: shows `AreRows`, which bounds the number of flags.
         let _len = held.len();
         let Some(spec) = self.aggregates.spec(a) else {
             unreachable!()
@@ -104,19 +102,19 @@ impl<S: FarTickets> LiveTable<S> {
         })
     }
 
-    /// Builds the row group of a carried build into its aggregate, from the contents that were read. Each row and object stays.
+    /// Scans the row group of a carried build into its aggregate, from the contents that were read. No row or object changes.
     ///
     /// Refused with the first of these that applies:
     ///
     /// - `NoAggregate` (12): the build's aggregate is not registered.
-    /// - `StaleJob` (20): what the build rests on holds no more (`IsMergeable`).
+    /// - `StaleJob` (20): the build's assumptions no longer hold (`IsMergeable`).
     /// - `NoMemory` (1): an allocation fails.
     ///
-    /// A refused call changes nothing. The build rests on this:
+    /// A refused call changes nothing. The build assumes this:
     ///
     /// - The table, the registration and its specification are the same.
     /// - The row group is still pending.
-    /// - The object of each column that is needed is clean, under a ticket of the same number.
+    /// - The object of each needed column is clean, and its ticket has the same number.
     /// - The alive flags are the same.
     pub fn merge(&mut self, store: &S, carried: &OffloadCarried<S>) -> Result<(), Refusal>
         requires here { AreAt S.is_of (S.store_id store.now) self.old.rows }
@@ -139,7 +137,7 @@ impl<S: FarTickets> LiveTable<S> {
         if !self.holds_still(store, build) {
             return Err(Refusal::StaleJob);
         }
-        // For the proof: give `AreRows`, and how many places there are.
+        // For the proof: show `AreRows`, and the bound of the number of places.
         let held = self.rows.held();
         let _len = self.rows.len();
         let size = self.rows.limits().group;
@@ -153,7 +151,7 @@ impl<S: FarTickets> LiveTable<S> {
         )
     }
 
-    // Returns whether what a build rests on still holds. Then its contents are those of the row group.
+    // Returns whether a build's assumptions still hold. Then its contents are those of the row group.
     fn holds_still(&self, store: &S, build: &OffloadBuild<S>) -> bool
         requires here { AreAt S.is_of (S.store_id store.now) self.now.rows }
         requires build_here { AreTicketsOf S.is_of (S.store_id store.now) build.now.job.tickets }

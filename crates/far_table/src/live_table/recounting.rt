@@ -11,17 +11,17 @@ use far_types::{Answer, Refusal};
 use std::thread::Threads;
 
 impl<S: FarRead> LiveTable<S> {
-    /// Returns the answer of the aggregate of a number over the rows as they are, computed from scratch. It does so whatever is
-    /// still pending and whichever objects are away. Changes nothing.
+    /// Computes the answer of an aggregate from scratch, over the rows as they are, whichever row groups are pending and whichever
+    /// objects are away. Changes nothing.
     ///
-    /// At most `workers` threads fold the row groups, in consecutive pieces. A local object is read in place, any other through
-    /// its ticket.
+    /// At most `workers` threads fold the row groups, each a consecutive piece of the table. Local objects are read in place, others
+    /// through their tickets.
     ///
     /// Refused with the first of these that applies:
     ///
     /// - `NoAggregate` (12): there is no such aggregate.
-    /// - `OutOfRange` (14): there are not 1 to 64 workers.
-    /// - `FarFault` (21): the store failed, exactly if the meter rises, by one for each piece that the store failed.
+    /// - `OutOfRange` (14): the number of workers is not 1 to 64.
+    /// - `FarFault` (21): the store failed. Only then the meter rises, by one for each piece in which it failed.
     /// - `NoMemory` (1): an allocation fails, and the store failed in no piece.
     pub fn recount<R: Threads + Sync>(
         &self,
@@ -51,12 +51,12 @@ impl<S: FarRead> LiveTable<S> {
         let size = self.rows.limits().group;
         recount_rows(rt, self.alloc, held, store, meter, spec, size, workers)
     }
-    /// Returns what `recount` does with one worker, without a runtime: this thread folds all row groups as one piece.
+    /// Does the same as `recount` with one worker, without a runtime: this thread folds all row groups as one piece.
     ///
     /// Refused with the first of these that applies:
     ///
     /// - `NoAggregate` (12): there is no such aggregate.
-    /// - `FarFault` (21): the store failed, exactly if the meter rises, by one.
+    /// - `FarFault` (21): the store failed. Only then the meter rises, by one.
     /// - `NoMemory` (1): an allocation fails.
     pub fn recount_alone(&self, store: &S, meter: &mut Meter, a: u32) -> Result<Answer, Refusal>
         requires few { meter.old < 2 ^ 63 }

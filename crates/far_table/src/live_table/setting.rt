@@ -1,4 +1,4 @@
-// A value is put in a column of a place, and the aggregates are kept.
+// Writes a value to a column of a place, and updates the aggregates.
 ghost use Rattle.std.specs.Prelude.{◌≡◌, true, Some, OnOk, OnErr, IfErr};
 ghost use Rattle.far_rows.specs.Effects.{KeepsObjects};
 ghost use Rattle.far_rows.specs.declared.new_cell.NewCell.TheVariants as new;
@@ -16,7 +16,7 @@ use far_store::FarTickets;
 use far_types::{CellRef, Refusal};
 use std::alloc::Global;
 
-/// Puts a value in a column of a place, for which `TableRows::may_set` returned it. Refused with `NoMemory` (1) alone. A refused
+/// Writes a value to a column of a place, for which `TableRows::may_set` returned it. Refused only with `NoMemory` (1). A refused
 /// call changes no row and no answer.
 pub fn put_cell<S: FarTickets>(
     alloc: Global,
@@ -36,9 +36,9 @@ pub fn put_cell<S: FarTickets>(
     ensures objects { KeepsObjects S.is_of rows.old.held rows.new.held }
     ensures memory { IfErr result (λ e. e ≡ Refusal.NoMemory) }
 {
-    // Nothing is kept of a column at which no aggregate looks.
+    // No aggregate needs this column, so there is nothing to update.
     if !aggregates.needs(column) {
-        // For the proof: gives that a row group has a place.
+        // For the proof: shows that a row group has a place.
         let _limits = rows.limits();
         rows.set(alloc, column, place, value)?;
         return Ok(());
@@ -51,9 +51,8 @@ pub fn put_cell<S: FarTickets>(
     change_row(alloc, rows, aggregates, column, place, value)
 }
 
-// Does what `put_cell` does for a number in a column at which aggregates look for values of totals alone. In the place of another
-// number it leaves each key as it is, so it takes one search for each aggregate. The rows are set first: if they refuse, nothing is
-// to be undone.
+// Does the same as `put_cell` for a number, if aggregates need the column only for the values of totals. If the place had a number,
+// each key stays, so one search for each aggregate is enough. The rows are set first: if they refuse, there is nothing to undo.
 fn replace_number<S: FarTickets>(
     alloc: Global,
     rows: &mut TableRows<S>,
@@ -76,13 +75,13 @@ fn replace_number<S: FarTickets>(
     ensures memory { IfErr result (λ e. e ≡ Refusal.NoMemory) }
 {
     let size = rows.limits().group;
-    // For the proof: gives how many places there are, and that their numbers are those of 64 bits.
+    // For the proof: shows `AreTableRows`, which bounds the number of places and the numbers in them.
     let _len = rows.len();
     let Ok(row) = rows.place_row(place as usize) else {
         unreachable!()
     };
     let Some(CellRef::Int(from)) = row.get(column as usize) else {
-        // A missing number gave no pair, and the new one may give one.
+        // The missing number had no pair, and the new one may have one.
         return change_row(alloc, rows, aggregates, column, place, value);
     };
     let pending = aggregates.note_values(alloc, &row, column, from, size, place as usize)?;
@@ -98,8 +97,8 @@ fn replace_number<S: FarTickets>(
     }
 }
 
-// Does what `put_cell` does for any value. The pairs of the row with the value are added before the rows are set, and those of the row
-// before are retracted after that.
+// Does the same as `put_cell` for any value. Adds the pairs of the row with the new value, sets the rows, and then retracts the pairs
+// of the old row.
 fn change_row<S: FarTickets>(
     alloc: Global,
     rows: &mut TableRows<S>,
@@ -119,7 +118,7 @@ fn change_row<S: FarTickets>(
     ensures memory { IfErr result (λ e. e ≡ Refusal.NoMemory) }
 {
     let size = rows.limits().group;
-    // For the proof: give how many places there are, and that their rows have all columns.
+    // For the proof: show the bound of the number of places, and that their rows have all columns.
     let _before = rows.len();
     let _held = rows.held();
     let Ok(row) = rows.place_row(place as usize) else {
@@ -131,7 +130,7 @@ fn change_row<S: FarTickets>(
         aggregates.undo(pending);
         return Err(refusal);
     }
-    // For the proof: gives that the numbers of the places are those of 64 bits.
+    // For the proof: shows that the numbers in the places fit 64 bits.
     let _after = rows.len();
     retract_row(rows, aggregates, place, pending);
     Ok(())

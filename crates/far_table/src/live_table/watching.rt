@@ -20,8 +20,8 @@ impl<S: FarTickets> LiveTable<S> {
     ///
     /// Refused with the first of these that applies:
     ///
-    /// - `BadSpec` (3), `NoColumn` (4) or `WrongKind` (5): the aggregate cannot be had over the schema.
-    /// - `TooManyAggregates` (13): 32 are registered, or 2^32 were.
+    /// - `BadSpec` (3), `NoColumn` (4) or `WrongKind` (5): the aggregate does not fit the schema.
+    /// - `TooManyAggregates` (13): 32 are registered now, or 2^32 were registered in all.
     /// - `NoMemory` (1): an allocation fails.
     ///
     /// A refused call changes nothing.
@@ -45,9 +45,9 @@ impl<S: FarTickets> LiveTable<S> {
         Ok(a)
     }
 
-    /// Forgets the aggregate of a number. Allocates nothing.
+    /// Forgets the aggregate with this number. Allocates nothing.
     ///
-    /// Refused with `NoAggregate` (12) exactly if there is none. A refused call changes nothing.
+    /// Refused with `NoAggregate` (12) exactly if there is no such aggregate. A refused call changes nothing.
     pub fn unwatch(&mut self, a: u32) -> Result<(), Refusal>
         ensures ok { OnOk result (IsUnwatched self.old self.new a) }
         ensures err { IfErr result
@@ -61,7 +61,7 @@ impl<S: FarTickets> LiveTable<S> {
         Ok(())
     }
 
-    /// Scans the rows of a row group into the aggregate of a number.
+    /// Scans the rows of a row group into an aggregate.
     ///
     /// Refused with the first of these that applies:
     ///
@@ -79,7 +79,7 @@ impl<S: FarTickets> LiveTable<S> {
             (λ e. Refuses (scan_refusal self.old (aggregate_at self.old.table a) group) true
             self.old e self.new) }
     {
-        // For the proof: give `AreRows`, and how many places there are.
+        // For the proof: show `AreRows`, and the bound of the number of places.
         let _held = self.rows.held();
         let _len = self.rows.len();
         let Some(spec) = self.aggregates.spec(a) else {
@@ -98,7 +98,7 @@ impl<S: FarTickets> LiveTable<S> {
             .scan_at(self.alloc, a, &self.rows.group(group), size, group)
     }
 
-    /// Returns the answer of the aggregate of a number over the rows as they are, whichever objects are away.
+    /// Returns the answer of an aggregate over the rows as they are, whichever objects are away.
     ///
     /// Refused with the first of these that applies:
     ///
@@ -110,13 +110,13 @@ impl<S: FarTickets> LiveTable<S> {
         ensures err { IfErr result
             (λ e. Refuses (ask_refusal (aggregate_at self.now.table a)) true self.now e self.now) }
     {
-        // For the proof: gives `AreLimits`.
+        // For the proof: shows `AreLimits`.
         let _limits = self.rows.limits();
         self.aggregates.answer(self.alloc, a)
     }
 
-    /// Returns the line of a key in the answer of the aggregate of a number, over the rows as they are, or `None` if the answer has no
-    /// such line. Costs one look-up, and makes no other line. Allocates nothing.
+    /// Returns the line of a key in the answer of an aggregate, over the rows as they are, or `None` if the answer has no such line.
+    /// Looks up only this line, and makes no other. Allocates nothing.
     ///
     /// Refused with the first of these that applies:
     ///
@@ -127,12 +127,12 @@ impl<S: FarTickets> LiveTable<S> {
             (AnswersKey self.now.table.places (aggregate_at self.now.table a) key.now) }
         ensures err { IfErr result (MayRefuse (ask_refusal (aggregate_at self.now.table a)) false) }
     {
-        // For the proof: gives `AreLimits`.
+        // For the proof: shows `AreLimits`.
         let _limits = self.rows.limits();
         self.aggregates.line(a, key)
     }
 
-    /// Returns the specification of the aggregate of a number, or `None` if there is none. Allocates nothing.
+    /// Returns the specification of an aggregate, or `None` if there is no such aggregate. Allocates nothing.
     pub fn spec(&self, a: u32) -> Option<&Spec>
         ensures { option_copied result
             ≡ option_map (λ aggregate. aggregate.spec) (aggregate_at self.now.table a) }
@@ -140,7 +140,7 @@ impl<S: FarTickets> LiveTable<S> {
         self.aggregates.spec(a)
     }
 
-    /// Returns an aggregate and a row group that is still pending in it, or `None` if there is none. Allocates nothing.
+    /// Returns an aggregate and a row group that is pending in it, or `None` if there is none. Allocates nothing.
     pub fn unbuilt(&self) -> Option<(u32, u32)>
         ensures some { IfSome result
             (λ at. is_pending_in (aggregate_at self.now.table at.0) at.1 ≡ true) }
@@ -150,16 +150,16 @@ impl<S: FarTickets> LiveTable<S> {
         self.aggregates.first_pending()
     }
 
-    /// Returns how many row groups are pending in the aggregate of a number, and the first of them, if there is one. `None` if
-    /// there is no such aggregate. Allocates nothing.
+    /// Returns the number of row groups that are pending in an aggregate, and the first of them, if there is one. `None` if there is no
+    /// such aggregate. Allocates nothing.
     pub fn pending(&self, a: u32) -> Option<(u32, Option<u32>)>
         ensures { result ≡ option_map pending_of (aggregate_at self.now.table a) }
     {
         self.aggregates.pending(a)
     }
 
-    /// Returns how many rows an aggregate of totals without key column folds, and the sum of their values. `None` if there is
-    /// no such aggregate, or row groups are still pending. Allocates nothing.
+    /// Returns the number of rows that an aggregate of totals without a key column folds, and the sum of their values. `None` if there
+    /// is no such aggregate, or row groups are still pending. Allocates nothing.
     pub fn plain(&self, a: u32) -> Option<(u64, i128)>
         ensures { result ≡ plain_in self.now.table.places (aggregate_at self.now.table a) }
     {

@@ -16,7 +16,7 @@ use far_store::FarTickets;
 use far_types::{Cell, Refusal, Row, Spec};
 
 impl<S: FarTickets> TableRows<S> {
-    /// Takes a row, if it may be appended. Allocates nothing. After `Ok`, `push` can be refused with `NoMemory` (1) alone.
+    /// Takes a row, if it may be appended. Allocates nothing. After `Ok`, `push` can be refused only with `NoMemory` (1).
     ///
     /// Refused with the first of these that applies:
     ///
@@ -30,7 +30,7 @@ impl<S: FarTickets> TableRows<S> {
         ensures free { OnOk result (MayPush S.content self.new) }
         ensures stays { self.new ≡ record self.old { new_row = self.new.new_row } }
     {
-        // For the proof: give `AreRows`, and that the row's numbers are those of 64 bits.
+        // For the proof: show `AreRows`, and that the numbers of the row fit 64 bits.
         let len = self.rows.len();
         let _cells = row.as_slice();
         row_faults(&self.schema, &self.limits, len, &row)?;
@@ -39,15 +39,15 @@ impl<S: FarTickets> TableRows<S> {
         self.may_count()
     }
 
-    /// Returns cells that are no longer needed: a later row may be made in their memory. Allocates nothing.
+    /// Returns cells that are no longer needed, whose memory a later row can reuse. Allocates nothing.
     pub fn spare_cells(&mut self) -> Vec<Cell>
         ensures { self.new ≡ self.old }
     {
         self.new_row.spare_cells()
     }
 
-    /// Checks that a cell may be put in a column of a place, and returns it as a value of that column. Allocates nothing. After
-    /// `Ok`, `set` can be refused with `NoMemory` (1) alone.
+    /// Checks that a cell may be written to a column of a place, and returns it as a value of that column. Allocates nothing. After
+    /// `Ok`, `set` can be refused only with `NoMemory` (1).
     ///
     /// Refused with the first of these that applies:
     ///
@@ -60,7 +60,7 @@ impl<S: FarTickets> TableRows<S> {
         ensures cell { IfOk result (λ value. cell_of value ≡ cell) }
         ensures free { IfOk result (MayPut S.content self.now column place) }
     {
-        // For the proof: gives `AreRows`.
+        // For the proof: shows `AreRows`.
         let _len = self.rows.len();
         cell_faults(&self.schema, column, self.is_alive(place as usize), &cell)?;
         let Some(kind) = self.schema.get(column as usize) else {
@@ -72,7 +72,7 @@ impl<S: FarTickets> TableRows<S> {
         Ok(value)
     }
 
-    /// Checks that a place may be removed, and returns its row, which borrows each cell when it is asked for. Allocates nothing.
+    /// Checks that a place may be removed, and returns its row, which borrows a cell only when the caller reads it. Allocates nothing.
     ///
     /// Refused with the first of these that applies:
     ///
@@ -84,7 +84,7 @@ impl<S: FarTickets> TableRows<S> {
         ensures row { IfOk result
             (λ row. option_map (λ p. p.cells) (slice_get self.now.places place) ≡ Some row) }
     {
-        // For the proof: gives `AreRows`.
+        // For the proof: shows `AreRows`.
         let _len = self.rows.len();
         living(self.is_alive(place as usize))?;
         let row = self.row_ref(place as usize)?;
@@ -92,15 +92,15 @@ impl<S: FarTickets> TableRows<S> {
         Ok(row)
     }
 
-    /// Checks that the columns that an aggregate needs are local in a row group, which has a place. Allocates nothing.
+    /// Checks that the columns that an aggregate needs are local in a row group with places. Allocates nothing.
     ///
-    /// Refused with `Absent` (16) exactly if one is away. It names the first in the order of the columns.
+    /// Refused with `Absent` (16) exactly if one is away. The refusal names the first, in the order of the columns.
     pub fn may_scan(&self, spec: &Spec, group: u32) -> Result<(), Refusal>
         requires { group * self.now.limits.group < length self.now.places }
         ensures { refusal_in result
             ≡ first_of (needed_from self.now.held spec.now group 0 self.now.held.column_indexes) }
     {
-        // For the proof: gives `AreRows`.
+        // For the proof: shows `AreRows`.
         let _len = self.rows.len();
         for column in 0..self.schema.len() {
             if spec.needs(column as u32) {

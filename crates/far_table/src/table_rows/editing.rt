@@ -1,4 +1,4 @@
-// Edits are made.
+// Makes edits that were accepted.
 ghost use Rattle.std.specs.Prelude.{◌≡◌, None, OnOk, OnErr, IfErr};
 ghost use Rattle.far_types.specs.declared.edit.Edit.TheVariants as edit;
 ghost use Rattle.far_types.specs.Cells.{CellFits};
@@ -16,7 +16,7 @@ use std::alloc::Global;
 impl<S: FarTickets> TableRows<S> {
     /// Appends the new row, which is alive, and counts the edit.
     ///
-    /// The row is one that `may_insert` accepted. Refused with `NoMemory` (1) alone. A refused call changes nothing.
+    /// The row is one that `may_insert` accepted. Refused only with `NoMemory` (1). A refused call changes nothing.
     pub fn push(&mut self, alloc: Global) -> Result<(), Refusal>
         requires { MayPush S.content self.old }
         ensures appended { OnOk result (IsAppended S.content self.old self.new) }
@@ -29,9 +29,9 @@ impl<S: FarTickets> TableRows<S> {
         Ok(())
     }
 
-    /// Puts a value in a column of a place, and counts the edit.
+    /// Writes a value to a column of a place, and counts the edit.
     ///
-    /// The value is one that `may_set` returned. Refused with `NoMemory` (1) alone. A refused call changes nothing.
+    /// The value is one that `may_set` returned. Refused only with `NoMemory` (1). A refused call changes nothing.
     pub fn set(
         &mut self,
         alloc: Global,
@@ -45,7 +45,7 @@ impl<S: FarTickets> TableRows<S> {
         ensures memory { IfErr result (λ e. e ≡ Refusal.NoMemory) }
         ensures err { OnErr result (self.new ≡ self.old) }
     {
-        // For the proof: gives that a number is one of 64 bits.
+        // For the proof: shows that a number fits 64 bits.
         let _cell = fitting(value);
         self.rows
             .set(alloc, column as usize, place as usize, value)?;
@@ -53,7 +53,7 @@ impl<S: FarTickets> TableRows<S> {
         Ok(())
     }
 
-    /// Marks the place dead, and counts the edit; its cells stay. Allocates nothing.
+    /// Marks a place as dead, and counts the edit. Its cells stay. Allocates nothing.
     ///
     /// The place is one that `may_remove` accepted.
     pub fn remove(&mut self, place: u32)
@@ -65,7 +65,7 @@ impl<S: FarTickets> TableRows<S> {
     }
 }
 
-// For the proof: returns the value, whose number is then known to be one of 64 bits.
+// For the proof: returns the value, and shows that its number fits 64 bits.
 fn fitting(value: &NewCell) -> &NewCell
     ensures value { result.now ≡ value.now }
     ensures fits { CellFits (cell_of value.now) }

@@ -1,4 +1,4 @@
-// Rows of a table whose far copies go into another store.
+// Rows of a table whose far copies move to another store.
 ghost use Rattle.std.specs.Prelude.{◌≡◌, ◌+◌, ◌<◌, ◌^◌, ℕ, List, [], ◌∷◌, IfOk};
 ghost use Rattle.far_store.specs.Faults.{faults_in, RefusedBy};
 ghost use Rattle.far_rows.specs.Jobs.{AreAt};
@@ -12,13 +12,13 @@ use far_types::Refusal;
 use std::alloc::Global;
 
 impl<S: FarRead> TableRows<S> {
-    /// Puts the content of each object that is away into another store. Those of numbers come before those of texts, each by
-    /// ascending object number. Allocates all that `renew` needs. The rows stay the same.
+    /// Puts the content of each object that is away into another store: first of objects of numbers, then of texts, each by ascending
+    /// object number. Allocates all memory that `renew` needs. The rows are unchanged.
     ///
-    /// It ends at the first object that is refused. What was put before stays in the new store. Refused with one of these:
+    /// Ends at the first object that is refused. The contents put before stay in the new store. Refused with one of these:
     ///
     /// - `FarFault` (21): one of the stores fails, exactly if the meter rises, by one.
-    /// - `FarFull` (22): the new store gives out no more numbers.
+    /// - `FarFull` (22): the new store is full.
     /// - `NoMemory` (1): an allocation fails.
     pub fn renewal<N: FarStore>(
         &self,
@@ -39,8 +39,8 @@ impl<S: FarRead> TableRows<S> {
 }
 
 impl<S: FarTickets> TableRows<S> {
-    /// Returns the same rows, whose far copies are those of the renewal from now on. Every place stays, and what is local, hot
-    /// or pinned. The local objects are dirty, since they have no copy in the new store. Allocates nothing.
+    /// Returns the same rows, with the far copies of the renewal. Every place is unchanged, and so is which objects are local, hot or
+    /// pinned. The local objects are dirty, since they have no copy in the new store. Allocates nothing.
     pub fn renew<N: FarTickets>(self, renewal: RowsRenewal<N>) -> TableRows<N>
         requires { RenewsRows S.content N.content self.held renewal }
         ensures renewed { result ≡ renewed_table_rows self renewal }

@@ -11,7 +11,7 @@ returns-clause-all g c =
     counts-all works_in c.chunk_for-size.result c.args.works.now made.reports.items (record { done = 0; refused = 0 }) c.chunk_for-size.ensures.some (sym made.reports.ok.0 ∙ made.ensures.len)
     (λ n lt. let k = (made.ensures.each n (record { done = 0; refused = 0 }) lt).1 in search rules)
 
--- the closure holds a `&` to the runtime, to the four tables and to the store
+-- the closure holds a `&` to the runtime, the four tables and the store
 pub map_chunks-requires-sync-F : goal.map_chunks-requires-sync-F
 map_chunks-requires-sync-F g c κs within =
     let all = shared_sync (param 0 g.row.N) (param 1 g.row.B) (param 2 g.row.S) (param 4 g.row.S-Ticket) g.B.CellsTag g.N.PlanTag g.B.TableTag g.S.FarTickets c.type_bounds.send-S-Ticket c.type_bounds.sync-S-Ticket in

@@ -1,4 +1,4 @@
--- A handle may go from thread to thread: its table may, and any thread frees the block.
+-- A handle may be sent to another thread: its table may, and any thread may free the block.
 use mathlib.Core.List.{[]}
 use base.Shift.{Keyless}
 use denote.Exit.{Exit, unchanged, leaves, hidden, under}
@@ -15,7 +15,7 @@ use Rattle.far_c.specs.contracts.table.Table as Table
 use Rattle.far_c.proofs.table.Table.TheSendSync.{the_send as table}
 use Rattle.far_c.specs.contracts.handle.Handle.{the_row, the_type}
 
--- what a handle owns is what a box of its table does
+-- a handle owns what a box of its table owns
 keyless : (alloc : Global) (p : Ptr) (o : Option Table.the_row.Denot) → Keyless (held alloc p o)
 keyless alloc p None = λ _. tt
 keyless alloc p (Some x) = ((crossing.Box-send Table.the_row table).owned (record { ptr = p; alloc = alloc; value = x }) []).1

@@ -1,4 +1,4 @@
--- A handle at null owns the allocator alone.
+-- A handle with a null pointer owns only the allocator.
 use mathlib.Core.Path.{◌≡◌, refl, sym, subst}
 use lib.Dec.{T, lit<}
 use mathlib.Core.List.{List, [], ◌∷◌, ◌++◌}
@@ -61,7 +61,7 @@ module _ {M : Type 1} {𝓤 : Ura M} (𝓛 : Logic 𝓤) (at_mem : Memory → SP
       by ! (subst (λ (us : List Val). ent 𝓤 (types.Kit.⋆ 𝓛 Γ) (WpFn 𝓤 H 𝓣.C 𝓣.Λ code.function (us ++ []) Post)) (sym ea)
       (qed 𝓛 Γ ∵ enter ! 𝓣.C 𝓣.Λ code.function (hv ∷ []) _ $ alloc_all ! (λ ls. pass_all ! refl (fa, tt) $
       sets ! (agg ! (and_then ! (lit ! tt) (and_then ! (get ! refl) (no_more !)))) refl typed $ returns ! (look_at ! 0 refl) $ free_all ! refl $
-      -- what a handle at null owns
+      -- what a handle with a null pointer owns
       nothing ! $ fpack ! (null_ptr ≡ null_ptr) (λ _. ftrue) refl $ nothing ! $ move ! (2 ∷ 0 ∷ []) $ fjoin ! $ feq_i ! (List Val) (ptr_val null_ptr ∷ []) (ptr_val null_ptr ∷ []) refl $ fjoin ! $ feq_i ! (List Val) (w ∷ []) (w ∷ []) refl $ fjoin ! $
       fpack ! (Valss (RawPtr ∷ Heap.the_row ∷ [])) (within (shape Handle-type.the_type) (to Handle-type.the_type made) (w ∷ [])) (ptr_val null_ptr ∷ [], (hv ∷ [], tt)) $ fjoin ! $
       suffices ! _ (ends_at 𝓛 F.ended stayed (F.clauses 𝓛 at_mem run) z w made (tt, tt) (tt, tt)) $ says ! refl $

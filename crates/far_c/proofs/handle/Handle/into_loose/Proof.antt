@@ -1,4 +1,4 @@
--- The pointer and the allocator move, and what the handle owns goes with them.
+-- Moves the pointer and the allocator, with everything that the handle owns.
 use mathlib.Core.Path.{◌≡◌, refl, sym, subst, ap, ◌∙◌}
 use mathlib.Core.List.{List, [], ◌∷◌, ◌++◌}
 use seplogic.Ra.Ura.{Ura}
@@ -45,7 +45,7 @@ module _ {M : Type 1} {𝓤 : Ura M} (𝓛 : Logic 𝓤) (at_mem : Memory → SP
   abbrev Z : Type 0
   Z = (walk_of 𝓛 F.ended stayed (F.clauses 𝓛 at_mem run)).Ghost
 
-  -- at the handle h, whose list is x
+  -- running the code on the handle h, whose table is x
   held : (z : Z) (h : Handle) (x : TableState) → z.0.3.0 ≡ h → h.table ≡ Some x
       → ent 𝓤 (sem 𝓛 (fsep ((B E).own_val (record { ptr = h.at; alloc = h.alloc; value = x }) z.0.4.0) ftrue)) (WpFn 𝓤 H 𝓣.C 𝓣.Λ code.function (z.0.4.0 ++ []) ((walk_of 𝓛 F.ended stayed (F.clauses 𝓛 at_mem run)).post z))
   held z h x is has =

@@ -1,4 +1,4 @@
--- At null there is nothing to lend. Else the table is lent out of the handle, which ends with whatever is left there.
+-- A handle with a null pointer lends nothing. Any other lends its table, and ends with what the borrow leaves in it.
 use mathlib.Core.Path.{◌≡◌, refl, sym, ap, subst}
 use Prim.Native.Nat.{ℕ}
 use lib.Dec.{lit<}
@@ -77,7 +77,7 @@ module _ {M : Type 1} {𝓤 : Ura M} (𝓛 : Logic 𝓤) (at_mem : Memory → SP
   abbrev Lent : denote.RattleType.RattleType
   Lent = MutRef (named 0) κ Pl
 
-  -- the word of a handle at null
+  -- the word of a handle with a null pointer
   abbrev null_word : Val → Val
   null_word hv = vstruct (vcons (ptr_val null_ptr) (vcons hv vnil))
 

@@ -1,4 +1,4 @@
--- The pointer and the allocator that a box is taken apart into, with what lies at the pointer, own what the box owned.
+-- A box is taken apart into its pointer and its allocator, which with what is at the pointer own what the box owned.
 use mathlib.Core.Path.{◌≡◌, refl, sym, ap, subst}
 use mathlib.Core.List.{List, [], ◌∷◌, ◌++◌}
 use mir.Syntax.{a_type, dcons, dnil}
@@ -61,7 +61,7 @@ of_spec 𝓤 𝓛 𝓜 𝓡 wired T A LT LA g d dx dd allocator glue glued =
     use1 𝓛 (later (some (λ (r : Ptr × A.Denot). (tokens ⊛ ‵ (Pair.own_val r (u ∷ []))) ⊛ some (λ (ls : Lasts (callee.ended T A g d dx dd) κs y.0.3). ‵ (lasts (callee.ended T A g d dx dd) κs y.0.3 ls) ⊛ (raw (fact 𝓤 (r.1 ≡ v.alloc)) ⊛ ‵ (box_owns (g.dealloc_token v.alloc) (R E) r.0 v.value)))))) (id⊢ 𝓤 (k.post y u)) $
     await ! tt $ pick ! (λ r. split ! $ move ! (1 ∷ []) $ pick ! (λ _. split3 ! $ drop ! $ heard ! (r.1 ≡ v.alloc) (λ same.
     rewrite ! 0 (λ (a : A.Denot). ‵ (box_owns (g.dealloc_token a) (R E) r.0 v.value)) (sym same) refl $ move ! (1 ∷ []) $ split ! $ move ! (1 ∷ 2 ∷ []) $ fjoin ! $
-    -- the pair with what lies at its pointer is a box
+    -- the pair with what is at its pointer is a box
     let again : D E = record { ptr = r.0; alloc = r.1; value = v.value } in
     use1 𝓛 (‵ ((B E).own_val again (u ∷ []))) (id⊢ 𝓤 _) $ box_out E ! again (u ∷ []) (λ b' o' hv' e' us fits'. box_in E ! again b' o' v.value e' refl $
     let w' : Val = word E hv' b' o' in let typed = box_typed E hv' b' o' fits' in

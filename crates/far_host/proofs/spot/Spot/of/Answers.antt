@@ -6,7 +6,7 @@ use Rattle.std.specs.Int.Count.{leading_unique}
 use Rattle.far_host.specs.Spots.{count_at, group_of, chunk_of, place_of}
 use Rattle.far_host.proofs.spot.Spot.of.Goals as goal
 
--- the exponent of the highest power of two up to the chunk, so counted, is its group
+-- the exponent of the highest power of two up to the chunk's count is its group
 group-is : (number top : ℕ) → 2 ^ top ≤ count_at number → count_at number < 2 * 2 ^ top → top < 64 → top ≡ group_of number
 unfolding group_of
 group-is number top low high small =

@@ -8,7 +8,7 @@ use Rattle.far_shell.proofs.RunsLaws.{gauged-whole, run-of}
 use Rattle.far_shell.proofs.sessions.ending.end.Goals as goal
 use Rattle.far_shell.proofs.sessions.ending.end.Goals.{In_ok-sessions}
 
--- what sessions have left
+-- the outcome of the sessions
 left : (g : _) (c : In_ok-sessions g) → AreLeft g.N.PlanTag.plan c.args.edits c.in_ok-sessions.sessions.items c.in_ok-sessions.outcome
 left g c = rw c.in_ok-sessions.was at c.requires.left
 

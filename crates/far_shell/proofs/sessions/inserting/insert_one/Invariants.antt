@@ -2,7 +2,7 @@ use Rattle.std.proofs.Common.{◌≡◌, ◌≢◌, ℕ, ◌<◌}
 use Rattle.far_sessions.specs.Known.{at}
 use Rattle.far_shell.proofs.sessions.inserting.insert_one.Given as goal
 
--- no try before has made an insert
+-- no earlier try has made an insert
 abbrev pub invariant-loop-turn : goal.invariant-loop-turn
 invariant-loop-turn g l = record {
   by : (at l.me l.stripe).by ≡ (at l.initial.me l.stripe).by;

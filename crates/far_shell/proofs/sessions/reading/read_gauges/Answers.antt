@@ -15,7 +15,7 @@ loop-one-preserved g c =
     rw (c.in_ok-push.ensures.items, c.in_ok-push-2.ensures.items)
     (read-more g.N.PlanTag.plan c.loop-one.yielded c.loop-one.sessions.items c.loop-one.readings.items c.in-Some.one c.in_ok-me.me c.in_ok-me.reading c.loop-one.invariant c.in_ok-me.ensures)
 
--- all were read
+-- after the loop all sessions are read
 all-read : (g : _) (c : After-drop-one-iterator-2 g) → AreRead g.N.PlanTag.plan c.args.worked.items c.loop-one.sessions.items c.loop-one.readings.items
 all-read g c =
     let end = YieldsList-end (YieldsList-from_vec c.args.worked.items (cc) (cc)) c.loop-one.yielded c.loop-one.one-iterator c.loop-one.yielded_by c.next.result c.next.new.self c.in-None.is c.next.ensures.steps in

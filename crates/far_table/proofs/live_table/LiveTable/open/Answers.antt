@@ -13,6 +13,6 @@ invariant_of-result g c =
       checked = subst (AreChecked rows.schema) (sym c.new-2.ensures.registered) (none-checked rows.schema 32);
     }
 
--- there is no object yet, so no ticket
+-- a new table has no objects, so it holds no ticket
 pub returns-clause-here : goal.returns-clause-here
 returns-clause-here g c = λ id. subst (AreAt g.S.FarTickets.is_of id) (sym c.in_ok-rows.ensures.opened.held) record { numbers = λ o. tt; texts = λ o. tt }
