@@ -21,26 +21,26 @@ is_under key pair = eq_by_cmp line_cmp key pair.0
 abbrev pub values_of : Option Key → List Pair → List ℤ
 values_of key pairs = map (λ pair. pair.1) (filter (λ pair. is_under key pair) pairs)
 
--- the sum, which has no bound here
+-- the sum of the values, an integer without bounds
 abbrev pub int_sum : List ℤ → ℤ
 int_sum [] = pos 0
 int_sum (value ∷ values) = value +ℤ int_sum values
 
--- the value that is left of a list if a function picks one of each two. Of no values it is 0, which no answer shows: a key has a value
+-- the value that remains if a function picks one of each two values. For no values it is 0, which no answer shows: each key has a value
 abbrev pub picked : (ℤ → ℤ → ℤ) → List ℤ → ℤ
 picked pick [] = pos 0
 picked pick (value ∷ []) = value
 picked pick (value ∷ next ∷ values) = pick value (picked pick (next ∷ values))
 
--- the least of some values, of which there is at least one
+-- the least of one or more values
 abbrev pub least : List ℤ → ℤ
 least values = picked int_min values
 
--- the greatest of them
+-- the greatest of one or more values
 abbrev pub greatest : List ℤ → ℤ
 greatest values = picked int_max values
 
--- values by key, ascending: only keys that occur, none twice
+-- values by key, in ascending order of keys: only keys that occur, each once
 abbrev pub ByKey : Type 0 → Type 0
 ByKey V = fin.FinMap line_cmp V
 
@@ -53,7 +53,7 @@ grouped fold pairs = fin.from_entries
 abbrev pub count_sum : List ℤ → ℕ × ℤ
 count_sum values = (length values, int_sum values)
 
--- the least value and the greatest
+-- the least and the greatest value
 abbrev pub min_max : List ℤ → ℤ × ℤ
 min_max values = (least values, greatest values)
 
@@ -65,7 +65,7 @@ Totals = ByKey (ℕ × ℤ)
 abbrev pub totals : List Pair → Totals
 totals pairs = grouped count_sum pairs
 
--- the least value and the greatest, by key
+-- the least and the greatest value, by key
 abbrev pub Extrema : Type 0
 Extrema = ByKey (ℤ × ℤ)
 
@@ -73,7 +73,7 @@ Extrema = ByKey (ℤ × ℤ)
 abbrev pub extrema : List Pair → Extrema
 extrema pairs = grouped min_max pairs
 
--- a line of totals: a key, a count and a sum
+-- the lines of totals: each has a key, a count and a sum
 abbrev pub TotalLines : Type 0
 TotalLines = List (Option Key × ℕ × ℤ)
 
@@ -82,22 +82,23 @@ abbrev pub total_lines : Totals → TotalLines
 total_lines totals = map (λ (entry : Option Key × (ℕ × ℤ)). (entry.0, entry.1.0, entry.1.1))
     (fin.entries totals)
 
--- a line of extrema: a key, a minimum and a maximum
+-- the lines of extrema: each has a key, a least and a greatest value
 abbrev pub ExtremaLines : Type 0
 ExtremaLines = List (Option Key × ℤ × ℤ)
 
 -- the lines of extrema, in the order of their keys
 abbrev pub extrema_lines : Extrema → ExtremaLines
-extrema_lines extrema = map (λ (entry : Option Key × (ℤ × ℤ)). (entry.0, entry.1.0, entry.1.1))
+extrema_lines extrema = map
+    (λ (entry : Option Key × (ℤ × ℤ)). (entry.0, entry.1.0, entry.1.1))
     (fin.entries extrema)
 
--- totals without key column always give one line
+-- the lines of totals, or the line of zeros if there are none and the aggregate has no key column
 abbrev pub or_zero : Option ℕ → TotalLines → TotalLines
 or_zero None [] = (None, 0, pos 0) ∷ []
 or_zero None (line ∷ lines) = line ∷ lines
 or_zero (Some column) lines = lines
 
--- the answer over pairs of an aggregate with this fold and this key column
+-- the answer over pairs, for an aggregate with this fold and this key column
 abbrev pub answer_of : Fold → Option ℕ → List Pair → Answer
 answer_of fold.Totals key pairs = answer.Totals (or_zero key (total_lines (totals pairs)))
 answer_of fold.Extrema key pairs = answer.Extrema (extrema_lines (extrema pairs))

@@ -33,7 +33,7 @@ pub record AreLimits (limits : Limits) : Type 0 where
   pub text_size_low : 64 ≤ limits.text_size
   pub text_size_high : limits.text_size ≤ 16777216
 
--- the limits of a table for which none are named, in row groups of g places
+-- the usual limits of a table, in row groups of g places
 abbrev pub usual_limits : ℕ → Limits
 usual_limits g = record {
   group = g;
@@ -57,7 +57,7 @@ has_long_constant (test.Int column op value) = false
 has_long_constant (test.TextIs column constant) = nat_lt 4096 (length constant)
 has_long_constant (test.TextBegins column constant) = nat_lt 4096 (length constant)
 
--- whether there is such a column, and it is of numbers
+-- whether there is such a column, and it is a column of numbers
 abbrev pub is_int : Option Kind → Bool
 is_int (Some kind.Int) = true
 is_int (Some kind.Text) = false
@@ -69,19 +69,19 @@ is_text (Some kind.Int) = false
 is_text (Some kind.Text) = true
 is_text None = false
 
--- whether a test has its column's kind: one of numbers needs a column of numbers, one of texts a column of texts
+-- whether a test fits its column: a test of numbers needs a column of numbers, a test of texts a text column
 abbrev pub has_its_kind : List Kind → Test → Bool
 has_its_kind schema (test.Int column op value) = is_int (slice_get schema column)
 has_its_kind schema (test.TextIs column constant) = is_text (slice_get schema column)
 has_its_kind schema (test.TextBegins column constant) = is_text (slice_get schema column)
 
--- whether an aggregate needs a column: that of a test, of its key or of its value
+-- whether an aggregate needs a column: for a test, for its key or for its value
 abbrev pub needs : Spec → ℕ → Bool
 needs spec column = list_any (λ test. column_of test == column) spec.filter
     || option_map_or (λ key. key == column) spec.key false
     || spec.value == column
 
--- whether all columns that an aggregate needs are among the first ones
+-- whether all columns that an aggregate needs are among the first `columns` ones
 abbrev pub is_within : ℕ → Spec → Bool
 is_within columns spec = list_all (λ test. nat_lt (column_of test) columns) spec.filter
     && option_map_or (λ key. nat_lt key columns) spec.key true

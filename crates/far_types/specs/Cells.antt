@@ -1,4 +1,4 @@
--- What a cell is, and what it gives to a test, a key or a sum.
+-- Cells, and the number, the text or the key that a cell has.
 use Rattle.std.specs.Prelude.{ℕ, ℤ, Bool, true, false, nat_lt, List, length, Option, None, Some, slice_get, unwrap_or, FitsSigned}
 use Rattle.std.specs.Int.{w64}
 use Rattle.std.specs.List.{AllByRecursion}
@@ -9,7 +9,7 @@ use Rattle.far_types.specs.declared.cell.Kind.TheVariants as kind
 use Rattle.far_types.specs.declared.key.Key.{Key}
 use Rattle.far_types.specs.declared.key.Key.TheVariants as key
 
--- whether a cell is of a kind: a cell without a value is of either
+-- whether a cell is of a kind: a cell without a value is of either kind
 abbrev pub is_of_kind : Kind → Cell → Bool
 is_of_kind kind.Int (cell.Int number) = true
 is_of_kind kind.Int (cell.Text text) = false
@@ -17,33 +17,33 @@ is_of_kind kind.Text (cell.Int number) = false
 is_of_kind kind.Text (cell.Text text) = true
 is_of_kind k cell.Missing = true
 
--- whether a cell is a text of more than 4,096 bytes, which no cell may have
+-- whether a cell is a text of more than 4,096 bytes, which no table accepts
 abbrev pub is_too_long : Cell → Bool
 is_too_long (cell.Int number) = false
 is_too_long (cell.Text text) = nat_lt 4096 (length text)
 is_too_long cell.Missing = false
 
--- the number of a cell that has one
+-- the number of a cell, or nothing if it has none
 abbrev pub number_in : Option Cell → Option ℤ
 number_in (Some (cell.Int number)) = Some number
 number_in (Some (cell.Text text)) = None
 number_in (Some cell.Missing) = None
 number_in None = None
 
--- the text of a cell that has one
+-- the text of a cell, or nothing if it has none
 abbrev pub text_in : Cell → Option (List ℕ)
 text_in (cell.Int number) = None
 text_in (cell.Text text) = Some text
 text_in cell.Missing = None
 
--- the key that a cell with a value gives
+-- the value of a cell as a key, or nothing if it has none
 abbrev pub key_in : Option Cell → Option Key
 key_in (Some (cell.Int number)) = Some (key.Int number)
 key_in (Some (cell.Text text)) = Some (key.Text text)
 key_in (Some cell.Missing) = None
 key_in None = None
 
--- the cells of a row by column number: nothing if there is no such column. What has only some columns of a row has such cells too
+-- the cells of a row by column number: nothing if there is no such column. A row that is lent may lack columns that no reader needs
 abbrev pub Cells : Type 0
 Cells = ℕ → Option Cell
 
@@ -51,11 +51,11 @@ Cells = ℕ → Option Cell
 abbrev pub cells_of : List Cell → Cells
 cells_of row = slice_get row
 
--- the cell of one column of a row, which has all columns
+-- the cell of one column, in a row that has all columns
 abbrev pub cell_at : ℕ → List Cell → Cell
 cell_at column row = unwrap_or (slice_get row column) cell.Missing
 
--- the number of a cell has 64 bits
+-- the number of a cell, if it has one, has 64 bits
 abbrev pub CellFits : Cell → Type 0
 CellFits (cell.Int number) = FitsSigned w64 number
 CellFits (cell.Text text) = Unit {0}

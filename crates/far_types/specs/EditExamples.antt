@@ -10,7 +10,7 @@ use Rattle.far_types.specs.Table.{Table, empty_table, rows_of, part, in_group, g
 use Rattle.far_types.specs.Edits.{after_edit, edit_refusal}
 use Rattle.far_types.specs.Examples.{row, a, b}
 
--- a column of numbers and one of texts, in row groups of 4 places or of another size; a text object may have 64 bytes
+-- an empty table with a column of numbers and a text column, in row groups of this size; a text object may have 64 bytes
 abbrev pub in_groups_of : ℕ → Table
 in_groups_of size = empty_table (kind.Int ∷ kind.Text ∷ []) (record {
   group = size;
@@ -22,7 +22,7 @@ in_groups_of size = empty_table (kind.Int ∷ kind.Text ∷ []) (record {
   text_size = 64;
 })
 
--- a row of a number and as many letters
+-- an insert of a number and a text of so many letters
 abbrev pub letters : ℤ → ℕ → Edit
 letters number count = edit.Insert (row number (replicate count 97))
 
@@ -36,16 +36,17 @@ abbrev pub WhatEditsDo : Type 0
 WhatEditsDo =
     (rows_of (after_edit (edit.Set 1 0 cell.Missing) three).places
     ≡ row (pos 5) a ∷ (cell.Missing ∷ cell.Text b ∷ []) ∷ row (pos 7) a ∷ [])
-    × (rows_of (after_edit (edit.Remove 1) three).places ≡ row (pos 5) a ∷ row (pos 7) a ∷ [])
+    × (rows_of (after_edit (edit.Remove 1) three).places
+    ≡ row (pos 5) a ∷ row (pos 7) a ∷ [])
     × (part 0 1 3 (after_edit (edit.Remove 1) three).places
     ≡ cell.Int (pos 6) ∷ cell.Int (pos 7) ∷ [])
     × ((after_edit (edit.Remove 1) three).edits ≡ 4)
 
--- a row of 54 letters, whose text object has just 64 bytes
+-- a row of 54 letters, whose text object has exactly 64 bytes
 abbrev pub one_text : Table
 one_text = after_edit (letters (pos 1) 54) (in_groups_of 4)
 
--- b in place of the 54 letters, and then a row of c. In a third row 44 letters fit, and 45 do not
+-- the text b in place of the 54 letters, and then a row with the text c. In a third row 44 letters fit, and 45 do not
 abbrev pub two_texts : Table
 two_texts = after_edit (edit.Insert (row (pos 2) (codes "c")))
     (after_edit (edit.Set 0 1 (cell.Text b)) one_text)
@@ -54,13 +55,14 @@ two_texts = after_edit (edit.Insert (row (pos 2) (codes "c")))
 abbrev pub one_alone : Table
 one_alone = after_edit (letters (pos 1) 54) (in_groups_of 1)
 
--- a set may make an object too long, in a column of texts alone. A removed text keeps its bytes. Each row group has its own text object.
+-- a set may make an object too long, but only in a text column. A removed text keeps its bytes. Each row group has its own text object.
 -- A text may be too long for any object
 abbrev pub SpaceForTexts : Type 0
 SpaceForTexts =
     (edit_refusal two_texts (letters (pos 3) 45) ≡ Some refusal.ChunkFull)
     × (edit_refusal two_texts (letters (pos 3) 44) ≡ None)
-    × (edit_refusal one_text (edit.Set 0 1 (cell.Text (replicate 55 97))) ≡ Some refusal.ChunkFull)
+    × (edit_refusal one_text (edit.Set 0 1 (cell.Text (replicate 55 97)))
+    ≡ Some refusal.ChunkFull)
     × (edit_refusal one_text (edit.Set 0 0 cell.Missing) ≡ None)
     × (edit_refusal (after_edit (edit.Remove 0) one_text) (letters (pos 2) 0)
     ≡ Some refusal.ChunkFull)
@@ -72,7 +74,7 @@ SpaceForTexts =
     × (edit_refusal one_text (letters (pos 2) 4096) ≡ Some refusal.ChunkFull)
     × (edit_refusal one_text (letters (pos 2) 4097) ≡ Some refusal.TextTooLong)
 
--- a table for one row of 54 letters, and for as many edits
+-- a table of one place with a row of 54 letters, which allows so many edits
 abbrev pub with_edits : ℕ → Table
 with_edits edits = after_edit (letters (pos 1) 54) (empty_table (kind.Int ∷ kind.Text ∷ [])
     (record {
@@ -85,7 +87,7 @@ with_edits edits = after_edit (letters (pos 1) 54) (empty_table (kind.Int ∷ ki
       text_size = 64;
     }))
 
--- the row is removed, and no place and no edit are left: so every refusal applies to an edit
+-- the row is removed, and no further place or edit is allowed: each refusal applies to some edit
 abbrev pub used_up : Table
 used_up = after_edit (edit.Remove 0) (with_edits 2)
 
@@ -93,18 +95,21 @@ used_up = after_edit (edit.Remove 0) (with_edits 2)
 abbrev pub long : Cell
 long = cell.Text (replicate 4097 97)
 
--- of all refusals that apply to an edit, it gets the first in the order of the numbers
+-- of all refusals that apply to an edit, the table returns the first in their order
 abbrev pub OrderOfRefusals : Type 0
 OrderOfRefusals =
     (edit_refusal used_up (edit.Insert (long ∷ long ∷ long ∷ [])) ≡ Some refusal.WrongKind)
-    × (edit_refusal used_up (edit.Insert (cell.Missing ∷ long ∷ long ∷ [])) ≡ Some refusal.RowWidth)
-    × (edit_refusal used_up (edit.Insert (cell.Missing ∷ long ∷ [])) ≡ Some refusal.TextTooLong)
+    × (edit_refusal used_up (edit.Insert (cell.Missing ∷ long ∷ long ∷ []))
+    ≡ Some refusal.RowWidth)
+    × (edit_refusal used_up (edit.Insert (cell.Missing ∷ long ∷ []))
+    ≡ Some refusal.TextTooLong)
     × (edit_refusal used_up (letters (pos 2) 55) ≡ Some refusal.TableFull)
     × (edit_refusal used_up (edit.Set 0 2 long) ≡ Some refusal.NoColumn)
     × (edit_refusal used_up (edit.Set 0 0 long) ≡ Some refusal.WrongKind)
     × (edit_refusal used_up (edit.Set 0 1 long) ≡ Some refusal.TextTooLong)
     × (edit_refusal used_up (edit.Set 1 1 (cell.Text b)) ≡ Some refusal.NoRow)
-    × (edit_refusal used_up (edit.Set 0 1 (cell.Text (replicate 55 97))) ≡ Some refusal.RemovedRow)
+    × (edit_refusal used_up (edit.Set 0 1 (cell.Text (replicate 55 97)))
+    ≡ Some refusal.RemovedRow)
     × (edit_refusal used_up (edit.Remove 1) ≡ Some refusal.NoRow)
     × (edit_refusal used_up (edit.Remove 0) ≡ Some refusal.RemovedRow)
     × (edit_refusal (with_edits 1) (edit.Set 0 1 (cell.Text (replicate 55 97)))

@@ -18,17 +18,17 @@ use Rattle.far_types.specs.Table.{Place, Table, column, in_group}
 abbrev pub kinds_fit : List Kind → List Cell → Bool
 kinds_fit schema row = list_all (λ (at : Kind × Cell). is_of_kind at.0 at.1) (zip schema row)
 
--- whether a cell may not stand in a column. If there is no such column, another refusal says so
+-- whether a cell is of another kind than its column. If there is no such column, another refusal applies
 abbrev pub is_of_other_kind : Option Kind → Cell → Bool
 is_of_other_kind None cell = false
 is_of_other_kind (Some kind) cell = not (is_of_kind kind cell)
 
--- whether a place is there and dead
+-- whether a place exists and is dead
 abbrev pub is_dead : Option Place → Bool
 is_dead None = false
 is_dead (Some place) = not place.alive
 
--- how long the text object of a column and a row group is: its far form, with one text for each place, dead ones too
+-- how many bytes the text object of a column and a row group has: its far form has one text for each place, dead ones too
 abbrev pub text_object_length : Limits → ℕ → ℕ → List Place → ℕ
 text_object_length limits c g places = texts_length
     (map text_in (in_group limits.group g (column c places)))
@@ -41,11 +41,11 @@ is_over limits c g places = nat_lt limits.text_size (text_object_length limits c
 abbrev pub with_cell : ℕ → Cell → Place → Place
 with_cell c cell place = record place { cells = slice_set place.cells c cell }
 
--- a removed place keeps its cells
+-- a place after its removal: it keeps its cells
 abbrev pub after_remove : Place → Place
 after_remove place = record place { alive = false }
 
--- one place is changed, and the others stay
+-- the places with one of them changed
 abbrev pub change_at : (Place → Place) → ℕ → List Place → List Place
 change_at change p [] = []
 change_at change zero (place ∷ places) = change place ∷ places
@@ -57,11 +57,11 @@ places_after (edit.Insert row) places = places ++ record { cells = row; alive = 
 places_after (edit.Set p c cell) places = change_at (with_cell c cell) p places
 places_after (edit.Remove p) places = change_at after_remove p places
 
--- the table after an accepted edit; a Set to the old value counts too
+-- the table after an accepted edit; a Set to the old value counts as an edit too
 abbrev pub after_edit : Edit → Table → Table
 after_edit e table = record table { places = places_after e table.places; edits = table.edits + 1 }
 
--- whether a text object that the edit writes would be too long: an insert writes each column's, a set its own
+-- whether a text object that the edit writes would be too long: an insert writes one in each text column, a set one at most
 abbrev pub overfills : List Kind → Limits → Edit → List Place → Bool
 overfills schema limits (edit.Insert row) places =
     list_any
@@ -74,8 +74,8 @@ overfills schema limits (edit.Set p c cell) places =
     && is_over limits c (p / limits.group) (places_after (edit.Set p c cell) places)
 overfills schema limits (edit.Remove p) places = false
 
--- the refusals of the edit itself, whichever objects are local: 4 to 10. A table whose objects move checks after these, and before the
--- others, that its objects are local
+-- the refusals of the edit itself, 4 to 10, whichever objects are local. A table whose objects move checks next that its objects are
+-- local, before the other refusals
 abbrev pub edit_faults : List Kind → Limits → List Place → Edit → List (Bool × Refusal)
 edit_faults schema limits places (edit.Insert row) =
     (not (kinds_fit schema row), refusal.WrongKind)
@@ -95,7 +95,7 @@ edit_faults schema limits places (edit.Remove p) =
     ∷ (is_dead (slice_get places p), refusal.RemovedRow)
     ∷ []
 
--- why the plain table refuses an edit: the first refusal that applies. Nothing of it is ever away
+-- why the plain table refuses an edit: the first refusal that applies. All objects of the plain table are always local
 abbrev pub edit_refusal : Table → Edit → Option Refusal
 edit_refusal table e = first_of (edit_faults table.schema table.limits table.places e
     ++ (overfills table.schema table.limits e table.places, refusal.ChunkFull)

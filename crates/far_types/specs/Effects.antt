@@ -16,7 +16,7 @@ count_sum_with value (Some count_sum) = (count_sum.0 + 1, count_sum.1 +ℤ value
 abbrev pub count_sum_without : ℤ → ℕ × ℤ → ℕ × ℤ
 count_sum_without value count_sum = (count_sum.0 - 1, count_sum.1 -ℤ value)
 
--- the min-max with one value more
+-- the least and the greatest value with one value more
 abbrev pub min_max_with : ℤ → Option (ℤ × ℤ) → ℤ × ℤ
 min_max_with value None = (value, value)
 min_max_with value (Some min_max) = (int_min value min_max.0, int_max value min_max.1)
@@ -25,7 +25,7 @@ min_max_with value (Some min_max) = (int_min value min_max.0, int_max value min_
 abbrev pub with_pair : Totals → Pair → Totals
 with_pair totals pair = fin.insert totals pair.0 (count_sum_with pair.1 (fin.get totals pair.0))
 
--- totals with one value less under a key that has this count and this sum. A key whose last value goes is listed no more
+-- totals with one value less under a key that has this count and this sum. A key is removed with its last value
 abbrev pub without_value : Totals → Option Key → ℤ → Option (ℕ × ℤ) → Totals
 without_value totals key value None = totals
 without_value totals key value (Some count_sum) = cond (count_sum.0 == 1) (fin.remove totals key)
@@ -40,13 +40,13 @@ abbrev pub with_observed : Extrema → Pair → Extrema
 with_observed extrema pair = fin.insert extrema pair.0
     (min_max_with pair.1 (fin.get extrema pair.0))
 
--- two values merged, if both are there; else the one that is there
+-- two values merged, if both exist; else the one that exists
 abbrev pub merge_two : {V : Type 0} → (V → V → V) → Option V → Option V → Option V
 merge_two join None other = other
 merge_two join (Some value) None = Some value
 merge_two join (Some value) (Some other) = Some (join value other)
 
--- the keys of either, each with its values merged
+-- the keys of both, each with its values merged
 abbrev pub joined : {V : Type 0} → (V → V → V) → ByKey V → ByKey V → ByKey V
 joined join one other =
     fin.from_entries (filter_map
@@ -54,23 +54,23 @@ joined join one other =
     (merge_two join (fin.get one key) (fin.get other key)))
     (fin.keys one ++ fin.keys other))
 
--- counts and sums are added
+-- the sums of two counts and of two sums
 abbrev pub add_count_sums : ℕ × ℤ → ℕ × ℤ → ℕ × ℤ
 add_count_sums one other = (one.0 + other.0, one.1 +ℤ other.1)
 
--- the lesser of the least, and the greater of the greatest
+-- the lesser of the two least values, and the greater of the two greatest
 abbrev pub join_min_maxes : ℤ × ℤ → ℤ × ℤ → ℤ × ℤ
 join_min_maxes one other = (int_min one.0 other.0, int_max one.1 other.1)
 
--- the totals of two together
+-- two totals joined into one
 abbrev pub joined_totals : Totals → Totals → Totals
 joined_totals one other = joined add_count_sums one other
 
--- the extrema of two together
+-- two extrema joined into one
 abbrev pub joined_extrema : Extrema → Extrema → Extrema
 joined_extrema one other = joined join_min_maxes one other
 
--- how many values a key has
+-- how many values a key has: 0 if it has no line
 abbrev pub count_in : Option (ℕ × ℤ) → ℕ
 count_in None = 0
 count_in (Some count_sum) = count_sum.0

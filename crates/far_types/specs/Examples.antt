@@ -28,14 +28,14 @@ a = codes "a"
 abbrev pub b : List ℕ
 b = codes "b"
 
--- over no rows: totals have the line of zeros without a key and no line with one; extrema have no line
+-- over no rows, totals without a key column have the line of zeros, totals with one have no line, and extrema have none
 abbrev pub OverNoRows : Type 0
 OverNoRows =
     (answer_over (of_column fold.Totals None []) [] ≡ answer.Totals ((None, 0, pos 0) ∷ []))
     × (answer_over (of_column fold.Extrema None []) [] ≡ answer.Extrema [])
     × (answer_over (of_column fold.Totals (Some 1) []) [] ≡ answer.Totals [])
 
--- totals by key: 5 a, 7 b, 5 a; and without the second row, whose key is then not listed
+-- totals by key of 5 a, 7 b, 5 a; and without the second row, so without a line for b
 abbrev pub TotalsByKey : Type 0
 TotalsByKey =
     (answer_over (of_column fold.Totals (Some 1) [])
@@ -44,14 +44,14 @@ TotalsByKey =
     × (answer_over (of_column fold.Totals (Some 1) []) (row (pos 5) a ∷ row (pos 5) a ∷ [])
     ≡ answer.Totals ((Some (key.Text a), 2, pos 10) ∷ []))
 
--- the sum is exact, far below the least number of 64 bits
+-- the sum is exact, even below the least number of 64 bits
 abbrev pub ExactSum : Type 0
 ExactSum =
     answer_over (of_column fold.Totals None [])
     (row (negsuc 9223372036854775807) a ∷ row (negsuc 9223372036854775807) a ∷ [])
     ≡ answer.Totals ((None, 2, negsuc 18446744073709551615) ∷ [])
 
--- extrema: 3, 3, 9; without one of the 3, and without both
+-- extrema of 3, 3, 9; then with one 3, and then with none
 abbrev pub LeastAndGreatest : Type 0
 LeastAndGreatest =
     (answer_over (of_column fold.Extrema None [])
@@ -62,10 +62,11 @@ LeastAndGreatest =
     × (answer_over (of_column fold.Extrema None []) (row (pos 9) a ∷ [])
     ≡ answer.Extrema ((None, pos 9, pos 9) ∷ []))
 
--- extrema by key of the rows whose number is above 4 and whose text begins with a: 5 ab, 4 ab, 9 b, 8 ab
+-- extrema by key of 5 ab, 4 ab, 9 b, 8 ab, over the rows whose number is above 4 and whose text begins with a
 abbrev pub Filtered : Type 0
 Filtered =
-    answer_over (of_column fold.Extrema (Some 1) (test.Int 0 op.Gt (pos 4) ∷ test.TextBegins 1 a ∷ []))
+    answer_over
+    (of_column fold.Extrema (Some 1) (test.Int 0 op.Gt (pos 4) ∷ test.TextBegins 1 a ∷ []))
     (row (pos 5) (codes "ab")
     ∷ row (pos 4) (codes "ab")
     ∷ row (pos 9) b
@@ -73,14 +74,14 @@ Filtered =
     ∷ [])
     ≡ answer.Extrema ((Some (key.Text (codes "ab")), pos 5, pos 8) ∷ [])
 
--- rows without a value or without a key are not folded: 5 a, nothing a, 7 nothing
+-- the rows 5 a, nothing a, 7 nothing
 abbrev pub some_missing : List (List Cell)
 some_missing = row (pos 5) a
     ∷ (cell.Missing ∷ cell.Text a ∷ [])
     ∷ (cell.Int (pos 7) ∷ cell.Missing ∷ [])
     ∷ []
 
--- what totals of these rows are
+-- rows without a value are not folded, nor, with a key column, rows without a key
 abbrev pub WithMissing : Type 0
 WithMissing =
     (answer_over (of_column fold.Totals (Some 1) []) some_missing

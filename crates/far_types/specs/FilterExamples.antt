@@ -13,29 +13,32 @@ use Rattle.far_types.specs.Filters.{compares, passes}
 use Rattle.far_types.specs.Bounds.{spec_refusal}
 use Rattle.far_types.specs.Examples.{of_column, row, a}
 
--- 4 against 4 by each comparison, and a number below zero
+-- 4 compared with 4, and -5 with 4, by each operator
 abbrev pub Comparisons : Type 0
 Comparisons =
-    (map (λ o. compares o (pos 4) (pos 4)) (op.Eq ∷ op.Ne ∷ op.Lt ∷ op.Le ∷ op.Gt ∷ op.Ge ∷ [])
+    (map (λ o. compares o (pos 4) (pos 4))
+    (op.Eq ∷ op.Ne ∷ op.Lt ∷ op.Le ∷ op.Gt ∷ op.Ge ∷ [])
     ≡ true ∷ false ∷ false ∷ true ∷ false ∷ true ∷ [])
-    × (map (λ o. compares o (negsuc 4) (pos 4)) (op.Eq ∷ op.Ne ∷ op.Lt ∷ op.Le ∷ op.Gt ∷ op.Ge ∷ [])
+    × (map (λ o. compares o (negsuc 4) (pos 4))
+    (op.Eq ∷ op.Ne ∷ op.Lt ∷ op.Le ∷ op.Gt ∷ op.Ge ∷ [])
     ≡ false ∷ true ∷ true ∷ true ∷ false ∷ false ∷ [])
 
--- whether a test holds of the row 5 ab
+-- whether the row 5 ab passes a test
 abbrev pub holds_of_ab : Test → Bool
 holds_of_ab t = passes t (cells_of (row (pos 5) (codes "ab")))
 
--- ab is ab and not a. It begins with the empty text and with a, and not with abc. Tests of the other kind and of no column fail
+-- ab equals ab, not a. It begins with the empty text and with a, not with abc. A test of the wrong kind or of a missing column fails
 abbrev pub TestsOfTexts : Type 0
 TestsOfTexts =
-    (map (λ text. holds_of_ab (test.TextIs 1 text)) (codes "ab" ∷ a ∷ []) ≡ true ∷ false ∷ [])
+    (map (λ text. holds_of_ab (test.TextIs 1 text)) (codes "ab" ∷ a ∷ [])
+    ≡ true ∷ false ∷ [])
     × (map (λ text. holds_of_ab (test.TextBegins 1 text)) ([] ∷ a ∷ codes "abc" ∷ [])
     ≡ true ∷ true ∷ false ∷ [])
     × (map holds_of_ab
     (test.TextBegins 0 [] ∷ test.Int 1 op.Ne (pos 9) ∷ test.Int 2 op.Ne (pos 9) ∷ [])
     ≡ false ∷ false ∷ false ∷ [])
 
--- why a table of a column of numbers and one of texts refuses an aggregate
+-- why a table with a column of numbers and a text column refuses an aggregate
 abbrev pub refusal_of : Spec → Option Refusal
 refusal_of spec = spec_refusal (kind.Int ∷ kind.Text ∷ []) spec
 

@@ -11,7 +11,7 @@ use Rattle.far_types.specs.declared.filter.Test.{Test}
 use Rattle.far_types.specs.declared.filter.Test.TheVariants as test
 use Rattle.far_types.specs.Cells.{Cells}
 
--- a number against a constant
+-- whether a number and a constant satisfy a comparison
 abbrev pub compares : Op → ℤ → ℤ → Bool
 compares op.Eq number constant = int_eq number constant
 compares op.Ne number constant = not (int_eq number constant)
@@ -20,21 +20,21 @@ compares op.Le number constant = int_le number constant
 compares op.Gt number constant = int_lt constant number
 compares op.Ge number constant = int_le constant number
 
--- a test of numbers holds of no text and of no missing cell, also one with `!=`
+-- whether a cell passes a test of numbers: a text and a missing cell fail, even with `!=`
 abbrev pub number_passes : (ℤ → Bool) → Option Cell → Bool
 number_passes holds (Some (cell.Int number)) = holds number
 number_passes holds (Some (cell.Text text)) = false
 number_passes holds (Some cell.Missing) = false
 number_passes holds None = false
 
--- likewise a test of texts
+-- whether a cell passes a test of texts: a number and a missing cell fail
 abbrev pub text_passes : (List ℕ → Bool) → Option Cell → Bool
 text_passes holds (Some (cell.Int number)) = false
 text_passes holds (Some (cell.Text text)) = holds text
 text_passes holds (Some cell.Missing) = false
 text_passes holds None = false
 
--- a test of one column: texts are compared by bytes
+-- whether a row passes a test of one column: texts are compared by bytes
 abbrev pub passes : Test → Cells → Bool
 passes (test.Int column op value) cells = number_passes (λ number. compares op number value)
     (cells column)
@@ -43,6 +43,6 @@ passes (test.TextIs column constant) cells = text_passes (λ text. pointwise ◌
 passes (test.TextBegins column constant) cells = text_passes
     (λ text. starts_with ◌==◌ text constant) (cells column)
 
--- a filter keeps a row that passes all its tests
+-- whether a filter keeps a row: the row must pass all tests
 abbrev pub keeps : List Test → Cells → Bool
 keeps tests cells = list_all (λ test. passes test cells) tests

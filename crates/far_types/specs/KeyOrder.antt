@@ -1,4 +1,4 @@
--- That the order of keys is total, and that equal keys are the same key.
+-- The order of keys is total, and keys that compare as equal are the same key.
 use Rattle.std.proofs.Common.{◌≡◌, refl, ap, None, Some}
 use Rattle.std.specs.Ordering.{ordering_reverse}
 use Rattle.std.specs.declared.cmp.Ordering.TheVariants.{Less, Equal}
@@ -32,18 +32,22 @@ key_congr (Text s) (Int b) z h = cc
 key_congr (Text s) (Text t) (Int c) h = refl
 key_congr (Text s) (Text t) (Text u) h = nat_list_cmp_total.congr s t u h
 
+-- the order of keys is total
 pub key_total : IsTotalOrder key_cmp
 key_total = record { antisymm = key_antisymm; trans = key_trans; congr = key_congr }
 
+-- keys that compare as equal are the same key
 pub exact_key : CmpEqualImpliesEq key_cmp
 exact_key (Int a) (Int b) h = ap Int (exact_signed a b h)
 exact_key (Int a) (Text t) h = cc
 exact_key (Text s) (Int b) h = cc
 exact_key (Text s) (Text t) h = ap Text (exact_bytes s t h)
 
+-- the order of lines is total
 pub line_total : IsTotalOrder line_cmp
 line_total = options_total key_total
 
+-- keys of lines that compare as equal are the same key
 pub exact_line : CmpEqualImpliesEq line_cmp
 exact_line None None h = refl
 exact_line None (Some y) h = cc

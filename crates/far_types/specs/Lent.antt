@@ -10,7 +10,7 @@ use Rattle.far_types.specs.declared.pair_ref.PairRef.{PairRef}
 use Rattle.far_types.specs.declared.pair_ref.PairRef.TheVariants as pairs
 use Rattle.far_types.specs.Pairs.{Pair}
 
--- the cell that is borrowed in place
+-- the cell of the plain table that is borrowed in place
 abbrev pub lent_cell : CellRef → Cell
 lent_cell (lent.Int number) = cell.Int number
 lent_cell (lent.Text text) = cell.Text text.now
@@ -26,12 +26,12 @@ abbrev pub text_cell : Option (List ℕ) → Cell
 text_cell (Some text) = cell.Text text
 text_cell None = cell.Missing
 
--- the key of a number
+-- the key of a number, or nothing if there is no number
 abbrev pub key_by : Option ℤ → Option Key
 key_by None = None
 key_by (Some number) = Some (key.Int number)
 
--- the pair that is borrowed in place
+-- the pair of the plain table that is borrowed in place
 abbrev pub lent_pair : PairRef → Option Pair
 lent_pair pairs.Nothing = None
 lent_pair (pairs.Under number value) = Some (key_by number, value)

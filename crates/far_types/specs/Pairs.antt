@@ -1,4 +1,4 @@
--- What rows give to an aggregate: the folded rows, each as a pair of a key and a value.
+-- The pairs that rows contribute to an aggregate: a key and a value for each folded row.
 use Rattle.std.specs.Prelude.{ℕ, ℤ, List, filter, Option, None, Some, option_map, cond, FitsSigned}
 use Rattle.std.specs.Int.{w64}
 use Rattle.std.specs.List.{filter_map, AllByRecursion}
@@ -9,7 +9,7 @@ use Rattle.far_types.specs.declared.spec.Spec.{Spec}
 use Rattle.far_types.specs.Cells.{Cells, cells_of, number_in, key_in}
 use Rattle.far_types.specs.Filters.{keeps}
 
--- the key of a folded row, none in an aggregate without key column, and its value
+-- the key of a folded row, none in an aggregate without a key column, and its value
 abbrev pub Pair : Type 0
 Pair = Option Key × ℤ
 
@@ -25,13 +25,13 @@ abbrev pub key_under : Option ℕ → Cells → Option (Option Key)
 key_under None cells = Some None
 key_under (Some column) cells = option_map Some (key_in (cells column))
 
--- a pair, if there are both a key and a value
+-- a pair, if there is both a key and a value
 abbrev pub paired : Option (Option Key) → Option ℤ → Option Pair
 paired (Some key) (Some value) = Some (key, value)
 paired (Some key) None = None
 paired None value = None
 
--- a kept row is folded if its value is there and, with a key column, its key too
+-- the pair of a kept row: the row is folded if it has a value and, with a key column, a key
 abbrev pub pair_in : Spec → Cells → Option Pair
 pair_in spec cells = paired (key_under spec.key cells) (number_in (cells spec.value))
 

@@ -25,11 +25,11 @@ small = empty_table (kind.Int ∷ []) (record {
 abbrev pub number : ℤ → Edit
 number n = edit.Insert (cell.Int n ∷ [])
 
--- the places are used, and one edit is left
+-- all places are used, and one more edit is allowed
 abbrev pub full : Table
 full = after_edit (number (pos 2)) (after_edit (number (pos 1)) small)
 
--- a full table refuses a row, takes a cell equal to the old one, and then no edit more
+-- a full table refuses a row, accepts a cell equal to the old one, and then refuses further edits
 abbrev pub UsedUp : Type 0
 UsedUp =
     (edit_refusal full (number (pos 3)) ≡ Some refusal.TableFull)
@@ -50,7 +50,7 @@ FirstRefusal =
     × (edit_refusal small (edit.Set 0 0 (cell.Int (pos 1))) ≡ Some refusal.NoRow)
     × (edit_refusal (after_edit (edit.Remove 0) full) (edit.Remove 0) ≡ Some refusal.RemovedRow)
 
--- a table of texts whose objects may have 64 bytes: a head of 6, 4 for each text's end, and the texts
+-- a table of one text column, whose objects may have 64 bytes: a head of 6, 4 for the end of each text, and the texts
 abbrev pub texts : Table
 texts = empty_table (kind.Text ∷ []) (record {
   group = 4;
@@ -62,11 +62,11 @@ texts = empty_table (kind.Text ∷ []) (record {
   text_size = 64;
 })
 
--- an insert of as many letters
+-- an insert of a text of so many letters
 abbrev pub text_of : ℕ → Edit
 text_of n = edit.Insert (cell.Text (replicate n 97) ∷ [])
 
--- one text of 54 bytes fits, and one of 55 does not. Behind one of 54 bytes no empty text fits. A missing text needs a byte of mask more
+-- a text of 54 bytes fits, and one of 55 does not. After 54 bytes not even an empty text fits. A missing text needs one byte more, the mask
 abbrev pub OverLength : Type 0
 OverLength =
     (edit_refusal texts (text_of 54) ≡ None)

@@ -29,7 +29,7 @@ number_of FarFault = 21
 number_of FarFull = 22
 number_of EditsUsedUp = 24
 
--- its name, without what it carries
+-- the name of a refusal, without the numbers that it carries
 abbrev pub name_of : Refusal → List ℕ
 name_of NoMemory = codes "NoMemory"
 name_of BadSchema = codes "BadSchema"

@@ -1,4 +1,4 @@
--- The plain table: a list of rows, and every answer computed anew from all of them. The code never forms it.
+-- The plain table: a list of rows, and every answer computed anew from all of them. The code never builds it.
 use Rattle.std.specs.Prelude.{ℕ, ◌+◌, ◌-◌, ◌*◌, ◌/◌, Bool, true, false, cond, List, [], map, filter, length, replicate, take, drop, slice_range, slice_index_or, count_by, Option, None}
 use Rattle.far_types.specs.declared.cell.Cell.{Cell}
 use Rattle.far_types.specs.declared.cell.Kind.{Kind}
@@ -9,19 +9,19 @@ use Rattle.far_types.specs.Cells.{cell_at, cells_of}
 use Rattle.far_types.specs.Pairs.{Pair, pair_of}
 use Rattle.far_types.specs.Answers.{answer_over}
 
--- a row of cells, and whether it is alive: a removal clears the flag and leaves the cells
+-- a row of cells, and whether it is alive: a removal clears the flag and keeps the cells
 pub record Place : Type 0 where
   pub cells : List Cell
   pub alive : Bool
 
--- an aggregate: its specification, how many registrations were made before it, and whether each row group is still pending in it. The flags
--- are those of the row groups that held a place when it was registered
+-- an aggregate: its specification, how many registrations were made before it, and whether each row group is still pending in it. There
+-- is a flag for each row group that held a place when the aggregate was registered
 pub record Registered : Type 0 where
   pub spec : Spec
   pub registration : ℕ
   pub pending : List Bool
 
--- the places, how many edits and registrations were accepted, and the aggregates by number, of which there are 32
+-- the plain table: its places, how many edits and registrations were accepted, and its aggregates by number, at most 32
 pub record Table : Type 0 where
   pub schema : List Kind
   pub limits : Limits
@@ -30,7 +30,7 @@ pub record Table : Type 0 where
   pub registrations : ℕ
   pub aggregates : List (Option Registered)
 
--- a table as it is opened
+-- a new table
 abbrev pub empty_table : List Kind → Limits → Table
 empty_table schema limits = record {
   schema = schema;
@@ -45,7 +45,7 @@ empty_table schema limits = record {
 abbrev pub rows_of : List Place → List (List Cell)
 rows_of places = map (λ place. place.cells) (filter (λ place. place.alive) places)
 
--- the pair that a place gives to an aggregate, if its row is alive, kept and folded
+-- the pair that a place contributes to an aggregate, if its row is alive, kept and folded
 abbrev pub place_pair : Spec → Place → Option Pair
 place_pair spec place = cond place.alive (pair_of spec (cells_of place.cells)) None
 
@@ -53,7 +53,7 @@ place_pair spec place = cond place.alive (pair_of spec (cells_of place.cells)) N
 abbrev pub column : ℕ → List Place → List Cell
 column c places = map (λ place. cell_at c place.cells) places
 
--- the cells of a column from one place up to another
+-- the cells of a column from one place up to another, which is not included
 abbrev pub part : ℕ → ℕ → ℕ → List Place → List Cell
 part c from to places = slice_range (column c places) from to
 
@@ -66,7 +66,7 @@ abbrev pub groups : ℕ → ℕ → ℕ
 groups size places = (places + size - 1) / size
 
 -- all row groups that hold a place are pending in an aggregate that is registered now. A row group that gets its first place later is never
--- pending, and one that gets a place more stays as it is
+-- pending, and one that gets another place keeps its flag
 abbrev pub all_pending : ℕ → List Place → List Bool
 all_pending size places = replicate (groups size (length places)) true
 

@@ -7,11 +7,18 @@ use super::refusal::Refusal;
 use std::marker::Model;
 use std::slice;
 
-/// The lines of totals: keys in ascending order, each with a count and a sum. Contracts see their list.
+/// The lines of totals, each with a key, a count and a sum, in ascending order of keys. Contracts see the list of lines.
 ///
-/// Two lines:
+/// The number of lines whose sum, or whose least value, is above 0:
 ///
 /// ```
+/// fn lines_above_zero(answer: &Answer) -> usize {
+///     match answer {
+///         Answer::Totals(lines) => lines.iter().filter(|line| line.2 > 0).count(),
+///         Answer::Extrema(lines) => lines.iter().filter(|line| line.1 > 0).count(),
+///     }
+/// }
+///
 /// fn are_totals_right(alloc: Global) -> Result<bool, Refusal> {
 ///     let one = (Some(Key::from(1i64)), 1, 5);
 ///     let other = (Some(Key::from(2i64)), 1, -5);
@@ -64,7 +71,7 @@ impl TotalLines {
         self.lines
     }
 
-    /// Returns the same lines. If there are none and the aggregate has no key column, it adds the line of count 0 and sum 0.
+    /// Adds the line of count 0 and sum 0 if there are no lines and the aggregate has no key column. Otherwise returns the lines unchanged.
     ///
     /// Refused with `NoMemory` (1) alone, and only if that line is added.
     pub fn or_zero(self, key: Option<u32>) -> Result<TotalLines, Refusal>
@@ -95,7 +102,7 @@ impl<'a> IntoIterator for &'a TotalLines {
     }
 }
 
-/// The lines of extrema: keys in ascending order, each with a least and a greatest value. Contracts see their list.
+/// The lines of extrema, each with a key, a least and a greatest value, in ascending order of keys. Contracts see the list of lines.
 #[derive(Drop, Debug)]
 pub struct ExtremaLines {
     lines: Vec<(Option<Key>, i64, i64)>,

@@ -8,7 +8,7 @@ use std::alloc::Global;
 /// The kind of a column: what its cells hold, if they have a value.
 #[derive(Clone, Copy, Debug, PartialEq, Eq)]
 pub enum Kind {
-    /// Whole numbers of 64 bits, signed.
+    /// Signed whole numbers of 64 bits.
     Int,
     /// Texts of at most 4,096 bytes.
     Text,
@@ -64,7 +64,7 @@ impl From<i64> for Cell {
     }
 }
 
-/// The number, or a cell without a value.
+/// Makes a cell of the number, or a cell without a value if there is no number.
 impl From<Option<i64>> for Cell {
     ghost use Rattle.std.specs.Prelude.{◌≡◌};
     ghost use Rattle.far_types.specs.Lent.{int_cell};

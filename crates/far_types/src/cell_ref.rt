@@ -12,7 +12,7 @@ use super::refusal::Refusal;
 use super::text::Text;
 use std::alloc::Global;
 
-/// A cell that is borrowed in place. `lent_cell` in `specs/Lent.antt` is the cell that it stands for.
+/// A cell that is borrowed in place. `lent_cell` in `specs/Lent.antt` says which cell of the plain table it is.
 #[derive(Clone, Copy, Debug)]
 pub enum CellRef<'a> {
     /// A number.
@@ -72,7 +72,7 @@ impl<'a> CellRef<'a> {
         }
     }
 
-    /// Returns whether the cell, as a key, is this one. Allocates nothing.
+    /// Returns whether the cell's value equals this key. Allocates nothing.
     #[inline(always)]
     pub fn is_key(self, key: &Key) -> bool
         ensures { IsTrue result ↔ (key_in (Some (lent_cell self.entry)) ≡ Some key.now) }
@@ -84,10 +84,10 @@ impl<'a> CellRef<'a> {
         }
     }
 
-    /// Returns the key that the cell gives, or `None` if it has no value.
+    /// Returns the cell's value as a key, or `None` if it has no value.
     ///
-    /// It copies a text into the memory of `earlier`, if that is a text key, and else into new memory. Refused with `NoMemory` (1) alone,
-    /// and only if the cell is a text.
+    /// Copies a text into the memory of `earlier` if `earlier` is a text key, and otherwise into new memory. Refused with `NoMemory` (1)
+    /// alone, and only if the cell is a text.
     ///
     /// The branch for a number is inlined into the caller's loop, so only a text costs a call.
     #[inline(always)]

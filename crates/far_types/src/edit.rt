@@ -12,7 +12,7 @@ pub enum Edit {
     Insert(Row),
     /// Replaces one cell of a place. It counts as an edit even if the cell is equal to the old one.
     Set { place: u32, column: u32, cell: Cell },
-    /// Marks a place dead. Its cells stay, and the place is never used again.
+    /// Marks a place as dead. The place keeps its cells and is never used again.
     Remove(u32),
 }
 

@@ -25,7 +25,7 @@ pub enum Op {
 impl Op {
     ghost use Rattle.far_types.specs.Filters.{compares};
 
-    /// Returns whether the comparison holds of a number and the constant.
+    /// Returns whether a number and the constant satisfy the comparison.
     pub fn holds(self, number: i64, constant: i64) -> bool
         ensures { result ≡ compares self number constant }
     {
@@ -40,7 +40,7 @@ impl Op {
     }
 }
 
-/// A test of one column. A row fails a test, one with `Ne` too, if:
+/// A test of one column. A row fails a test, even one with `Ne`, if:
 /// - the row has no such column;
 /// - the cell is of the other kind;
 /// - the cell has no value.
@@ -48,9 +48,9 @@ impl Op {
 pub enum Test {
     /// The number compares with the constant as `op` says.
     Int { column: u32, op: Op, value: i64 },
-    /// The text is the constant, byte by byte.
+    /// The text equals the constant, byte by byte.
     TextIs { column: u32, text: Text },
-    /// The text begins with the constant's bytes. Each text begins with the empty one.
+    /// The text begins with the constant's bytes. Every text begins with the empty text.
     TextBegins { column: u32, text: Text },
 }
 
@@ -58,7 +58,7 @@ impl Test {
     ghost use Rattle.far_types.specs.Filters.{passes};
     ghost use Rattle.far_types.specs.Bounds.{column_of, has_long_constant};
 
-    /// Makes the test that a column's text is this one. Refused with `NoMemory` (1) alone.
+    /// Makes the test that the text in a column equals this one. Refused with `NoMemory` (1) alone.
     pub fn text_is(alloc: Global, column: u32, text: &str) -> Result<Test, Refusal>
         ensures test { IfOk result (λ test. test ≡ Test.TextIs column text.now) }
         ensures memory { IfErr result (λ e. e ≡ Refusal.NoMemory) }
@@ -67,7 +67,7 @@ impl Test {
         Ok(Test::TextIs { column, text })
     }
 
-    /// Makes the test that a column's text begins with this one. Refused with `NoMemory` (1) alone.
+    /// Makes the test that the text in a column begins with this one. Refused with `NoMemory` (1) alone.
     pub fn text_begins(alloc: Global, column: u32, text: &str) -> Result<Test, Refusal>
         ensures test { IfOk result (λ test. test ≡ Test.TextBegins column text.now) }
         ensures memory { IfErr result (λ e. e ≡ Refusal.NoMemory) }
@@ -119,7 +119,7 @@ impl Test {
         }
     }
 
-    /// Returns whether it is the same test. Allocates nothing.
+    /// Returns whether both tests are equal. Allocates nothing.
     pub fn is_same(&self, other: &Test) -> bool
         ensures { IsTrue result ↔ (self.now ≡ other.now) }
     {
@@ -173,9 +173,9 @@ impl Test {
     }
 }
 
-/// Tests that must all hold. Contracts see their list.
+/// The tests that a row must pass to be kept. Contracts see the list of tests.
 ///
-/// More than two, and each of them rye:
+/// A filter for rows whose text is "rye" and whose number is above 2:
 ///
 /// ```
 /// fn many_ryes(alloc: Global) -> Result<Filter, Refusal> {
@@ -241,19 +241,19 @@ impl Filter {
         self.keeps_cells(row)
     }
 
-    /// Returns whether a row whose cells are lent by column passes every test. Allocates nothing.
+    /// Returns whether a row that lends its cells by column passes every test. Allocates nothing.
     #[inline(always)]
     pub fn keeps_cells<R: LendCells>(&self, row: &R) -> bool
         ensures { result ≡ keeps self.now (R.cells row.now) }
     {
-        // The check for an empty list is worth a line of its own: a fold over numbers alone makes it at each place.
+        // The empty filter has a check of its own, since a fold over numbers alone makes this check at each place.
         if self.tests.is_empty() {
             return true;
         }
         self.tests.iter().all(|test| test.holds(row))
     }
 
-    /// Returns whether it has the same tests in the same order. Allocates nothing.
+    /// Returns whether both filters have the same tests in the same order. Allocates nothing.
     pub fn is_same(&self, other: &Filter) -> bool
         ensures { IsTrue result ↔ (self.now ≡ other.now) }
     {

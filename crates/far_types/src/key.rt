@@ -8,7 +8,7 @@ use std::cmp::Ordering;
 
 /// A key of an aggregate: the value of a row's cell in the key column.
 ///
-/// Numbers are ordered by value, texts by bytes. Numbers come before texts. No answer shows that, since one column has one kind.
+/// Numbers are ordered by value, texts by bytes. Numbers sort before texts, but no answer has both, since a column has one kind.
 ///
 /// ```
 /// fn are_in_order(alloc: Global) -> Result<bool, Refusal> {

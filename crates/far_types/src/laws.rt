@@ -1,4 +1,4 @@
-// Laws of the answers, over the definitions alone.
+// Laws of the answers, which follow from the definitions in `specs` alone.
 ghost use Rattle.std.specs.Prelude.{◌≡◌, ◌≤◌, ◌^◌, ℕ, ℤ, pos, neg_ℤ, ◌≤ℤ◌, List, ◌∷◌, ◌++◌, length, map, All, Option};
 ghost use Rattle.std.specs.List.{list_any, filter_map};
 ghost use Rattle.std.specs.List.Sorted.{IsStrictlySortedBy};
@@ -15,13 +15,13 @@ ghost use Rattle.far_types.specs.RefusalExamples.{UsedUp, FirstRefusal, OverLeng
 ghost use Rattle.far_types.specs.FilterExamples.{Comparisons, TestsOfTexts, AllowedAggregates};
 ghost use Rattle.far_types.specs.EditExamples.{WhatEditsDo, SpaceForTexts, OrderOfRefusals, RowGroups};
 
-/// The rows of a table give an aggregate the same pairs, in the same order, as the table's places.
+/// Shows that an aggregate gets the same pairs, in the same order, from the rows of a table as from its places.
 pub fn pairs_follow_the_places()
     ensures { (spec : Spec) → (places : List Place)
         → pairs_of spec (rows_of places) ≡ filter_map (place_pair spec) places }
 {}
 
-/// How totals follow the folded rows:
+/// Shows how totals change with the folded rows:
 /// - with one pair more;
 /// - with one pair less;
 /// - in another order, which changes nothing;
@@ -37,12 +37,12 @@ pub fn totals_follow_the_pairs()
         → totals (some ++ others) ≡ joined_totals (totals some) (totals others) }
 {}
 
-/// How extrema follow the folded rows:
+/// Shows how extrema change with the folded rows:
 /// - with one pair more;
 /// - in another order, which changes nothing;
 /// - when two lists are joined.
 ///
-/// One pair less has no such law, since only the extremes are kept: the row group is read again.
+/// There is no law for one pair less: extrema keep only the extremes, so the row group is read again.
 pub fn extrema_follow_the_pairs()
     ensures more { (pair : Pair) → (pairs : List Pair)
         → extrema (pair ∷ pairs) ≡ with_observed (extrema pairs) pair }
@@ -52,9 +52,9 @@ pub fn extrema_follow_the_pairs()
         → extrema (some ++ others) ≡ joined_extrema (extrema some) (extrema others) }
 {}
 
-/// What the lines of totals are:
-/// - Their keys ascend, and none stands twice.
-/// - A key is there exactly if a folded row has it. Its line has the count of these rows, at least one, and the sum of their values.
+/// Shows which lines totals have:
+/// - Their keys ascend, and no key occurs twice.
+/// - A key has a line exactly if a folded row has that key. The line has the count of these rows, at least 1, and the sum of their values.
 /// - The sum of at most 2^26 values is at most 2^89 in absolute value.
 pub fn total_lines_are_by_key()
     ensures ascending { (pairs : List Pair)
@@ -65,29 +65,34 @@ pub fn total_lines_are_by_key()
     ensures counts { (pairs : List Pair)
         → All (λ line. line.1 ≡ length (values_of line.0 pairs)) (total_lines (totals pairs)) }
     ensures sums { (pairs : List Pair)
-        → All (λ line. line.2 ≡ int_sum (values_of line.0 pairs)) (total_lines (totals pairs)) }
-    ensures counted { (pairs : List Pair) → All (λ line. 1 ≤ line.1) (total_lines (totals pairs)) }
+        → All (λ line. line.2 ≡ int_sum (values_of line.0 pairs))
+        (total_lines (totals pairs)) }
+    ensures counted { (pairs : List Pair)
+        → All (λ line. 1 ≤ line.1) (total_lines (totals pairs)) }
     ensures bounded { (pairs : List Pair) → PairsFit pairs → length pairs ≤ 2 ^ 26
         → All (λ line. (neg_ℤ (pos (2 ^ 89)) ≤ℤ line.2) × (line.2 ≤ℤ pos (2 ^ 89)))
         (total_lines (totals pairs)) }
 {}
 
-/// What the lines of extrema are:
-/// - Their keys ascend, and none stands twice.
-/// - A key is there exactly if a folded row has it. Its line has the least and the greatest value of these rows.
+/// Shows which lines extrema have:
+/// - Their keys ascend, and no key occurs twice.
+/// - A key has a line exactly if a folded row has that key. The line has the least and the greatest value of these rows.
 pub fn extrema_lines_are_by_key()
     ensures ascending { (pairs : List Pair)
         → IsStrictlySortedBy line_cmp (map (λ line. line.0) (extrema_lines (extrema pairs))) }
     ensures occurring { (pairs : List Pair) → (key : Option Key)
-        → list_any (eq_by_cmp line_cmp key) (map (λ line. line.0) (extrema_lines (extrema pairs)))
+        → list_any (eq_by_cmp line_cmp key)
+        (map (λ line. line.0) (extrema_lines (extrema pairs)))
         ≡ list_any (is_under key) pairs }
     ensures minima { (pairs : List Pair)
-        → All (λ line. line.1 ≡ least (values_of line.0 pairs)) (extrema_lines (extrema pairs)) }
+        → All (λ line. line.1 ≡ least (values_of line.0 pairs))
+        (extrema_lines (extrema pairs)) }
     ensures maxima { (pairs : List Pair)
-        → All (λ line. line.2 ≡ greatest (values_of line.0 pairs)) (extrema_lines (extrema pairs)) }
+        → All (λ line. line.2 ≡ greatest (values_of line.0 pairs))
+        (extrema_lines (extrema pairs)) }
 {}
 
-/// Small tables, and what the definitions say of them. A wrong definition fails here.
+/// Computes the definitions for small tables. A wrong definition fails here.
 pub fn worked_examples()
     ensures over_no_rows { OverNoRows }
     ensures totals_by_key { TotalsByKey }

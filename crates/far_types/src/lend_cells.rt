@@ -6,10 +6,10 @@ ghost use Rattle.far_types.specs.Lent.{lent_cell};
 use super::cell_ref::CellRef;
 use super::row::Row;
 
-/// Something that lends the cells of a row by column number: a row, or a value that has just the columns that a reader needs.
+/// A lender of a row's cells by column number: a row, or a value that has only the columns that a reader needs.
 /// Filters and aggregates read rows through it.
 pub trait LendCells {
-    /// The cells by column number: nothing if there is no such column.
+    /// The cells by column number: `None` if there is no such column.
     ghost cells: { Self → Cells };
 
     /// Borrows the cell of a column in place. Returns `None` if there is no such column. Allocates nothing.

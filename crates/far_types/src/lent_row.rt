@@ -1,4 +1,4 @@
-// A row that is read once: its cells, borrowed in place.
+// A row whose columns are found once: its cells, borrowed in place.
 ghost use Rattle.std.specs.Prelude.{◌≡◌, ◌<◌, ◌≤◌, [], ◌∷◌, ◌++◌, length, slice_get, slice_set, option_map};
 ghost use Rattle.far_types.specs.Cells.{cells_of};
 ghost use Rattle.far_types.specs.Lent.{lent_cell};
@@ -8,9 +8,9 @@ use super::lend_cells::LendCells;
 use super::row::Row;
 use std::marker::Model;
 
-/// The cells of a row, each borrowed in place. So the columns of the row are found once for all its readers.
+/// The cells of a row, each borrowed in place, so that the row's columns are found once for all its readers.
 ///
-/// It has at most 16 cells, as a table has at most 16 columns. Nothing here allocates. Contracts see the list of the cells.
+/// It has at most 16 cells, since a table has at most 16 columns. Nothing here allocates. Contracts see the list of the cells.
 #[derive(Drop)]
 pub struct LentRow<'a> {
     cells: [CellRef<'a>; 16],
@@ -30,7 +30,7 @@ impl<'a> Model for LentRow<'a> {
 }
 
 impl<'a> LentRow<'a> {
-    /// Returns a row without a cell.
+    /// Returns a row without cells.
     #[inline(always)]
     pub fn new() -> LentRow<'a>
         ensures { result ≡ [] }
@@ -84,7 +84,7 @@ impl<'a> LentRow<'a> {
         self.width += 1;
     }
 
-    /// Returns the row with another cell in a column. If there is no such column, the row stays as it is.
+    /// Returns the row with the cell of a column replaced, or unchanged if there is no such column.
     #[inline(always)]
     pub fn with(self, column: usize, cell: CellRef<'a>) -> LentRow<'a>
         ensures { result ≡ slice_set self.entry column (lent_cell cell.entry) }

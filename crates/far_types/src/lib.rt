@@ -1,7 +1,7 @@
 #![tactic(auto)]
 //! The types that every crate of the table shares: cells, rows, schemas, edits, aggregates, answers and refusals.
 //!
-//! `specs` has the plain table, which the contracts of all crates above speak of.
+//! `specs` defines the plain table, to which the contracts of all dependent crates refer.
 
 pub mod answer;
 pub mod cell;

@@ -3,7 +3,7 @@ ghost use Rattle.std.specs.Prelude.{◌≡◌, OnOk, IfErr};
 
 use super::refusal::Refusal;
 
-/// The limits of a table, which it is opened with.
+/// The limits that a table is opened with.
 ///
 /// The usual limits, for at most 1,000 rows:
 ///
@@ -26,11 +26,11 @@ pub struct Limits {
     pub edits: u64,
     /// How many segments the local region of numbers has: 1 to 1,024.
     pub int_segments: u32,
-    /// How many numbers one of them holds: from `group` to 1,048,576.
+    /// How many numbers each of these segments holds: from `group` to 1,048,576.
     pub int_size: u32,
     /// How many segments the local region of texts has: 1 to 1,024.
     pub text_segments: u32,
-    /// How many bytes one of them holds: 64 to 16,777,216.
+    /// How many bytes each of these segments holds: 64 to 16,777,216.
     pub text_size: u32,
 }
 
@@ -38,7 +38,7 @@ impl Limits {
     ghost use Rattle.far_types.specs.Bounds.{AreLimits, usual_limits};
 
     /// Returns the usual limits, in row groups of `group` places:
-    /// - as many rows as a table may have;
+    /// - as many places and edits as a table may have;
     /// - 64 segments of 4,096 numbers, or of the numbers of one row group if these are more;
     /// - 64 segments of 65,536 bytes of texts.
     pub fn in_groups_of(group: u32) -> Limits
@@ -55,7 +55,7 @@ impl Limits {
         }
     }
 
-    /// Checks that a table may have these limits. Refused with `BadSchema` (2) exactly if one is out of its bounds.
+    /// Checks that a table may have these limits. Refused with `BadSchema` (2) exactly if a limit is out of its bounds.
     /// Allocates nothing.
     pub fn check(&self) -> Result<(), Refusal>
         ensures ok { OnOk result (AreLimits self.now) }

@@ -1,4 +1,4 @@
-// What a row gives to an aggregate, borrowed in place.
+// The pair that a row contributes to an aggregate, borrowed in place.
 ghost use Rattle.std.specs.Prelude.{◌≡◌, IfOk, IfErr, IsSome, OnErr};
 ghost use Rattle.far_types.specs.Lent.{key_by, lent_pair};
 ghost use Rattle.far_types.specs.Pairs.{text_under};
@@ -8,8 +8,8 @@ use super::key::Key;
 use super::refusal::Refusal;
 use std::alloc::Global;
 
-/// What a row gives to an aggregate: its pair, or nothing if the row is not kept or not folded. A text key is borrowed in place.
-/// `lent_pair` in `specs/Lent.antt` is the pair that it stands for.
+/// The pair that a row contributes to an aggregate, or nothing if the row is not kept or not folded. A text key is borrowed in place.
+/// `lent_pair` in `specs/Lent.antt` says which pair of the plain table it is.
 #[derive(Clone, Copy, Debug)]
 pub enum PairRef<'a> {
     /// No pair.
@@ -32,10 +32,10 @@ pub fn number_key(number: Option<i64>) -> Option<Key>
 }
 
 impl<'a> PairRef<'a> {
-    /// Returns the pair with a key of its own, or `None` if there is no pair.
+    /// Returns the pair with an owned key, or `None` if there is no pair.
     ///
-    /// It copies a text into the memory of an earlier text key, or into new memory. Refused with `NoMemory` (1) alone, and only if the key
-    /// is a text.
+    /// Copies a text into the memory of `earlier` if `earlier` is a text key, and otherwise into new memory. Refused with `NoMemory` (1)
+    /// alone, and only if the key is a text.
     pub fn pair(
         self,
         alloc: Global,

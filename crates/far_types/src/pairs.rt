@@ -1,4 +1,4 @@
-// What a row gives to an aggregate.
+// The pair that a row contributes to an aggregate.
 ghost use Rattle.std.specs.Prelude.{◌≡◌, IfOk, IfErr, IfSome, IsSome, OnErr, FitsSigned};
 ghost use Rattle.std.specs.Int.{w64};
 ghost use Rattle.far_types.specs.Cells.{number_in};
@@ -14,7 +14,7 @@ use super::spec::Spec;
 use std::alloc::Global;
 
 impl Spec {
-    /// Returns the number of a row in the column of the values, or `None` if there is none. Allocates nothing.
+    /// Returns the row's number in the value column, or `None` if there is none. Allocates nothing.
     #[inline(always)]
     fn value_in<R: LendCells>(&self, row: &R) -> Option<i64>
         ensures number { result ≡ number_in (R.cells row.now self.now.value) }
@@ -26,9 +26,9 @@ impl Spec {
         }
     }
 
-    /// Returns the pair that a row gives, if it is kept and folded. A text is borrowed in place. Allocates nothing.
+    /// Returns the pair that a row contributes, if it is kept and folded. Borrows a text key in place. Allocates nothing.
     ///
-    /// It calls nothing but the row, so an edit has the pair of each aggregate in registers.
+    /// It calls only the row, so an edit has the pair of each aggregate in registers.
     #[inline(always)]
     pub fn lend_pair<'a, R: LendCells>(&self, row: &'a R) -> PairRef<'a>
         ensures pair { lent_pair result ≡ pair_of self.now (R.cells row.now) }
@@ -56,7 +56,7 @@ impl Spec {
         }
     }
 
-    /// Returns the pair of a row, its key and its value, if the row is kept and folded. Clones the key alone.
+    /// Returns the pair of a row, its key and its value, if the row is kept and folded. Clones only the key.
     ///
     /// Refused with `NoMemory` (1) alone, and only if the key is a text.
     pub fn pair_of<R: LendCells>(

@@ -1,9 +1,9 @@
-// The first bytes of a text as a number. Texts whose numbers differ are compared by them, at the cost of one comparison.
+// The first bytes of a text as a number. If the numbers of two texts differ, one comparison of the numbers orders the texts.
 ghost use Rattle.std.specs.Prelude.{◌≡◌, ◌+◌, ◌<◌, ◌≤◌, ◌∷◌, [], length, slice_index};
 ghost use Rattle.std.specs.Int.{w32, from_be_bytes};
 ghost use Rattle.far_types.specs.Prefixes.{prefix_of, AreBytes};
 
-/// Returns the byte at a place, or 0 if there is none.
+/// Returns the byte at index `place`, or 0 if there is none.
 #[inline(always)]
 fn byte_at(bytes: &[u8], place: usize) -> u8
     ensures { result ≡ slice_index bytes.now place }
@@ -14,7 +14,7 @@ fn byte_at(bytes: &[u8], place: usize) -> u8
     0
 }
 
-/// Returns the four bytes from a place on as a number, the first byte highest.
+/// Returns the four bytes from index `place` on as a big-endian number.
 #[inline(always)]
 fn four_from(bytes: &[u8], place: usize) -> u32
     requires { place + 4 ≤ length bytes.now }
@@ -33,9 +33,10 @@ fn four_from(bytes: &[u8], place: usize) -> u32
     ])
 }
 
-/// Returns the first eight bytes as a number, the first byte highest. A byte that is missing is 0.
+/// Returns the first eight bytes as a big-endian number. A missing byte is 0.
 ///
-/// It reads four bytes at once, twice. Between four and eight bytes, the last four overlap the first four: the shift drops those.
+/// It reads four bytes at once, twice. With 4 to 7 bytes, the last four overlap the first four: the shift and the remainder drop the
+/// bytes that were read twice.
 #[inline(always)]
 pub fn prefix_of(bytes: &[u8]) -> u64
     ensures value { result ≡ prefix_of bytes.now }

@@ -1,13 +1,13 @@
 // Fast division by a number that does not change.
 ghost use Rattle.std.specs.Prelude.{◌≡◌, ◌<◌, ◌/◌, ◌%◌, ◌+◌, ◌^◌};
 
-/// A hint for divisions by a number that does not change, such as the number of places of a row group: 2^40 divided by it, and a little
-/// more. A division takes a processor as long as some thirty other instructions. With the hint, one multiplication finds the quotient.
+/// A hint for divisions by a number that does not change, such as the number of places of a row group: 2^40 divided by it, plus 1.
+/// A division takes a processor as long as some thirty other instructions. With the hint, one multiplication finds the quotient.
 ///
-/// Each quotient is tested, and computed by a division if the test fails. So a hint for another number costs time and nothing else. The
-/// test passes for numbers below 2^24 over at most 2^16, as places and row groups are.
+/// Each quotient is tested, and computed by a division if the test fails. So a hint for another number costs only time. The test passes
+/// for numbers below 2^24 and divisors of at most 2^16, the ranges of places and of row group sizes.
 ///
-/// Divisions with the hint for the divisor, and with one for another number:
+/// Divisions with the hint for the divisor, and with a hint for another number:
 ///
 /// ```
 /// fn is_divided(number: usize) -> bool {
@@ -42,8 +42,8 @@ impl Reciprocal {
         ensures { result ≡ number / divisor }
     {
         let guess = ((number as u64).wrapping_mul(self.factor) >> 40) as usize;
-        // The guess has 24 bits, so its product with such a divisor has at most 56. If the product is more than the number, the difference
-        // wraps around to more than the divisor.
+        // The guess has at most 24 bits and such a divisor at most 32, so the product does not overflow. If the product is more than the
+        // number, the difference wraps around to more than the divisor.
         if divisor <= 0xffff_ffff {
             let left = number.wrapping_sub(guess * divisor);
             if left < divisor {

@@ -9,11 +9,11 @@ use thiserror::Error;
 /// Why a call was refused. A refused call leaves rows, columns and answers as they were.
 ///
 /// If several refusals apply, a call returns the first in this order: 2 to 10, 12 to 15, 20, 16, 11, 17 to 19, 21, 22, 24, 1. There is
-/// no number 23. Two kinds of calls may return another:
-/// - A call of the layers below that places several text objects (`push_texts`, `replace_all`) may return 1 before it checks for 17 or 24.
+/// no number 23. Two kinds of calls may return another refusal:
+/// - A call of the lower layers that places several text objects (`push_texts`, `replace_all`) may return 1 before it checks for 17 or 24.
 /// - An edit of a stripe returns 14 for the stripe before it checks the edit.
 ///
-/// It prints a sentence. Here that is `2: a table may not have this schema or these limits`:
+/// A refusal prints a sentence. This function returns `2: a table may not have this schema or these limits`:
 ///
 /// ```
 /// fn printed_of_no_column(alloc: Global) -> Result<String, Refusal> {
@@ -25,11 +25,11 @@ use thiserror::Error;
 /// ```
 #[derive(Debug, Drop, Clone, Copy, PartialEq, Eq, Error)]
 pub enum Refusal {
-    /// 1: an allocation failed: out of memory.
+    /// 1: out of memory: an allocation failed.
     NoMemory,
     /// 2: the schema or the limits are outside what a table may have.
     BadSchema,
-    /// 3: more than 4 tests, a text constant of more than 4,096 bytes, or a gauge that is not totals without key.
+    /// 3: more than 4 tests, a text constant of more than 4,096 bytes, or a gauge that is not totals without a key.
     BadSpec,
     /// 4: there is no such column.
     NoColumn,
@@ -53,17 +53,17 @@ pub enum Refusal {
     TooManyAggregates,
     /// 14: an argument is out of range.
     OutOfRange,
-    /// 15: row groups are still pending in the aggregate, as many as it says.
+    /// 15: this many row groups are still pending in the aggregate.
     Building(u32),
     /// 16: the object of this column and row group is not local.
     Absent { column: u32, group: u32 },
-    /// 17: no segment of the local region has the space for what must be placed; for a compaction: no other segment is empty.
+    /// 17: no segment of the local region has enough space; for a compaction: no other segment is empty.
     RegionFull,
     /// 18: the object has no pin.
     NotPinned,
     /// 19: the object has a pin.
     Pinned,
-    /// 20: what the job or the scan rests on does not hold.
+    /// 20: the conditions that the job or the scan depends on do not hold.
     StaleJob,
     /// 21: the far store failed in this call.
     FarFault,

@@ -9,7 +9,7 @@ use super::refusal::Refusal;
 use std::marker::Model;
 use std::slice;
 
-/// The cells of a row, in the order of the columns. Contracts see their list.
+/// The cells of a row, in the order of the columns. Contracts see the list of cells.
 ///
 /// ```
 /// fn sale(alloc: Global, bread: &str, sold: i64) -> Result<Row, Refusal> {
@@ -34,7 +34,7 @@ impl Model for Row {
     ghost invariant = { λ row. RowFits row.cells.items };
 }
 
-/// For the proof: reading an `i64` through a reference is what tells the prover its range.
+/// Tells the prover the range of a cell's number, which it learns when an `i64` is read through a reference.
 fn read_number(cell: &Cell)
     ensures { CellFits cell.now }
 {
@@ -75,7 +75,7 @@ impl Row {
         self.cells.len()
     }
 
-    /// Returns whether the row has no cell.
+    /// Returns whether the row has no cells.
     pub fn is_empty(&self) -> bool
         ensures { IsTrue result ↔ (self.now ≡ []) }
     {

@@ -8,7 +8,7 @@ use super::refusal::Refusal;
 use std::marker::Model;
 use std::slice;
 
-/// The kinds of a table's columns, 1 to 16 of them. Contracts see their list.
+/// The kinds of a table's 1 to 16 columns. Contracts see the list of kinds.
 ///
 /// ```
 /// fn breads(alloc: Global) -> Result<Schema, Refusal> {
@@ -34,7 +34,7 @@ impl Model for Schema {
 }
 
 impl Schema {
-    /// Makes a schema of these columns. Refused with `BadSchema` (2) exactly if there are not 1 to 16. Allocates nothing.
+    /// Makes a schema of these columns. Refused with `BadSchema` (2) exactly if there are none or more than 16. Allocates nothing.
     pub fn new(kinds: Vec<Kind>) -> Result<Schema, Refusal>
         ensures ok { IfOk result (λ schema. (schema ≡ kinds.items) × IsSchema kinds.items) }
         ensures bad { IfErr result (λ e. (e ≡ Refusal.BadSchema) × ¬ (IsSchema kinds.items)) }

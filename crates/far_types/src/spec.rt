@@ -9,12 +9,12 @@ use super::refusal::Refusal;
 use super::schema::Schema;
 use std::alloc::Global;
 
-/// The aggregate function: what an aggregate computes of the values under each key.
+/// The aggregate function: what an aggregate computes from the values under each key.
 #[derive(Clone, Copy, Debug, PartialEq, Eq)]
 pub enum Fold {
-    /// How many there are, and their sum.
+    /// The count and the sum of the values.
     Totals,
-    /// The least and the greatest.
+    /// The least and the greatest value.
     Extrema,
 }
 
@@ -33,13 +33,13 @@ pub struct Spec {
     pub fold: Fold,
     /// The column of the values, of whole numbers.
     pub value: u32,
-    /// The column of the keys, of either kind. Without one, all rows stand under the one key "none".
+    /// The column of the keys, of either kind. Without a key column, all rows are under the single key "none".
     pub key: Option<u32>,
     /// Which rows are kept.
     pub filter: Filter,
 }
 
-/// Returns whether a test is of its column's kind.
+/// Returns whether a test fits the kind of its column.
 fn has_its_kind(schema: &Schema, test: &Test) -> bool
     ensures { result ≡ has_its_kind schema.now test.now }
 {
@@ -50,7 +50,7 @@ fn has_its_kind(schema: &Schema, test: &Test) -> bool
     }
 }
 
-/// Returns whether each test is of its column's kind.
+/// Returns whether each test fits the kind of its column.
 fn have_their_kinds(schema: &Schema, tests: &[Test]) -> bool
     ensures { result ≡ list_all (has_its_kind schema.now) tests.now }
 {
@@ -71,14 +71,14 @@ fn is_one_too_long(tests: &[Test]) -> bool
     tests.iter().any(|test| test.is_too_long())
 }
 
-/// Returns whether some test reads a column.
+/// Returns whether some test reads this column.
 fn one_looks_at(tests: &[Test], column: u32) -> bool
     ensures { result ≡ list_any (λ test. column_of test == column) tests.now }
 {
     tests.iter().any(|test| test.column() == column)
 }
 
-/// Returns whether all tests read the first `columns` columns alone.
+/// Returns whether all tests read only the first `columns` columns.
 fn are_within(tests: &[Test], columns: usize) -> bool
     ensures { result ≡ list_all (λ test. nat_lt (column_of test) columns) tests.now }
 {
@@ -88,18 +88,19 @@ fn are_within(tests: &[Test], columns: usize) -> bool
 impl Spec {
     ghost use Rattle.far_types.specs.Bounds.{needs, is_within, spec_refusal};
 
-    /// Makes the aggregate of the count and the sum of the values of a column of numbers, over all rows. Allocates nothing.
+    /// Makes the aggregate that counts and sums the values of a column of numbers, over all rows. Allocates nothing.
     ///
-    /// `Spec::totals(alloc, 1).by(0)` is the same under each key of column 0.
+    /// `Spec::totals(alloc, 1).by(0)` counts and sums the values for each key of column 0.
     pub fn totals(alloc: Global, value: u32) -> Spec
         ensures { result ≡ record { fold = Fold.Totals; value = value; key = None; filter = [] } }
     {
         Spec::of_all(alloc, Fold::Totals, value)
     }
 
-    /// Makes the aggregate of the least and the greatest value of a column of numbers, over all rows. Allocates nothing.
+    /// Makes the aggregate that finds the least and the greatest value of a column of numbers, over all rows. Allocates nothing.
     pub fn extrema(alloc: Global, value: u32) -> Spec
-        ensures { result ≡ record { fold = Fold.Extrema; value = value; key = None; filter = [] } }
+        ensures { result
+            ≡ record { fold = Fold.Extrema; value = value; key = None; filter = [] } }
     {
         Spec::of_all(alloc, Fold::Extrema, value)
     }
@@ -115,7 +116,7 @@ impl Spec {
         }
     }
 
-    /// Returns the same aggregate under each key of a column. Allocates nothing.
+    /// Returns the same aggregate, computed for each key of this column. Allocates nothing.
     pub fn by(self, key: u32) -> Spec
         ensures { result ≡ record self { key = Some key } }
     {
@@ -155,7 +156,7 @@ impl Spec {
         })
     }
 
-    /// Returns whether the aggregate needs a column: that of a test, of its key or of its value. Allocates nothing.
+    /// Returns whether the aggregate needs a column: for a test, for its key or for its value. Allocates nothing.
     pub fn needs(&self, column: u32) -> bool
         ensures { result ≡ needs self.now column }
     {
@@ -184,7 +185,7 @@ impl Spec {
     /// Checks that a table with this schema may register the aggregate. Allocates nothing. Refused with:
     /// - `BadSpec` (3) exactly if it has more than 4 tests or a text constant of more than 4,096 bytes;
     /// - else `NoColumn` (4) exactly if a column that it needs does not exist;
-    /// - else `WrongKind` (5) exactly if the value's column is not of numbers, or a test is of another kind than its column.
+    /// - else `WrongKind` (5) exactly if the value column is not a column of numbers, or a test does not fit the kind of its column.
     pub fn check(&self, schema: &Schema) -> Result<(), Refusal>
         ensures ok { OnOk result (spec_refusal schema.now self.now ≡ None) }
         ensures refused { IfErr result (λ e. spec_refusal schema.now self.now ≡ Some e) }
@@ -202,7 +203,7 @@ impl Spec {
         Ok(())
     }
 
-    /// Returns whether it is the same aggregate: the same fold of the same columns over the same tests in the same order. Allocates
+    /// Returns whether both aggregates are equal: the same fold of the same columns over the same tests in the same order. Allocates
     /// nothing.
     pub fn is_same(&self, other: &Spec) -> bool
         ensures { IsTrue result ↔ (self.now ≡ other.now) }

@@ -1,4 +1,4 @@
-// A text, which contracts see as the list of its bytes. It keeps its first bytes as a number too, so that most comparisons take one step.
+// A text, which contracts see as the list of its bytes. It also keeps its first bytes as a number, so that most comparisons take one step.
 ghost use Rattle.std.specs.Prelude.{◌≡◌, ◌↔◌, IsTrue, [], ◌==◌, IfOk, IfErr, length};
 ghost use Rattle.std.specs.String.{string_bytes};
 ghost use Rattle.std.proofs.Common.{rules};
@@ -80,7 +80,7 @@ impl Text {
         self.string.len()
     }
 
-    /// Returns whether the text has no byte.
+    /// Returns whether the text has no bytes.
     pub fn is_empty(&self) -> bool
         ensures { IsTrue result ↔ (self.now ≡ []) }
     {
@@ -142,7 +142,7 @@ impl PartialOrd for Text {
     }
 }
 
-/// Prints the characters alone.
+/// Prints the string without the prefix.
 impl fmt::Debug for Text {
     fn fmt<W: fmt::Write>(&self, f: &mut fmt::Formatter<W>) -> fmt::Result {
         f.debug_struct("Text")
