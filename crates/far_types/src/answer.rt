@@ -18,7 +18,11 @@ use std::slice;
 ///         Answer::Extrema(lines) => lines.iter().filter(|line| line.1 > 0).count(),
 ///     }
 /// }
+/// ```
 ///
+/// Two lines, one of them above 0:
+///
+/// ```
 /// fn are_totals_right(alloc: Global) -> Result<bool, Refusal> {
 ///     let one = (Some(Key::from(1i64)), 1, 5);
 ///     let other = (Some(Key::from(2i64)), 1, -5);
