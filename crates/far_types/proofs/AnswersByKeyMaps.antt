@@ -1,4 +1,4 @@
--- A tree map from keys, as the finite map that its entries make.
+-- Tree maps by key, and the finite maps of their entries.
 use Rattle.std.proofs.Common.{◌≡◌, ℕ, zero, suc, take, Bool, true, false, cond, ◌&&◌, List, [], ◌∷◌, ◌++◌, map, refl, sym, ap, ◌∙◌, Option, None, Some}
 use Rattle.std.specs.Prelude.{ℤ, T, is_some}
 use Rattle.std.specs.Option.{option_map_or}
@@ -21,11 +21,11 @@ use Rattle.far_types.proofs.AnswersGrouping.{same, same_key, own_key, get-joined
 abbrev pub Entries : Type 0 → Type 0
 Entries V = List (Option Key × V)
 
--- what a tree map with these entries finds at a key
+-- the value that a tree map with these entries has at a key
 abbrev pub at : {V : Type 0} → Entries V → Option Key → Option V
 at es q = lookup (is_at (line_cmp q)) es
 
--- the finite map that the entries make
+-- the finite map of the entries
 abbrev pub by_key : {V : Type 0} → Entries V → ByKey V
 by_key es = fin.from_entries es
 
@@ -33,11 +33,11 @@ pub find_at : {V : Type 0} (es : Entries V) (q : Option Key) → fin.find line_c
 find_at [] q = refl
 find_at (e ∷ es) q = ap (cond (is_at (line_cmp q) e.0) (Some e.1)) (find_at es q)
 
--- both find the same
+-- the finite map has the values of the tree map
 pub get_at : {V : Type 0} (es : Entries V) (q : Option Key) → fin.get (by_key es) q ≡ at es q
 get_at es q = fin.get-from_entries line_total es q ∙ find_at es q
 
--- at the key k the new entries have o, and at each other key what the old ones have
+-- the new entries have o at the key k, and the old value at each other key
 abbrev pub IsSet : {V : Type 0} → Entries V → Entries V → Option Key → Option V → Type 0
 IsSet old new k o = (q : Option Key) → at new q ≡ cond (is_at (line_cmp k) q) o (at old q)
 
@@ -64,17 +64,17 @@ unfolding IsStrictlySortedBy
 sorted [] h = tt
 sorted (e ∷ es) h = T_both _ _ (below e.0 es h.0) (sorted es h.1)
 
--- a tree map's entries are those of the finite map that they make
+-- the finite map of a tree map's entries has these entries
 pub entries-by_key : {V : Type 0} (es : Entries V) → IsStrictlySortedBy line_cmp (map (λ (e : Option Key × V). e.0) es) → fin.entries (by_key es) ≡ es
 entries-by_key es h =
     ap fin.entries (same (by_key es) (fin.from_sorted es) (λ q. fin.get-from_entries line_total es q ∙ sym (fin.get-from_sorted line_cmp es q (sorted es h))))
     ∙ fin.entries-from_sorted line_cmp es (sorted es h)
 
--- what was set last counts
+-- if a key is set twice, the second value counts
 pub set_again : {V : Type 0} (one two three : Entries V) (k : Option Key) (x y : Option V) → IsSet one two k x → IsSet two three k y → IsSet one three k y
 set_again one two three k x y h g q = g q ∙ ap (cond (is_at (line_cmp k) q) y) (h q) ∙ elim (is_at (line_cmp k) q) as (λ b. cond b y (cond b x (at one q)) ≡ cond b y (at one q)) [ true ↦ refl | false ↦ refl ]
 
--- no key of the entries stands twice
+-- no key occurs twice in the entries
 abbrev pub HaveDistinctKeys : {V : Type 0} → Entries V → Type 0
 HaveDistinctKeys [] = Unit {0}
 HaveDistinctKeys (e ∷ es) = (at es e.0 ≡ None) × HaveDistinctKeys es
@@ -102,11 +102,11 @@ take_distinct zero es h = tt
 take_distinct (suc n) [] h = tt
 take_distinct (suc n) (e ∷ es) h = (at-take n es e.0 h.0, take_distinct n es h.1)
 
--- what was inserted is found
+-- an inserted value is found
 pub get_inserted : {V : Type 0} (m : ByKey V) (k : Option Key) (x : V) → fin.get (fin.insert m k x) k ≡ Some x
 get_inserted m k x = fin.get-insert line_total m k x k ∙ ap (λ b. cond b (Some x) (fin.get m k)) (own_key k)
 
--- and an insert under a new key can be undone
+-- a removal undoes an insert under a new key
 pub insert_undone : {V : Type 0} (m : ByKey V) (k : Option Key) (x : V) → fin.get m k ≡ None → fin.remove (fin.insert m k x) k ≡ m
 insert_undone m k x none = same _ _ (λ q.
     fin.get-remove line_total (fin.insert m k x) k q
@@ -116,7 +116,7 @@ insert_undone m k x none = same _ _ (λ q.
       | false ↦ λ h. refl
     ] refl)
 
--- or, if there was something else, that put back
+-- an insert of the old value undoes an insert under a key that had a value
 pub insert_again : {V : Type 0} (m : ByKey V) (k : Option Key) (x y : V) → fin.get m k ≡ Some y → fin.insert (fin.insert m k x) k y ≡ m
 insert_again m k x y some = same _ _ (λ q.
     fin.get-insert line_total (fin.insert m k x) k y q
@@ -126,11 +126,11 @@ insert_again m k x y some = same _ _ (λ q.
       | false ↦ λ h. refl
     ] refl)
 
--- both together, if there was something, and else what comes
+-- the old value joined with `more`, or only `more` if there was no value
 abbrev pub with_more : {V : Type 0} → (V → V → V) → V → Option V → V
 with_more join more o = option_map_or (λ x. join x more) o more
 
--- the map with more under a key
+-- the map with `more` added under a key
 abbrev pub with_value : {V : Type 0} → (V → V → V) → ByKey V → Option Key → V → ByKey V
 with_value join m k more = fin.insert m k (with_more join more (fin.get m k))
 
@@ -138,7 +138,7 @@ nothing : {V : Type 0} (o : Option V) → is_some o ≡ false → o ≡ None
 nothing None h = refl
 nothing (Some x) h = cc
 
--- what was inserted into entries in which the key was not
+-- an insert under a key that the entries did not have
 pub inserted_new : {V : Type 0} (join : V → V → V) (old mid new : Entries V) (k q : Option Key) (more : V) → mid ≡ old → k ≡ q → is_some (fin.get (by_key old) q) ≡ false → IsSet mid new k (Some more) → by_key new ≡ with_value join (by_key old) q more
 inserted_new join old mid new k q more same_entries same_key absent set =
     set_inserts mid new k more set
@@ -156,7 +156,7 @@ merge_two_none join (Some x) = refl
 pub joined-empty : {V : Type 0} (join : V → V → V) (m : ByKey V) → joined join m fin.empty ≡ m
 joined-empty join m = same _ _ (λ q. get-joined join m fin.empty q ∙ ap (merge_two join (fin.get m q)) (fin.get-empty line_cmp q) ∙ merge_two_none join (fin.get m q))
 
--- what is under a key that is new to the second may be added to the first instead
+-- a value under a key that the second map lacks may be added to either map before they are joined
 moved : {V : Type 0} (join : V → V → V) (m n : ByKey V) (k : Option Key) (x : V) → fin.get n k ≡ None → joined join (with_value join m k x) n ≡ joined join m (fin.insert n k x)
 moved join m n k x none = same _ _ (λ q.
     get-joined join (with_value join m k x) n q
@@ -172,7 +172,7 @@ moved join m n k x none = same _ _ (λ q.
     ∙ ap (merge_two join (fin.get m q)) (sym (fin.get-insert line_total n k x q))
     ∙ sym (get-joined join m (fin.insert n k x) q))
 
--- or to both joined
+-- such a value may also be added after the maps are joined
 pub moved_out : {V : Type 0} (join : V → V → V) (m n : ByKey V) (k : Option Key) (x : V) → fin.get n k ≡ None → joined join m (fin.insert n k x) ≡ with_value join (joined join m n) k x
 moved_out join m n k x none = same _ _ (λ q.
     get-joined join m (fin.insert n k x) q
@@ -186,7 +186,7 @@ moved_out join m n k x none = same _ _ (λ q.
     ] refl
     ∙ sym (fin.get-insert line_total (joined join m n) k _ q))
 
--- the map with all entries more, one after another
+-- the map with all entries added, one after another
 abbrev pub with_all : {V : Type 0} → (V → V → V) → ByKey V → Entries V → ByKey V
 with_all join m [] = m
 with_all join m (e ∷ es) = with_all join (with_value join m e.0 e.1) es
@@ -198,17 +198,17 @@ with_all-push join m (x ∷ es) e = with_all-push join (with_value join m x.0 x.
 pub absent : {V : Type 0} (es : Entries V) (k : Option Key) → at es k ≡ None → fin.get (by_key es) k ≡ None
 absent es k none = get_at es k ∙ none
 
--- all added one after another are all joined
+-- adding all entries one after another joins the map of the entries
 pub with_all-joined : {V : Type 0} (join : V → V → V) (m : ByKey V) (es : Entries V) → HaveDistinctKeys es → with_all join m es ≡ joined join m (by_key es)
 with_all-joined join m [] h = sym (joined-empty join m)
 with_all-joined join m (e ∷ es) h = with_all-joined join (with_value join m e.0 e.1) es h.1 ∙ moved join m (by_key es) e.0 e.1 (absent es e.0 h.0)
 
--- one more under a key is a map of that key alone joined
+-- adding a value under a key joins a map of only that key
 pub joined-one : {V : Type 0} (join : V → V → V) (m : ByKey V) (k : Option Key) (x : V) → with_value join m k x ≡ joined join m (fin.insert fin.empty k x)
 joined-one join m k x =
     ap (λ n. with_value join n k x) (sym (joined-empty join m)) ∙ sym (moved_out join m fin.empty k x (fin.get-empty line_cmp k))
 
--- if some pairs stand under one key alone, that key has what their values come to
+-- if all pairs have one key, that key has the fold of their values
 pub grouped-one : {V : Type 0} (fold : List ℤ → V) (k : Option Key) (v : ℤ) (vs : List ℤ) → grouped fold (map (λ (value : ℤ). (k, value)) (v ∷ vs)) ≡ fin.insert fin.empty k (fold (v ∷ vs))
 grouped-one fold k v vs = same _ _ (λ q.
     get-grouped fold (map (λ (value : ℤ). (k, value)) (v ∷ vs)) q

@@ -1,4 +1,4 @@
--- What stands by key: the map of the keys that occur, each with what its values come to.
+-- Pairs grouped by key: the map of the keys that occur, each with the fold of its values.
 use Rattle.std.proofs.Common.{◌≡◌, Bool, true, false, cond, ◌||◌, List, [], ◌∷◌, ◌++◌, map, filter, refl, sym, ap, ◌∙◌, Option, None, Some}
 use Rattle.std.specs.Prelude.{ℤ, option_map, is_some}
 use Rattle.std.specs.List.{filter_map, list_any, cons_option}
@@ -21,18 +21,18 @@ is_equal Less h = cc
 is_equal Equal h = refl
 is_equal Greater h = cc
 
--- keys that tie are the same key
+-- keys that compare as equal are the same key
 pub same_key : (q k : Option Key) → eq_by_cmp line_cmp q k ≡ true → q ≡ k
 same_key q k h = exact_line q k (is_equal _ h)
 
 pub own_key : (k : Option Key) → eq_by_cmp line_cmp k k ≡ true
 own_key k = ap is_eq (tied_itself line_total k)
 
--- two maps that answer alike are one
+-- two maps with the same value at each key are equal
 pub same : {V : Type 0} (m n : ByKey V) → ((q : Option Key) → fin.get m q ≡ fin.get n q) → m ≡ n
 same m n alike = fin.same_map line_total exact_line m n alike
 
--- something, unless there is no value
+-- x, unless the list is empty
 abbrev pub if_any : {V : Type 0} → List ℤ → V → Option V
 if_any [] x = None
 if_any (value ∷ values) x = Some x
@@ -61,11 +61,11 @@ find_keyed f (p ∷ ps) q =
     ] refl
     ∙ ap (λ vs. if_any vs (f q)) (sym (values_of-cons q p ps))
 
--- a key is there if a pair has it, with what its values come to
+-- a grouped map has a key if a pair has that key, with the fold of the key's values
 pub get-grouped : {V : Type 0} (fold : List ℤ → V) (ps : List Pair) (q : Option Key) → fin.get (grouped fold ps) q ≡ if_any (values_of q ps) (fold (values_of q ps))
 get-grouped fold ps q = fin.get-from_entries line_total _ q ∙ find_keyed (λ k. fold (values_of k ps)) ps q
 
--- one pair more, if the fold of one value more follows from the fold before
+-- the grouped map with one pair more, if the fold with one value more follows from the fold before
 pub grouped-cons : {V : Type 0} (fold : List ℤ → V) (more : ℤ → Option V → V) → ((v : ℤ) (vs : List ℤ) → fold (v ∷ vs) ≡ more v (if_any vs (fold vs))) → (p : Pair) (ps : List Pair) → grouped fold (p ∷ ps) ≡ fin.insert (grouped fold ps) p.0 (more p.1 (fin.get (grouped fold ps) p.0))
 grouped-cons fold more step p ps = same _ _ (λ q.
     get-grouped fold (p ∷ ps) q
@@ -76,7 +76,7 @@ grouped-cons fold more step p ps = same _ _ (λ q.
     ] refl
     ∙ sym (fin.get-insert line_total (grouped fold ps) p.0 _ q))
 
--- if the fold does not mind the order, a pair may stand anywhere
+-- if the fold does not depend on the order, a pair may be anywhere in the list
 pub grouped-among : {V : Type 0} (fold : List ℤ → V) → ((vs : List ℤ) (v : ℤ) (ws : List ℤ) → fold (vs ++ v ∷ ws) ≡ fold (v ∷ (vs ++ ws))) → (ps : List Pair) (p : Pair) (qs : List Pair) → grouped fold (ps ++ p ∷ qs) ≡ grouped fold (p ∷ (ps ++ qs))
 grouped-among fold anywhere ps p qs = same _ _ (λ q.
     get-grouped fold (ps ++ p ∷ qs) q
@@ -117,7 +117,7 @@ either_false false b h = (refl, h)
 absent : {V : Type 0} (m : ByKey V) (q : Option Key) → list_any (eq_by_cmp line_cmp q) (fin.keys m) ≡ false → fin.get m q ≡ None
 absent m q h = nothing_there (fin.get m q) (fin.contains_key-keys m q ∙ h)
 
--- what two maps joined have at a key
+-- the value of two joined maps at a key
 pub get-joined : {V : Type 0} (join : V → V → V) (m n : ByKey V) (q : Option Key) → fin.get (joined join m n) q ≡ merge_two join (fin.get m q) (fin.get n q)
 get-joined join m n q =
     fin.get-from_entries line_total _ q
@@ -134,7 +134,7 @@ merge_two-any fold join parts [] ws = refl
 merge_two-any fold join parts (v ∷ vs) [] = ap (λ xs. Some (fold (v ∷ xs))) (append-nil vs)
 merge_two-any fold join parts (v ∷ vs) (w ∷ ws) = ap Some (parts v vs w ws)
 
--- what stands by key over two lists is what stands over each, joined
+-- grouping two lists together joins the grouped maps of each list
 pub grouped-append : {V : Type 0} (fold : List ℤ → V) (join : V → V → V) → ((v : ℤ) (vs : List ℤ) (w : ℤ) (ws : List ℤ) → fold ((v ∷ vs) ++ (w ∷ ws)) ≡ join (fold (v ∷ vs)) (fold (w ∷ ws))) → (ps qs : List Pair) → grouped fold (ps ++ qs) ≡ joined join (grouped fold ps) (grouped fold qs)
 grouped-append fold join parts ps qs = same _ _ (λ q.
     get-grouped fold (ps ++ qs) q

@@ -1,4 +1,4 @@
--- What the lines of an answer are.
+-- Laws of the lines of an answer.
 use Rattle.std.proofs.Common.{◌≡◌, ℕ, suc, ◌-◌, ◌*◌, ◌^◌, ◌≤◌, Bool, true, false, cond, ◌||◌, ◌&&◌, List, [], ◌∷◌, length, map, refl, sym, ap, ◌∙◌, subst, arith, Option, Some, All}
 use Rattle.std.specs.Prelude.{ℤ, pos, neg_ℤ, ◌≤ℤ◌, is_some, T, FitsSigned}
 use Rattle.std.specs.Int.{w64}
@@ -36,7 +36,7 @@ each P Q f [] h = tt
 each P Q f (x ∷ xs) h = (f x h.0, each P Q f xs h.1)
 
 module _ {V : Type 0} where
-  -- an entry whose key is above the first is found behind it
+  -- an entry whose key is above the first key is found after the first entry
   passed : (e : Option Key × V) (es xs : List (Option Key × V)) → T (below_all line_cmp e.0 xs) → AllByRecursion (λ (x : Option Key × V). fin.find line_cmp x.0 es ≡ Some x.1) xs → AllByRecursion (λ (x : Option Key × V). fin.find line_cmp x.0 (e ∷ es) ≡ Some x.1) xs
   passed e es [] above found = tt
   passed e es (x ∷ xs) above found =
@@ -50,7 +50,7 @@ module _ {V : Type 0} where
       let parts = both _ _ sorted in
       (ap (λ b. cond b (Some e.1) (fin.find line_cmp e.0 es)) (own_key e.0), passed e es es parts.0 (found_itself es parts.1))
 
-  -- what a map has at the key of an entry is what the entry says
+  -- a map has the value of each of its entries at the key of the entry
   pub get-entry : (m : ByKey V) → AllByRecursion (λ (e : Option Key × V). fin.get m e.0 ≡ Some e.1) (fin.entries m)
   get-entry m = each _ _ (λ (e : Option Key × V) found. fin.get-entries m e.0 ∙ found) (fin.entries m) (found_itself (fin.entries m) (fin.entries_sorted m))
 
@@ -79,16 +79,16 @@ module _ {V : Type 0} where
   folded fold [] x h = cc
   folded fold (v ∷ vs) x h = (cc, omega arith)
 
-  -- an entry has what the values of its key come to, at least one
+  -- each entry has the fold of its key's values, of which there is at least one
   pub entries-folded : (fold : List ℤ → V) (ps : List Pair) → AllByRecursion (λ (e : Option Key × V). (e.1 ≡ fold (values_of e.0 ps)) × (1 ≤ length (values_of e.0 ps))) (fin.entries (grouped fold ps))
   entries-folded fold ps = each _ _ (λ (e : Option Key × V) got. folded fold (values_of e.0 ps) e.1 (sym (get-grouped fold ps e.0) ∙ got)) (fin.entries (grouped fold ps)) (get-entry (grouped fold ps))
 
--- the keys of lines are those of the entries that they are made of
+-- lines have the keys of the entries that they are made from
 keys-lines : {A B : Type 0} (es : List (Option Key × (A × B))) → map (λ (line : Option Key × A × B). line.0) (map (λ (entry : Option Key × (A × B)). (entry.0, entry.1.0, entry.1.1)) es) ≡ map (λ (entry : Option Key × (A × B)). entry.0) es
 keys-lines [] = refl
 keys-lines (e ∷ es) = ap (λ ks. e.0 ∷ ks) (keys-lines es)
 
--- a fact of each entry is one of each line
+-- if each entry has a property P, each line has a property Q that follows from P
 lines-all : {A B : Type 0} (P : Option Key × (A × B) → Type 0) (Q : Option Key × A × B → Type 0) → ((e : Option Key × (A × B)) → P e → Q (e.0, e.1.0, e.1.1)) → (es : List (Option Key × (A × B))) → AllByRecursion P es → All Q (map (λ (entry : Option Key × (A × B)). (entry.0, entry.1.0, entry.1.1)) es)
 lines-all P Q f es h = All-map Q _ es (to_all _ es (each P _ f es h))
 

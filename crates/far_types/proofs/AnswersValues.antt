@@ -37,7 +37,7 @@ int_sum-append (v ∷ vs) ws = let rest = int_sum-append vs ws in omega (arith, 
 pub count_sum-append : (v : ℤ) (vs : List ℤ) (w : ℤ) (ws : List ℤ) → count_sum ((v ∷ vs) ++ (w ∷ ws)) ≡ add_count_sums (count_sum (v ∷ vs)) (count_sum (w ∷ ws))
 count_sum-append v vs w ws i = (length-append (v ∷ vs) (w ∷ ws) i, int_sum-append (v ∷ vs) (w ∷ ws) i)
 
--- what is picked does not mind the order if picking does not
+-- the picked value does not depend on the order of the values if `pick` commutes and associates
 module _ (pick : ℤ → ℤ → ℤ) (commutes : (a b : ℤ) → pick a b ≡ pick b a) (associates : (a b c : ℤ) → pick (pick a b) c ≡ pick a (pick b c)) where
   swap : (a b : ℤ) (vs : List ℤ) → picked pick (a ∷ b ∷ vs) ≡ picked pick (b ∷ a ∷ vs)
   swap a b [] = commutes a b

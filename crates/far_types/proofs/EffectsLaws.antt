@@ -32,7 +32,7 @@ extrema-among ps p qs = grouped-among min_max min_max-among ps p qs
 pub extrema-append : (ps qs : List Pair) → extrema (ps ++ qs) ≡ joined_extrema (extrema ps) (extrema qs)
 extrema-append ps qs = grouped-append min_max join_min_maxes min_max-append ps qs
 
--- an insert is undone
+-- a removal undoes an insert under a new key
 insert-undone : {V : Type 0} (m : ByKey V) (k : Option Key) (x : V) → fin.get m k ≡ None → fin.remove (fin.insert m k x) k ≡ m
 insert-undone m k x none = same _ _ (λ q.
     fin.get-remove line_total (fin.insert m k x) k q
@@ -60,7 +60,7 @@ subtracted-added v count_sum =
 not_last : (n : ℕ) → (suc n + 1 == 1) ≡ false
 not_last n = grind (arith, nat_tests)
 
--- a value that was added last is retracted
+-- taking away the value that was added last restores the totals
 added_undone : (m : fin.FinMap line_cmp (ℕ × ℤ)) (k : Option Key) (v : ℤ) (vs : List ℤ) → fin.get m k ≡ if_any vs (count_sum vs) → without_value (fin.insert m k (count_sum_with v (fin.get m k))) k v (Some (count_sum_with v (fin.get m k))) ≡ m
 added_undone m k v [] h =
     ap (λ o. without_value (fin.insert m k (count_sum_with v o)) k v (Some (count_sum_with v o))) h

@@ -1,4 +1,4 @@
--- The first elements of a list, each as something else.
+-- The first elements of a list, each mapped by a function.
 use Rattle.std.proofs.Common.{◌≡◌, ℕ, zero, suc, refl, ◌+◌, ◌<◌, ◌≤◌, List, [], ◌∷◌, ◌++◌, length, map, take, slice_get, get_or, set, option_map, Some, None, sym, ap, ◌∙◌, arith, length-take}
 use Rattle.std.proofs.lemmas.List.{length-map, take_more_set, get_or-take, map-append}
 use Rattle.std.proofs.Math.Seq.{take-set-lt}

@@ -1,4 +1,4 @@
--- How texts compare by their first bytes, and how these are read four at once.
+-- How texts compare by their first bytes, and how four bytes are read at once.
 use Rattle.std.proofs.Common.{◌≡◌, ℕ, zero, suc, ◌+◌, ◌-◌, ◌*◌, ◌%◌, ◌^◌, ◌<◌, ◌≤◌, List, [], ◌∷◌, length, refl, sym, ap, ◌∙◌, subst, arith}
 use Rattle.std.specs.Prelude.{slice_index}
 use Rattle.std.specs.Int.{w32, from_be_bytes}
@@ -11,7 +11,7 @@ use Rattle.std.proofs.lemmas.Nat.{mul-add-lt}
 use Rattle.std.proofs.Math.Nat.{one-le-pow, pow-suc, mul-le-mul_left, mul_comm}
 use Rattle.far_types.specs.Prefixes.{first_bytes, prefix_of, AreBytes}
 
--- so many bytes are below that power
+-- the number of the first n bytes is below 256 ^ n
 below : (n : ℕ) (bytes : List ℕ) → AreBytes bytes → first_bytes n bytes < 256 ^ n
 below zero bytes are = omega arith
 below (suc n) [] are = one-le-pow (suc n) 256 (omega arith)
@@ -26,7 +26,7 @@ lower x y w p q less small =
     let turned : w * y ≡ y * w = mul_comm w y in
     omega (arith, inside, next, turned)
 
--- what is added to both changes nothing
+-- a number added to both sides does not change their order
 behind : (c p q : ℕ) → nat_cmp (c + p) (c + q) ≡ nat_cmp p q
 behind c p q = sym (nat_cmp_is (c + p) (c + q) (nat_cmp p q) (moved (nat_cmp p q) (ranks p q))) where
   moved : (r : Ordering) → MatchOrdering r (p < q) (p ≡ q) (q < p) → MatchOrdering r (c + p < c + q) (c + p ≡ c + q) (c + q < c + p)
@@ -34,7 +34,7 @@ behind c p q = sym (nat_cmp_is (c + p) (c + q) (nat_cmp p q) (moved (nat_cmp p q
   moved Equal h = ap (λ n. c + n) h
   moved Greater h = omega arith
 
--- the first byte decides, or else the rest
+-- the first bytes decide the order, or the rest if the first bytes are equal
 first_decides : (x y w p q : ℕ) (rest : Ordering) → p < w → q < w → (x * w + p ≡ y * w + q → ⊥) → ((p ≡ q → ⊥) → nat_cmp p q ≡ rest) → nat_cmp (x * w + p) (y * w + q) ≡ ordering_then (nat_cmp x y) rest
 first_decides x y w p q rest small small_too other decides = by (nat_cmp x y) (ranks x y) where
   by : (r : Ordering) → MatchOrdering r (x < y) (x ≡ y) (y < x) → nat_cmp (x * w + p) (y * w + q) ≡ ordering_then r rest
@@ -43,7 +43,7 @@ first_decides x y w p q rest small small_too other decides = by (nat_cmp x y) (r
       ap (λ (n : ℕ). nat_cmp (n * w + p) (y * w + q)) h ∙ behind (y * w) p q ∙ decides (λ same. other (ap (λ (n : ℕ). n * w + p) h ∙ ap (λ (n : ℕ). y * w + n) same))
   by Greater h = sym (nat_cmp_is (x * w + p) (y * w + q) Greater (lower y x w q p h small_too))
 
--- first bytes that differ decide
+-- if the numbers of two texts' first bytes differ, the numbers decide the order of the texts
 pub decided : (n : ℕ) (xs ys : List ℕ) → AreBytes xs → AreBytes ys → (first_bytes n xs ≡ first_bytes n ys → ⊥) → nat_cmp (first_bytes n xs) (first_bytes n ys) ≡ slice_cmp nat_cmp xs ys
 decided zero xs ys are also other = absurd (other refl)
 decided (suc n) [] [] are also other = absurd (other refl)
@@ -53,11 +53,11 @@ decided (suc n) (x ∷ xs) (y ∷ ys) are also other =
     first_decides x y (256 ^ n) (first_bytes n xs) (first_bytes n ys) (slice_cmp nat_cmp xs ys) (below n xs (λ i. are (suc i))) (below n ys (λ i. also (suc i))) other
     (decided n xs ys (λ i. are (suc i)) (λ i. also (suc i)))
 
--- the four bytes from a place on
+-- the four bytes from index `place` on as a number
 abbrev pub four : List ℕ → ℕ → ℕ
 four bytes place = from_be_bytes w32 (slice_index bytes place ∷ slice_index bytes (place + 1) ∷ slice_index bytes (place + 2) ∷ slice_index bytes (place + 3) ∷ [])
 
--- the last four bytes of four to seven, without what the first four have too
+-- the prefix of four to seven bytes: the first four bytes, and the last four without the bytes that overlap
 pub of_some : (bytes : List ℕ) → AreBytes bytes → 4 ≤ length bytes → length bytes < 8 → prefix_of bytes ≡ four bytes 0 * 2 ^ 32 + (four bytes (length bytes - 4) * 2 ^ (64 - length bytes * 8)) % 2 ^ 32
 of_some [] are h l = absurd (omega arith)
 of_some (a ∷ []) are h l = absurd (omega arith)

@@ -1,4 +1,4 @@
--- The pairs of the rows are what the places give.
+-- The pairs of the rows are the pairs that the places contribute.
 use Rattle.std.proofs.Common.{◌≡◌, true, false, cond, List, [], ◌∷◌, map, filter, refl, ap, ◌∙◌, None}
 use Rattle.std.specs.List.{filter_map, cons_option}
 use Rattle.far_types.specs.declared.cell.Cell.{Cell}

@@ -43,7 +43,7 @@ key_in (Some (cell.Text text)) = Some (key.Text text)
 key_in (Some cell.Missing) = None
 key_in None = None
 
--- the cells of a row by column number: nothing if there is no such column. A row that is lent may lack columns that no reader needs
+-- the cells of a row by column number: nothing if there is no such column. A lent row may lack columns that its reader does not need
 abbrev pub Cells : Type 0
 Cells = ℕ → Option Cell
 

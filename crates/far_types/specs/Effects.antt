@@ -46,7 +46,7 @@ merge_two join None other = other
 merge_two join (Some value) None = Some value
 merge_two join (Some value) (Some other) = Some (join value other)
 
--- the keys of both, each with its values merged
+-- the keys of either map, each with its values merged
 abbrev pub joined : {V : Type 0} → (V → V → V) → ByKey V → ByKey V → ByKey V
 joined join one other =
     fin.from_entries (filter_map
@@ -54,7 +54,7 @@ joined join one other =
     (merge_two join (fin.get one key) (fin.get other key)))
     (fin.keys one ++ fin.keys other))
 
--- the sums of two counts and of two sums
+-- two counts added, and two sums added
 abbrev pub add_count_sums : ℕ × ℤ → ℕ × ℤ → ℕ × ℤ
 add_count_sums one other = (one.0 + other.0, one.1 +ℤ other.1)
 

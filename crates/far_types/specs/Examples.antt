@@ -51,7 +51,7 @@ ExactSum =
     (row (negsuc 9223372036854775807) a ∷ row (negsuc 9223372036854775807) a ∷ [])
     ≡ answer.Totals ((None, 2, negsuc 18446744073709551615) ∷ [])
 
--- extrema of 3, 3, 9; then with one 3, and then with none
+-- extrema of 3, 3, 9; then with one 3, and then without a 3
 abbrev pub LeastAndGreatest : Type 0
 LeastAndGreatest =
     (answer_over (of_column fold.Extrema None [])

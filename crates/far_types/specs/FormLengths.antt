@@ -11,10 +11,10 @@ mask_length values = cond (list_any is_none values) ((length values + 7) / 8) 0
 abbrev pub text_bytes : List (Option (List ℕ)) → ℕ
 text_bytes texts = sum_by (λ text. option_map_or length text 0) texts
 
--- how many bytes numbers have: a head of 6 bytes, the mask, and 8 bytes for each number
+-- how many bytes the far form of numbers has: a head of 6 bytes, the mask, and 8 bytes for each number
 abbrev pub ints_length : List (Option ℤ) → ℕ
 ints_length numbers = 6 + mask_length numbers + 8 * length numbers
 
--- how many bytes texts have: a head of 6 bytes, the mask, 4 bytes for the end of each text, and the bytes of the texts
+-- how many bytes the far form of texts has: a head of 6 bytes, the mask, 4 bytes for the end of each text, and the bytes of the texts
 abbrev pub texts_length : List (Option (List ℕ)) → ℕ
 texts_length texts = 6 + mask_length texts + 4 * length texts + text_bytes texts

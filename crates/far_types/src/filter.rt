@@ -246,7 +246,7 @@ impl Filter {
     pub fn keeps_cells<R: LendCells>(&self, row: &R) -> bool
         ensures { result ≡ keeps self.now (R.cells row.now) }
     {
-        // The empty filter has a check of its own, since a fold over numbers alone makes this check at each place.
+        // The empty filter has a check of its own, since a fold over numbers alone runs it at each place.
         if self.tests.is_empty() {
             return true;
         }
