@@ -20,7 +20,7 @@ copy-clean (Local at true h false) has clean = cc
 copy-clean (Local at false h false) has clean = let none : false ≡ true = has.2 in cc
 copy-clean Remote has clean = refl
 
--- an option that is the image of another
+-- if an option's image is Some y, the option is Some x, and y is the image of x
 pub mapped : {A B : Type 0} (f : A → B) (o : Option A) (y : B) → option_map f o ≡ Some y → (x : A) × (o ≡ Some x) × (f x ≡ y)
 mapped f None y is = cc
 mapped f (Some x) y is = let same : Some (f x) ≡ Some y = is in (x, refl, cc)

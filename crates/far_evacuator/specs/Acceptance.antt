@@ -8,24 +8,24 @@ use Rattle.far_evacuator.specs.declared.evacuation.EvacForm.TheVariants.{Dirty, 
 use Rattle.far_evacuator.specs.Jobs.{CarriedEvacuation, CarriedFetch}
 
 -- the bytes are a far form of object o: of its element type and its length
-abbrev pub IsFarForm : {X K : Type 0} → (List X → List ℕ → Type 0) → Movement X K → ℕ → List ℕ
-    → Type 0
+abbrev pub IsFarForm : {X K : Type 0} → (List X → List ℕ → Type 0) → Movement X K
+    → ℕ → List ℕ → Type 0
 IsFarForm {X} spelled m o bytes = IsSomeAnd (record_of m o)
     (λ object_record. (list : List X) × (length list ≡ object_record.len) × spelled list bytes)
 
 module _ {X K : Type 0} (number_of : K → ℕ) where
-  -- the newest far copy of object o has the same ticket number as this ticket
+  -- the ticket of object o's newest far copy has the same number as this ticket
   abbrev pub IsUnder : Movement X K → ℕ → K → Type 0
   IsUnder m o ticket = option_map number_of (ticket_of m o) ≡ Some (number_of ticket)
 
   module _ (spelling : List X → List ℕ) (m : Movement X K) where
-    -- object o is still what was carried: for a dirty object, the bytes spell its list; for one that was clean, it is clean and its ticket
-    -- has the same number
+    -- object o is still what was carried. If it was dirty, the bytes spell its list; if it was clean, it still is, and its ticket has the
+    -- same number
     abbrev pub IsStill : ℕ → K → EvacForm K → Type 0
     IsStill o ticket (Dirty bytes) = option_map spelling (list_in m.memory o) ≡ Some bytes
     IsStill o ticket (Clean own) = (dirty m o ≡ false) × IsUnder m o ticket
 
-    -- when a carried evacuation can be committed; it is accepted if the object has no pin either
+    -- when a carried evacuation can be committed; the commit also requires that the object has no pin
     pub record IsCommittable (carried : CarriedEvacuation K) : Type 0 where
       pub number : carried.job.number ≡ m.number
       pub local : is_local m carried.job.object ≡ true
@@ -35,7 +35,7 @@ module _ {X K : Type 0} (number_of : K → ℕ) where
       pub still : IsStill carried.job.object carried.ticket carried.job.form
 
   module _ (spelled : List X → List ℕ → Type 0) (m : Movement X K) where
-    -- when a carried fetch can be installed; it is accepted if a segment has space for it too
+    -- when a carried fetch can be installed; the install also needs space in a segment
     pub record IsInstallable (fetched : CarriedFetch K) : Type 0 where
       pub number : fetched.job.number ≡ m.number
       pub away : word_of m fetched.job.object ≡ Some Remote
@@ -44,9 +44,10 @@ module _ {X K : Type 0} (number_of : K → ℕ) where
       pub form : IsFarForm spelled m fetched.job.object fetched.bytes
 
 -- what the end of a job on object o leaves unchanged: every list, and the word and the record of every other object. If each clean object's
--- list was what its ticket means, it still is. Each ticket is of the store with this id
+-- list was what its ticket means, each still is. Every object's ticket is of the store with this id
 pub record LeavesRest {X K : Type 0} (meaning : List ℕ → List X) (content : K → List ℕ)
-    (is_of : K → List ℕ → Type 0) (id : List ℕ) (old new : Movement X K) (o : ℕ) : Type 0 where
+    (is_of : K → List ℕ → Type 0) (id : List ℕ)
+    (old new : Movement X K) (o : ℕ) : Type 0 where
   pub lists : (p : ℕ) → list_of meaning content new p ≡ list_of meaning content old p
   pub others : ChangesObject old new o
   pub clean : AreClean meaning content old → AreClean meaning content new

@@ -14,7 +14,7 @@ use Rattle.far_evacuator.specs.declared.evacuation.EvacForm.TheVariants.{Dirty, 
 use Rattle.far_evacuator.specs.Jobs.{Evacuation, Fetch}
 
 module _ {X K : Type 0} (spelling : List X → List ℕ) (m : Movement X K) (o : ℕ) where
-  -- what an evacuation of object o sends: the spelling of its list if it is dirty, its ticket if it is clean
+  -- the form in an evacuation of object o: the spelling of its list if it is dirty, its ticket if it is clean
   abbrev pub IsObjectForm : EvacForm K → Type 0
   IsObjectForm (Dirty bytes) = (dirty m o ≡ true)
       × (option_map spelling (list_in m.memory o) ≡ Some bytes)
@@ -29,7 +29,7 @@ module _ {X K : Type 0} (spelling : List X → List ℕ) (m : Movement X K) (o :
     pub form : IsObjectForm job.form
 
 module _ {X K : Type 0} (m : Movement X K) where
-  -- a named object has a number that is in use
+  -- if an object is named, its number is in use
   abbrev pub IsWanted : Want → Type 0
   IsWanted (Object o) = o < length m.records
   IsWanted Coldest = Unit {0}
@@ -51,6 +51,6 @@ module _ {X K : Type 0} (m : Movement X K) where
     pub leavings : job.leavings ≡ leavings_of m o
     pub ticket : ticket_of m o ≡ Some job.ticket
 
-  -- a fetch of a local object is refused
+  -- why no fetch begins: the object is local
   abbrev pub fetch_refusal : ℕ → Option Refusal
   fetch_refusal o = first_of ((is_local m o, refusal.StaleJob) ∷ [])

@@ -1,9 +1,9 @@
--- Jobs: what they assume and what they own.
+-- Evacuations and fetches: what these jobs assume and what they own.
 use Rattle.std.specs.Prelude.{◌≡◌, ℕ, List, Option, None, Some}
 use Rattle.far_evacuator.specs.declared.evacuation.EvacForm.{EvacForm}
 use Rattle.far_evacuator.specs.declared.evacuation.EvacForm.TheVariants.{Dirty, Clean}
 
--- an evacuation that was begun: the frame's number, the object, its counts of writes and leavings at that time, and its far form or ticket
+-- an evacuation that was begun: the frame's number, the object, its counts of writes and evictions then, and its far form or ticket
 pub record Evacuation (K : Type 0) : Type 0 where
   pub number : ℕ
   pub object : ℕ
@@ -16,7 +16,7 @@ pub record CarriedEvacuation (K : Type 0) : Type 0 where
   pub job : Evacuation K
   pub ticket : K
 
--- a fetch that was begun: the frame's number, the object, its count of leavings at that time, and its ticket
+-- a fetch that was begun: the frame's number, the object, its count of evictions then, and its ticket
 pub record Fetch (K : Type 0) : Type 0 where
   pub number : ℕ
   pub object : ℕ
@@ -28,18 +28,19 @@ pub record CarriedFetch (K : Type 0) : Type 0 where
   pub job : Fetch K
   pub bytes : List ℕ
 
--- the bytes that are to be put, if any are, spell some list
-abbrev pub IsSpelledForm : {X K : Type 0} → (List X → List ℕ → Type 0) → EvacForm K → Type 0
+-- the bytes to be put, if there are any, spell some list
+abbrev pub IsSpelledForm : {X K : Type 0} → (List X → List ℕ → Type 0)
+    → EvacForm K → Type 0
 IsSpelledForm {X} spelled (Dirty bytes) = (list : List X) × spelled list bytes
 IsSpelledForm spelled (Clean ticket) = Unit {0}
 
 module _ {K : Type 0} where
-  -- the job puts a form: its object was dirty
+  -- the job puts a far form, because its object was dirty
   abbrev pub IsDirtyForm : EvacForm K → Type 0
   IsDirtyForm (Dirty bytes) = Unit {0}
   IsDirtyForm (Clean ticket) = ⊥
 
-  -- this ticket, if the job puts a form
+  -- this ticket, if the job puts a far form
   abbrev pub if_put : EvacForm K → K → Option K
   if_put (Dirty bytes) ticket = Some ticket
   if_put (Clean own) ticket = None
@@ -48,12 +49,12 @@ module _ {K : Type 0} where
   abbrev pub put_ticket : CarriedEvacuation K → Option K
   put_ticket carried = if_put carried.job.form carried.ticket
 
-  -- the far store has the job's form under this ticket: its content is the bytes that were put, or it is the clean object's own ticket
+  -- the ticket is of the job's far form: its content is the bytes of a dirty object, or it is a clean object's own ticket
   abbrev pub IsFormTicket : (K → List ℕ) → EvacForm K → K → Type 0
   IsFormTicket content (Dirty bytes) ticket = content ticket ≡ bytes
   IsFormTicket content (Clean own) ticket = ticket ≡ own
 
-  -- the clean object's ticket is of the store with this id
+  -- if the object was clean, its ticket is of the store with this id
   abbrev pub IsFormOf : (K → List ℕ → Type 0) → List ℕ → EvacForm K → Type 0
   IsFormOf is_of id (Dirty bytes) = Unit {0}
   IsFormOf is_of id (Clean own) = is_of own id

@@ -24,8 +24,8 @@ use std::marker::PhantomData;
 pub enum Want {
     /// The object with this number.
     Object(u32),
-    /// The eviction victim: the least recently used object that is neither pinned nor hot. If there is none, it is the least recently used
-    /// of all without pins.
+    /// The eviction victim: the least recently used object that is neither pinned nor hot. If there is none, the victim is the least
+    /// recently used object without a pin.
     Coldest,
 }
 
@@ -79,7 +79,8 @@ fn chosen<T: Elem, S: FarTickets>(objects: &Objects<T, S>, want: Want) -> Result
         (IsSpelled T.in_range T.has_spelling T.spelling) objects.now }
     ensures taken { IfOk result (λ o. wanted_object objects.now want ≡ Some o) }
     ensures within { IfOk result (λ o. o < length objects.now.records) }
-    ensures local { IfOk result (λ o. begin_refusal objects.now want ≡ lend_refusal objects.now o) }
+    ensures local { IfOk result
+        (λ o. begin_refusal objects.now want ≡ lend_refusal objects.now o) }
     ensures refused { IfErr result (λ e. (begin_refusal objects.now want ≡ Some e)) }
 {
     match want {

@@ -13,8 +13,8 @@ use far_scopes::Objects;
 use far_store::FarTickets;
 use far_types::Refusal;
 
-/// Ends an evacuation whose far form was carried: sends the object away. The caller keeps the carried evacuation, but a second commit of it
-/// is refused. Allocates nothing.
+/// Ends a carried evacuation: evicts the object. The caller keeps the carried evacuation, but a second commit of it is refused. Allocates
+/// nothing.
 ///
 /// A refused commit changes nothing. Refused with:
 /// - `StaleJob` (20) exactly if the job's assumptions no longer hold (`IsCommittable`);
@@ -22,8 +22,8 @@ use far_types::Refusal;
 ///
 /// The job is stale if it was begun on other objects, or if the object:
 /// - is away;
-/// - was written or sent away since;
-/// - has used up its leavings;
+/// - was written or evicted since;
+/// - was evicted as often as the limit allows;
 /// - differs from what was carried.
 pub fn commit<T: Elem, S: FarTickets>(
     objects: &mut Objects<T, S>,

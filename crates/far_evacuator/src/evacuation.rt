@@ -11,7 +11,7 @@ use far_types::Refusal;
 use std::alloc::Global;
 use std::marker::{Model, PhantomData};
 
-/// What an evacuation sends to the far store.
+/// The far form of an evacuation's object, or its ticket if the far store already has the form.
 #[derive(Drop)]
 pub enum EvacForm<K> {
     /// The far form of a dirty object, to be put into the far store.
@@ -20,12 +20,12 @@ pub enum EvacForm<K> {
     Clean(K),
 }
 
-/// An evacuation that was begun: the frame's number, the object, its counts of writes and leavings at that time, and its far form. It
-/// borrows nothing, so any thread can carry it.
+/// An evacuation that was begun: the frame's number, the object, its counts of writes (`version`) and evictions (`leavings`) at that time,
+/// and its far form. It borrows nothing, so any thread can carry it.
 ///
 /// A refused carry returns the job, so that it can be carried again.
 ///
-/// Not writing an object again that has a good far copy is AIFM's idea (OSDI 2020, section 5). The phases are this project's own.
+/// Not writing an object again while its far copy is valid is AIFM's idea (OSDI 2020, section 5). The phases are this project's own.
 #[derive(Drop)]
 pub struct EvacJob<T: Elem, S: FarTickets> {
     pub(crate) number: u32,
@@ -74,7 +74,7 @@ impl<T: Elem, S: FarTickets> Model for Carried<T, S> {
 impl<T: Elem, S: FarStore> EvacJob<T, S> {
     /// Puts the job's far form into the store. A job on a clean object does not call the store, and is never refused.
     ///
-    /// A refused carry returns the whole job too. Refused with:
+    /// A refused carry also returns the job, unchanged. Refused with:
     /// - `FarFault` (21) if the store fails in this call. Only then does the meter rise, by one;
     /// - `FarFull` (22);
     /// - `NoMemory` (1).
@@ -100,7 +100,7 @@ impl<T: Elem, S: FarStore> EvacJob<T, S> {
         }
     }
 
-    // Returns the ticket of the form. Puts the form if it is a dirty object's.
+    // Returns the ticket of the job's far form. Puts the form if the object was dirty.
     fn put(&self, alloc: Global, store: &S, meter: &mut Meter) -> Result<S::Ticket, Refusal>
         requires few { meter.old < 2 ^ 63 }
         requires here { IsFormOf S.is_of (S.store_id store.now) self.now.form }
@@ -118,8 +118,8 @@ impl<T: Elem, S: FarStore> EvacJob<T, S> {
 }
 
 impl<T: Elem, S: FarTickets> Carried<T, S> {
-    /// Returns the number of the ticket that the job's far form got, and borrows the bytes of the form. `None` exactly if the job was
-    /// begun on a clean object, whose far form the store already had. Allocates nothing.
+    /// Returns the ticket's number and the bytes of the far form that the job put. Returns `None` exactly if the job was begun on a clean
+    /// object, whose far form the store already had. Allocates nothing.
     pub fn outgoing(&self, store: &S) -> Option<(u64, &[u8])>
         requires here { S.is_of self.now.ticket (S.store_id store.now) }
         ensures number { option_map (λ out. out.0) result

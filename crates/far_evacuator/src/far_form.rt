@@ -1,7 +1,7 @@
 // Far forms that jobs hold.
 use std::marker::Model;
 
-/// The far form of a list, as a job owns it. Contracts see its bytes.
+/// The far form of a list, owned by a job. Contracts see its bytes.
 #[derive(Drop)]
 pub struct FarForm {
     pub(crate) bytes: Vec<u8>,

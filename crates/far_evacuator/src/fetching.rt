@@ -7,8 +7,8 @@ use far_types::Refusal;
 use std::alloc::Global;
 use std::marker::Model;
 
-/// A fetch that was begun: the frame's number, the object, its count of leavings at that time, and its ticket. It borrows nothing, so any
-/// thread can carry it.
+/// A fetch that was begun: the frame's number, the object, its count of evictions at that time (`leavings`), and its ticket. It borrows
+/// nothing, so any thread can carry it.
 #[derive(Drop)]
 pub struct FetchJob<S: FarTickets> {
     pub(crate) number: u32,
@@ -69,7 +69,7 @@ impl<S: FarTickets> Fetched<S> {
 impl<S: FarRead> FetchJob<S> {
     /// Reads the content of the job's ticket.
     ///
-    /// A refused carry returns the whole job too. Refused with:
+    /// A refused carry also returns the job, unchanged. Refused with:
     /// - `FarFault` (21) if the store fails in this call. Only then does the meter rise, by one;
     /// - `NoMemory` (1).
     pub fn carry(

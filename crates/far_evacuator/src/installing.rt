@@ -15,7 +15,7 @@ use far_store::FarTickets;
 use far_types::Refusal;
 use std::alloc::Global;
 
-/// Ends a fetch whose far form was read: brings the object back. The caller keeps the fetched bytes, but a second install of them is
+/// Ends a carried fetch: decodes the object into local memory. The caller keeps the fetched bytes, but a second install of them is
 /// refused.
 ///
 /// A refused install changes nothing. Refused with:
@@ -23,7 +23,7 @@ use std::alloc::Global;
 /// - else `RegionFull` (17) exactly if no segment has the space;
 /// - else only `NoMemory` (1).
 ///
-/// The job is stale if it was begun on other objects, or if the object is local or was sent away again since.
+/// The job is stale if it was begun on other objects, or if the object is local or was evicted again since.
 pub fn install<T: Elem, S: FarTickets>(
     alloc: Global,
     objects: &mut Objects<T, S>,
@@ -38,15 +38,16 @@ pub fn install<T: Elem, S: FarTickets>(
     ensures accepted { OnOk result (IsInstallable S.number_of
         (IsSpelled T.in_range T.has_spelling T.spelling) objects.old fetched.now) }
     ensures stale { IsErrOf result Refusal.StaleJob
-        ↔ (¬ IsInstallable S.number_of (IsSpelled T.in_range T.has_spelling T.spelling) objects.old
-        fetched.now) }
+        ↔ (¬ IsInstallable S.number_of (IsSpelled T.in_range T.has_spelling T.spelling)
+        objects.old fetched.now) }
     ensures full { IsErrOf result Refusal.RegionFull
         ↔ (IsInstallable S.number_of (IsSpelled T.in_range T.has_spelling T.spelling) objects.old
         fetched.now
         × IsSomeAnd (list_of T.meaning S.content objects.old fetched.now.job.object)
         (λ list. fits_in objects.old.memory.state (length list) ≡ false)) }
     ensures refused { IfErr result
-        (λ e. (e ≡ Refusal.StaleJob) ⊎ ((e ≡ Refusal.RegionFull) ⊎ (e ≡ Refusal.NoMemory))) }
+        (λ e. (e ≡ Refusal.StaleJob)
+        ⊎ ((e ≡ Refusal.RegionFull) ⊎ (e ≡ Refusal.NoMemory))) }
     ensures rest { LeavesRest T.meaning S.content S.is_of (S.store_id store.now) objects.old
         objects.new fetched.now.job.object }
     ensures err { OnErr result (objects.new ≡ objects.old) }
@@ -63,11 +64,11 @@ pub fn install<T: Elem, S: FarTickets>(
     objects.arrive(o, &list)
 }
 
-// Decodes the list of `len` elements whose far form these bytes are. Refused with `StaleJob` (20) if they are no such form, else only with
+// Decodes the bytes, if they are the far form of a list of `len` elements. Refused with `StaleJob` (20) if they are not, else only with
 // `NoMemory` (1).
 //
-// `install` meets no other bytes, since the content of an object's ticket is its form. Only a store whose contents change could break that.
-// So this function requires nothing of the bytes, and refuses those that are no such form.
+// `install` passes only such bytes, since the content of an object's ticket is its far form. Only a store whose contents change could break
+// that rule. So this function requires nothing of the bytes, and refuses all others.
 fn read_form<T: Elem>(alloc: Global, bytes: &[u8], len: usize) -> Result<Vec<T>, Refusal>
     ensures list { IfOk result (λ list. (length list.items ≡ len)
         × IsSpelled T.in_range T.has_spelling T.spelling list.items bytes.now) }

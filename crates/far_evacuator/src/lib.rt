@@ -1,6 +1,6 @@
 #![tactic(auto)]
-//! Eviction and fetching in three phases: a job is begun, carried, and then accepted or found stale. Only the carry takes long. It reads
-//! no object, so others use the objects meanwhile.
+//! Eviction and fetching in three phases: a job is begun, carried, and then accepted or found stale. Only carrying takes long. It reads no
+//! object, so other calls can use the objects meanwhile.
 
 mod beginning;
 mod committing;

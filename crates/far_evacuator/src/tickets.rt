@@ -8,8 +8,7 @@ use far_codec::Elem;
 use far_scopes::Objects;
 use far_store::FarTickets;
 
-/// Returns whether an object's newest far copy has the same ticket number as this ticket. Allocates
-/// nothing.
+/// Returns whether the ticket of an object's newest far copy has the same number as this ticket. Allocates nothing.
 pub(crate) fn is_under<T: Elem, S: FarTickets>(
     objects: &Objects<T, S>,
     store: &S,

@@ -4,7 +4,7 @@ use Rattle.far_pointer.specs.declared.pointer.At.{At}
 use Rattle.far_pointer.specs.declared.pointer.Pointer.{Pointer}
 use Rattle.far_pointer.specs.declared.pointer.Pointer.TheVariants.{Local, Remote}
 
--- the value of bit k, if the fact is true, else 0
+-- the value of bit k if the fact is true, else 0
 abbrev pub bit_if : Bool → ℕ → ℕ
 bit_if fact k = if fact then 2 ^ k else 0
 

@@ -27,7 +27,7 @@ pub record IsWord (n : ℕ) : Type 0 where
   pub spelled : bits_of (pointer_of n) ≡ n
   pub says : HasWord (pointer_of n)
 
--- encoding the pointer that a word encodes returns the word
+-- encoding the pointer that a valid word encodes returns that word
 pub inside-spelled : (a : Inside) → IsWord a.bits
     → record { bits = bits_of (pointer_of a.bits) } ≡ a
 inside-spelled a h = ap (λ (n : ℕ). let i : Inside = record { bits = n } in i) h.spelled

@@ -14,11 +14,11 @@ pub struct At {
 pub enum Pointer {
     /// The object is in local memory.
     Local {
-        /// Where it begins.
+        /// Where its elements begin.
         at: At,
-        /// It was changed since its far copy was written.
+        /// It was changed since its far copy was written, or has no far copy.
         dirty: bool,
-        /// It was used since the bit was last cleared: the reference bit.
+        /// It was used since this bit, the reference bit, was last cleared.
         hot: bool,
         /// The far store has a copy of it.
         far: bool,

@@ -6,7 +6,7 @@ ghost use Rattle.far_pointer.specs.Layout.{bits_of};
 use super::pointer::{At, Pointer};
 use std::marker::Model;
 
-// The bits that carry one fact each, counted from the lowest.
+// The flags, by the numbers of their bits, counted from the lowest bit.
 const PRESENT: u32 = 63;
 
 const DIRTY: u32 = 62;
@@ -20,7 +20,7 @@ const SPARE: u32 = 48;
 
 const SEGMENT: u32 = 32;
 
-// The one word that is not local.
+// The word of every remote object.
 const REMOTE: u64 = 1 << FAR;
 
 /// A pointer word: 64 bits that say where an object's elements are and what state they are in. Contracts see the `Pointer` that it
@@ -38,7 +38,7 @@ const REMOTE: u64 = 1 << FAR;
 ///
 /// A local word is dirty, or has a far copy, or both. A remote word has only bit 60.
 ///
-/// A clean object that is not hot is moved, used and written, and its word follows:
+/// Follows the word of a clean object that is moved, used and written:
 ///
 /// ```
 /// fn changes_part_by_part() -> bool {
@@ -60,7 +60,7 @@ const REMOTE: u64 = 1 << FAR;
 /// }
 /// ```
 ///
-/// After the remoteable pointer of AIFM (Ruan et al., OSDI 2020), which also has flags and address in one word.
+/// Modelled on the remoteable pointer of AIFM (Ruan et al., OSDI 2020), which also keeps flags and address in one word.
 #[derive(Clone, Copy, Debug, PartialEq, Eq)]
 pub struct Word {
     bits: u64,
@@ -88,9 +88,10 @@ impl Word {
     ghost use Rattle.far_pointer.specs.Layout.{bits_of, HasWord, is_dirty, is_hot, with_dirty, with_hot, with_at};
 
     /// Makes the word of a local object. Returns `None` exactly if the object is neither dirty nor has a far copy. No object is in such a
-    /// state, since a clean one equals its far copy.
+    /// state, since a clean object equals its far copy.
     pub fn local(at: At, dirty: bool, hot: bool, far: bool) -> Option<Word>
-        ensures { result ≡ (if dirty || far then Some (Pointer.Local at dirty hot far) else None) }
+        ensures { result
+            ≡ (if dirty || far then Some (Pointer.Local at dirty hot far) else None) }
     {
         if dirty || far {
             Some(Word {
@@ -149,7 +150,7 @@ impl Word {
         }
     }
 
-    /// Returns whether the object is local and was changed since its far copy was written.
+    /// Returns whether the object is local and dirty: changed since its far copy was written, or without a far copy.
     pub fn dirty(&self) -> bool
         ensures { result ≡ is_dirty self.now }
     {
@@ -163,7 +164,7 @@ impl Word {
         is_set(self.bits, HOT)
     }
 
-    /// Returns the word with the dirty bit set, otherwise unchanged. A remote word stays as it is.
+    /// Returns the word with the dirty bit set, otherwise unchanged. A remote word is returned unchanged.
     pub fn with_dirty(self) -> Word
         ensures { result ≡ with_dirty self }
     {
@@ -175,7 +176,7 @@ impl Word {
         }
     }
 
-    /// Returns the word with this hot bit, otherwise unchanged. A remote word stays as it is.
+    /// Returns the word with this hot bit, otherwise unchanged. A remote word is returned unchanged.
     pub fn with_hot(self, hot: bool) -> Word
         ensures { result ≡ with_hot self hot }
     {
@@ -187,7 +188,7 @@ impl Word {
         }
     }
 
-    /// Returns the word with another location, otherwise unchanged. A remote word stays as it is.
+    /// Returns the word with this location, otherwise unchanged. A remote word is returned unchanged.
     pub fn with_at(self, at: At) -> Word
         ensures { result ≡ with_at self at }
     {

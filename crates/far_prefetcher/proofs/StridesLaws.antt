@@ -23,7 +23,7 @@ module _ {X : Type 0} where
   from_back-within : (xs : List X) (k : ℕ) (x : X) → from_back xs k ≡ Some x → k < length xs
   from_back-within xs k x h = grind (arith, nat_tests)
 
-  -- it is the item at this index
+  -- the item that is k before the last one is at this index
   from_back-get : (xs : List X) (k : ℕ) (x : X) → from_back xs k ≡ Some x → slice_get xs (length xs - k - 1) ≡ Some x
   from_back-get xs k x h = grind (arith, nat_tests)
 
@@ -57,7 +57,7 @@ as_four (a ∷ b ∷ c ∷ []) h = absurd (omega arith)
 as_four (a ∷ b ∷ c ∷ d ∷ []) h = refl
 as_four (a ∷ b ∷ c ∷ d ∷ e ∷ es) h = absurd (omega arith)
 
--- the proposals by the last four groups, read one by one
+-- the proposals, written with the last four groups one by one
 pub proposed_by_four :
     (groups : ℕ) (history four : List ℕ) → 4 ≤ length history → keep_last 4 history ≡ four
     → proposed groups history ≡ (if is_stride (difference (get_or four 0 0) (get_or four 1 0)) (difference (get_or four 1 0) (get_or four 2 0)) (difference (get_or four 2 0) (get_or four 3 0)) then next_two groups (get_or four 2 0) (get_or four 3 0) else [])

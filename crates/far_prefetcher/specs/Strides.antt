@@ -3,7 +3,7 @@ use Rattle.std.specs.Prelude.{ℕ, Bool, ℤ, pos, negsuc, ◌+ℤ◌, ◌-ℤ�
 use Rattle.std.specs.Ordering.{int_eq}
 use Rattle.circular_buffer.specs.Buffer.{keep_last}
 
--- the history of a column
+-- the history of a column, empty if there is no such column
 abbrev pub history_of : List (List ℕ) → ℕ → List ℕ
 history_of histories column = slice_index_or histories column []
 
@@ -26,13 +26,14 @@ abbrev pub existing : ℕ → ℤ → Option ℕ
 existing groups (pos group) = if nat_lt group groups then Some group else None
 existing groups (negsuc below) = None
 
--- the next two groups of a stride, without those that do not exist. The step is the distance between the last two groups
+-- the next two groups of a stride, without those that do not exist. The stride is the distance between the last two groups
 abbrev pub next_two : ℕ → ℕ → ℕ → List ℕ
 next_two groups before last =
     let stride = difference before last
-    in filter_map (existing groups) ((pos last +ℤ stride) ∷ (pos last +ℤ stride +ℤ stride) ∷ [])
+    in filter_map (existing groups)
+    ((pos last +ℤ stride) ∷ (pos last +ℤ stride +ℤ stride) ∷ [])
 
--- the proposals after four groups, oldest first: the next two of their stride if they have one, else none
+-- the proposals after accesses to four groups, oldest first: the next two groups of their stride, if they have one
 abbrev pub proposed_after : ℕ → List ℕ → List ℕ
 proposed_after groups (a ∷ b ∷ c ∷ d ∷ []) =
     if is_stride (difference a b) (difference b c) (difference c d) then next_two groups c d else []

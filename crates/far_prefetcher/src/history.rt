@@ -30,7 +30,7 @@ impl Model for History {
 }
 
 impl History {
-    /// Makes an empty history with its full capacity. Refused only with `NoMemory` (1).
+    /// Makes an empty history, and allocates all its memory. Refused only with `NoMemory` (1).
     pub fn new(alloc: Global) -> Result<History, Refusal>
         ensures empty { IfOk result (λ history. history ≡ []) }
         ensures memory { IfErr result (λ e. e ≡ Refusal.NoMemory) }
@@ -39,15 +39,15 @@ impl History {
         Ok(History { groups })
     }
 
-    /// Records an access to a group, and forgets the oldest if there are 8. Allocates nothing.
+    /// Records an access to a group, and forgets the oldest access if there are 8. Allocates nothing.
     pub fn saw(&mut self, group: u32)
         ensures { self.new ≡ with_access self.old group }
     {
         self.groups.push_back(group);
     }
 
-    /// Returns the row groups below `groups` that continue the stride of the last four accesses; none if these have no
-    /// stride. Refused only with `NoMemory` (1).
+    /// Returns the next two row groups in the stride of the last four accesses, without those that are not below `groups`.
+    /// Returns none if there is no stride. Refused only with `NoMemory` (1).
     #[tactic(auto, using(crate::proofs::StridesLaws::proposed_by_four))]
     pub fn proposals(&self, alloc: Global, groups: u32) -> Result<Vec<u32>, Refusal>
         ensures found { IfOk result (λ proposals. proposals.items ≡ proposed groups self.now) }

@@ -7,8 +7,8 @@ use far_types::Refusal;
 use std::alloc::Global;
 use std::marker::Model;
 
-/// The recent accesses to each column, from which it proposes what to fetch next. Contracts see one list for each column:
-/// the numbers of the last 8 row groups that were accessed, oldest first.
+/// Records the recent accesses to each column, and proposes which row groups to fetch next. Contracts see one list for each
+/// column: the numbers of the last 8 row groups that were accessed, oldest first.
 ///
 /// Records accesses to row groups of the first of three columns:
 ///
@@ -24,7 +24,7 @@ use std::marker::Model;
 /// }
 /// ```
 ///
-/// After the prefetcher of AIFM (Ruan et al., OSDI 2020), which proposes from a window of recent accesses too.
+/// Modelled on the prefetcher of AIFM (Ruan et al., OSDI 2020), which also proposes from a window of recent accesses.
 #[derive(Drop)]
 pub struct Prefetcher {
     histories: Vec<History>,
@@ -39,7 +39,8 @@ impl Model for Prefetcher {
 }
 
 impl Prefetcher {
-    /// Makes a prefetcher for `columns` columns without accesses, with its full capacity. Refused only with `NoMemory` (1).
+    /// Makes a prefetcher for `columns` columns without accesses, and allocates all its memory. Refused only with
+    /// `NoMemory` (1).
     pub fn new(alloc: Global, columns: u32) -> Result<Prefetcher, Refusal>
         ensures empty { IfOk result (λ prefetcher. prefetcher ≡ replicate columns []) }
         ensures memory { IfErr result (λ e. e ≡ Refusal.NoMemory) }
@@ -51,8 +52,8 @@ impl Prefetcher {
         Ok(Prefetcher { histories })
     }
 
-    /// Records that a row group of a column was read, and forgets the oldest if there are 8. Does nothing if there is no
-    /// such column. Allocates nothing.
+    /// Records that a row group of a column was read, and forgets the column's oldest access if there are 8. Does nothing
+    /// if there is no such column. Allocates nothing.
     pub fn saw(&mut self, column: u32, group: u32)
         ensures { self.new
             ≡ slice_set self.old column (with_access (history_of self.old column) group) }
@@ -64,8 +65,8 @@ impl Prefetcher {
 
     /// Returns the row groups of a column to fetch next, all below `groups`. Refused only with `NoMemory` (1).
     ///
-    /// If the last four accesses have three equal differences other than 0, that is their stride. Returns the next two
-    /// groups of the stride, without those that do not exist, and none if there is no stride.
+    /// If the last four accesses have three equal differences other than 0, this difference is their stride. Returns the
+    /// next two groups of the stride, without those that do not exist. Returns none if there is no stride.
     pub fn proposals(&self, alloc: Global, column: u32, groups: u32) -> Result<Vec<u32>, Refusal>
         ensures found { IfOk result
             (λ proposals. proposals.items ≡ proposed groups (history_of self.now column)) }

@@ -10,8 +10,7 @@ pub is-of : {T : Type 0} (shelves : Shelves) (place : Where T) → Shows shelves
 is-of shelves place shows = shows
     ∙ sym (get_or-map (λ bucket. bucket.id) shelves.buckets place.bucket record { id = 0; tag = [] })
 
--- a call that returns a ticket unchanged, and only if its number is below the capacity, returns a
--- ticket of the store
+-- a call that returns a ticket unchanged, and only if its number is below the capacity, returns a ticket of the store
 pub of-store : {T E : Type 0} (store : StoreState) (result : Result (Where T) E) (ticket : Where T)
     → IfOk result (λ kept. kept.index < store.capacity)
     → IfOk result (λ kept. kept ≡ ticket)

@@ -14,12 +14,12 @@ abbrev pub faults_in : {A : Type 0} → Result A Refusal → ℕ
 faults_in (Ok x) = 0
 faults_in (Err refusal) = faults_of refusal
 
--- the result of a call that returns its job when it is refused, without that job
+-- a call's result, without the job that a refused call returns
 abbrev pub outcome : {A J : Type 0} → Result A (Refusal × J) → Result A Refusal
 outcome (Ok done) = Ok done
 outcome (Err refused) = Err refused.0
 
--- a refusal of the call has one of these numbers
+-- the call is refused only with one of these numbers
 abbrev pub RefusedBy : {A : Type 0} → List ℕ → Result A Refusal → Type 0
 RefusedBy numbers result = IfErr result
     (λ refusal. IsTrue (list_any (λ number. number == number_of refusal) numbers))

@@ -12,12 +12,12 @@ use std::alloc::Global;
 use std::marker::Model;
 use std::sync::Wait;
 
-/// A far store in this process, over a vector that only grows and that threads share without a lock. It never fails. Contracts see its
-/// id and its capacity.
+/// A far store in this process, over a vector that only grows and that threads share without a lock. It never returns `FarFault` (21).
+/// Contracts see its id and its capacity.
 ///
-/// Reading never waits. A `put` may wait while another thread allocates the space for the next contents.
+/// A `get` never waits. A `put` may wait while another thread allocates the space for the next contents.
 ///
-/// Bytes that are put into any store are read back:
+/// Puts bytes into any store, and reads them back:
 ///
 /// ```
 /// pub fn round_trip<S: FarStore>(store: &S, alloc: Global, bytes: &[u8]) -> Result<Vec<u8>, Refusal>
@@ -49,8 +49,8 @@ impl<R> Model for AgentStore<R> {
 }
 
 impl<R: Drop> AgentStore<R> {
-    /// Makes an empty store that gives out the numbers below `capacity`. It keeps `rt`, by which a put may wait. Refused only with
-    /// `NoMemory` (1).
+    /// Makes an empty store that gives out the numbers below `capacity`. It keeps the runtime `rt`, with which a put may wait. Refused only
+    /// with `NoMemory` (1).
     pub fn new(rt: R, alloc: Global, capacity: u64) -> Result<AgentStore<R>, Refusal>
         ensures capacity { IfOk result (λ s. s.capacity ≡ capacity) }
         ensures memory { IfErr result (λ e. e ≡ Refusal.NoMemory) }
@@ -127,7 +127,7 @@ impl<R: Sync + Drop + Wait> FarStore for AgentStore<R> {
         ensures faultless { meter.new ≡ meter.old }
         ensures refused { RefusedBy (22 ∷ 1 ∷ []) result }
     {
-        // A full vector takes no more, so a put that is refused again and again allocates nothing.
+        // The count is tested before the copy is made, so that repeated puts into a full store allocate nothing.
         if self.contents.count() as u64 >= self.capacity {
             return Err(Refusal::FarFull);
         }

@@ -32,14 +32,14 @@ impl Model for ByteLog {
     ghost view = { λ log. map (λ slot. slot.id) log.slots.items };
 }
 
-/// The place of a write in a log, and a token for each of its bytes. Tokens have no bytes at run time.
+/// The key of a write: its offset in the log, and a token for each of its bytes. Tokens take no space at run time.
 #[derive(Drop)]
 pub struct LogKey {
     offset: usize,
     written: Vec<Written<u8>>,
 }
 
-/// The log has too little space for a write.
+/// The error of a write that does not fit into the log.
 #[derive(Drop, Debug)]
 pub struct LogFull;
 
@@ -83,7 +83,7 @@ impl ByteLog {
         self.slots.len()
     }
 
-    /// Returns how many bytes are in use, including those of writes under way. Allocates nothing.
+    /// Returns how many bytes are in use, including the bytes of writes under way. Allocates nothing.
     pub fn used(&self) -> usize
         ensures { result ≤ length self.now }
     {
@@ -133,8 +133,8 @@ fn end_of(offset: usize, count: usize, size: usize) -> Option<usize>
     offset.checked_add(count).filter(|end| *end <= size)
 }
 
-// Returns element `n` of a list. Generic, since the compiler does not index elements that it knows to have no bytes, such
-// as tokens.
+// Returns element `n` of a list. It is generic because the compiler does not index elements that it knows to be zero-sized,
+// such as tokens.
 fn nth<T>(list: &Vec<T>, n: usize) -> &T
     requires { n < length list.now.items }
     ensures { slice_get list.now.items n ≡ Some result.now }

@@ -9,14 +9,14 @@ use std::alloc::Global;
 
 /// A far store whose contents the calling program keeps, and delivers before they are read.
 ///
-/// A get reads what was delivered for its ticket, and fails with a fault if nothing was. The store trusts nobody: it compares what is
-/// delivered with what it noted at the put.
+/// A `get` reads the bytes that were delivered for its ticket, and returns `FarFault` (21) if none were. The store compares each delivery
+/// with what it noted when the content was put.
 pub trait FarDelivery: FarStore {
-    /// These bytes match what the store noted of a ticket's content, such as their length and their digest.
+    /// The bytes match what the store noted of the ticket's content, such as its length and its digest.
     ghost matches: { Self.Ticket → List ℕ → Type 0 };
 
-    /// Takes the bytes that were kept for a ticket, for the gets that follow. They replace an earlier delivery for it. A refused delivery
-    /// changes nothing. Refused with:
+    /// Stores the bytes of a ticket's content for later gets, in place of an earlier delivery. A refused delivery changes nothing. It is
+    /// assumed that bytes which match are the bytes that were put (`no_collision`). Refused with:
     /// - `FarFault` (21) if the bytes do not match what the store noted of the ticket's content;
     /// - `NoMemory` (1).
     fn deliver(
@@ -33,17 +33,18 @@ pub trait FarDelivery: FarStore {
         ensures same { Self.store_id self.new ≡ Self.store_id self.old }
         ensures capacity { Self.capacity_of self.new ≡ Self.capacity_of self.old }
         ensures content { OnOk result (bytes.now ≡ Self.content ticket.now) }
-        ensures other { IsErrOf result Refusal.FarFault ↔ (Self.matches ticket.now bytes.now → ⊥) }
+        ensures other { IsErrOf result Refusal.FarFault
+            ↔ (Self.matches ticket.now bytes.now → ⊥) }
         ensures faults { meter.new ≡ meter.old + faults_in result }
         ensures refused { RefusedBy (21 ∷ 1 ∷ []) result };
 
-    /// Drops what was delivered for a ticket, if anything was. Allocates nothing.
+    /// Drops the bytes that were delivered for a ticket, if any. Allocates nothing.
     fn forget(&mut self, ticket: &Self::Ticket)
         requires { Self.is_of ticket.now (Self.store_id self.old) }
         ensures same { Self.store_id self.new ≡ Self.store_id self.old }
         ensures capacity { Self.capacity_of self.new ≡ Self.capacity_of self.old };
 
-    /// Drops all that was delivered. Allocates nothing.
+    /// Drops all bytes that were delivered. Allocates nothing.
     fn forget_all(&mut self)
         ensures same { Self.store_id self.new ≡ Self.store_id self.old }
         ensures capacity { Self.capacity_of self.new ≡ Self.capacity_of self.old };

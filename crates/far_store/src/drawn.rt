@@ -1,12 +1,12 @@
-// Drawn numbers.
+// The check of a drawn number against the capacity.
 ghost use Rattle.std.specs.Prelude.{◌≡◌, ◌<◌, ◌≤◌, ◌↔◌, IfOk, IfErr, IsErr};
 
 use boxcar::{Keeps, Pushed};
 use far_types::Refusal;
 use std::alloc::Global;
 
-/// Returns the ticket, if its number is below the capacity. Another thread may have drawn a number since the count was read, so only the
-/// drawn number decides.
+/// Returns the ticket if its number is below the capacity, else `FarFull` (22). Another thread may have drawn a number since the count was
+/// read, so only the drawn number decides.
 pub(crate) fn below<T: Drop, P: Keeps<T>>(
     capacity: u64,
     ticket: Pushed<T, Global, P>,

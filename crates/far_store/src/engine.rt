@@ -44,13 +44,13 @@ impl<T: Drop, E> From<AllocFailed<T>> for Failure<E> {
 
 /// A storage driver: a file, a server, memory of another machine. [`EngineStore`](crate::EngineStore) makes a far store of it.
 ///
-/// Any repository can have an engine. Either call may wait: put the bound that this asks for on the `impl`. An engine knows nothing
-/// of tickets, meters and refusals. If an engine reaches beyond this process, the one clause of [`read`](Engine::read) is all that
-/// is believed of it.
+/// An engine can be written in any repository. Both calls may wait: put the bound that waiting needs on the `impl`. An engine knows
+/// no tickets, meters or refusals. If it reaches beyond this process, the clause of [`read`](Engine::read) is the only one that is
+/// assumed, not proved.
 ///
 /// Separating a table from the device that moves its bytes is AIFM's idea (OSDI 2020).
 pub trait Engine: Sync + Drop {
-    /// The key under which the engine finds bytes again. It borrows nothing and can be sent from thread to thread.
+    /// The key under which the engine finds bytes again. It borrows nothing, and can be sent between threads.
     type Key: Send + Sync + Drop;
 
     /// Why the engine fails.
@@ -65,12 +65,12 @@ pub trait Engine: Sync + Drop {
     /// The key is of the engine with this id.
     ghost is_of: { Self.Key → List ℕ → Type 0 };
 
-    /// Writes these bytes, for good, and returns the key under which they are stored.
+    /// Writes these bytes permanently, and returns the key under which they are stored.
     fn write(&self, alloc: Global, bytes: &[u8]) -> Result<Self::Key, Failure<Self::Error>>
         ensures here { IfOk result (λ key. is_of key (engine_id self.now)) }
         ensures written { IfOk result (λ key. written key ≡ bytes.now) };
 
-    /// Reads the bytes under a key into the buffer, which is empty. After a failure, the caller discards the buffer's content.
+    /// Reads the bytes that were written under a key into an empty buffer. After a failure, the caller discards the buffer's content.
     fn read(
         &self,
         alloc: Global,

@@ -20,7 +20,7 @@ use std::sync::Wait;
 /// capacity.
 ///
 /// The store keeps the engine's keys, one for each number. If the engine fails for a reason of its own, the store returns `FarFault` (21)
-/// and counts the fault. Reading waits only if the engine does; a put may wait for other threads, as an agent's.
+/// and counts the fault. A `get` waits only if the engine does. A `put` may also wait for other threads, as in an `AgentStore`.
 #[derive(Drop)]
 pub struct EngineStore<E: Engine, R> {
     rt: R,
@@ -32,7 +32,7 @@ pub struct EngineStore<E: Engine, R> {
 /// A ticket of an `EngineStore`: the index of its key.
 pub type EngineTicket<E> = Pushed<<E as Engine>::Key, Global, OfEngine<E>>;
 
-/// The rule of a store's keys: each is of its engine.
+/// The rule of a store's keys: each key is of the store's engine.
 pub struct OfEngine<E> {
     engine: PhantomData<E>,
 }
@@ -59,8 +59,8 @@ impl<E: Engine, R> Model for EngineStore<E, R> {
 }
 
 impl<E: Engine, R: Drop> EngineStore<E, R> {
-    /// Makes a store over this engine that gives out the numbers below `capacity`. It keeps `rt`, by which a put may wait. Refused only
-    /// with `NoMemory` (1).
+    /// Makes a store over this engine that gives out the numbers below `capacity`. It keeps the runtime `rt`, with which a put may wait.
+    /// Refused only with `NoMemory` (1).
     pub fn new(rt: R, alloc: Global, engine: E, capacity: u64) -> Result<EngineStore<E, R>, Refusal>
         ensures capacity { IfOk result (λ s. s.capacity ≡ capacity) }
         ensures memory { IfErr result (λ e. e ≡ Refusal.NoMemory) }
@@ -151,8 +151,8 @@ impl<E: Engine, R: Sync + Drop + Wait> FarStore for EngineStore<E, R> {
         if self.keys.count() as u64 >= self.capacity {
             return Err(Refusal::FarFull);
         }
-        // Space for the key comes first, so that a put that finds no memory for it has written nothing. Only another put in between may
-        // take this space.
+        // Space for the key is reserved before the write, so that a put without memory for its key writes nothing. Only a put of another
+        // thread can take this space in between.
         self.keys.reserve(1)?;
         let key = match self.engine.write(alloc, bytes) {
             Ok(key) => key,

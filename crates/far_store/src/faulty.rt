@@ -8,11 +8,11 @@ use std::alloc::Global;
 use std::marker::Model;
 use std::sync::atomic::{AtomicBool, AtomicU64, Ordering};
 
-/// A far store that fails one `put` and one `get`, each once, and otherwise does what the store inside it does. Contracts see the store
-/// inside it.
+/// A far store that fails one `put` and one `get`, each once, and passes all other calls to the store inside it. Contracts see the inner
+/// store.
 ///
-/// It is for testing how a caller handles a fault: the failing call returns `FarFault` (21) without calling the store inside it. The
-/// same call made again succeeds.
+/// It is for testing how a caller handles a fault: the failing call returns `FarFault` (21) without calling the inner store. The call made
+/// again reaches the inner store.
 #[derive(Drop)]
 pub struct FaultyStore<S> {
     store: S,
@@ -30,7 +30,7 @@ impl<S> FaultyStore<S> {
     /// Makes a store over `store` whose put number `failing_put` and whose get number `failing_get` return `FarFault` (21).
     /// Allocates nothing.
     ///
-    /// Calls are counted from 1, and 0 means none. A call that is refused with `NoMemory` (1) is not counted.
+    /// Calls are counted from 1, and 0 plans no fault. A call that is refused with `NoMemory` (1) is not counted.
     pub fn new(store: S, failing_put: u64, failing_get: u64) -> FaultyStore<S>
         ensures { result ≡ store }
     {
@@ -122,8 +122,8 @@ impl PlannedFault {
         }
     }
 
-    // Counts a call as it begins. Returns whether it is the one that fails. A call is counted before it is served, so that threads draw
-    // different numbers. A number that was taken back is drawn again, and does not fail a second time.
+    // Counts a call as it begins, and returns whether it must fail. A call is counted before it is served, so that threads draw different
+    // numbers. A number that was taken back is drawn again; `met` keeps it from failing twice.
     fn is_due(&self) -> bool
         ensures { IsTrue result → 0 < self.now.number }
     {
@@ -131,7 +131,7 @@ impl PlannedFault {
         self.number > 0 && earlier == self.number - 1 && !self.met.swap(true, Ordering::SeqCst)
     }
 
-    // Takes back the count of a call that ran out of memory.
+    // Removes a call that ran out of memory from the count.
     fn take_back(&self) {
         self.counted.fetch_sub(1, Ordering::SeqCst);
     }

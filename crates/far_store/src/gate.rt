@@ -9,14 +9,14 @@ use std::marker::Model;
 use std::sync::atomic::{AtomicBool, AtomicU64, Ordering};
 use std::{hint, thread};
 
-// For how many turns a put is held at most.
+// The most turns of a loop for which a put is held.
 const TURNS: u32 = 10_000_000;
 
-// After how many turns a held put yields the processor.
+// A held put yields the processor once in this many turns.
 const YIELDING: u32 = 10_000;
 
-/// A far store that holds its first `put` at a gate, and otherwise does what the store inside it does. Contracts see the store inside
-/// it. The gate is made of atomics, whose values no clause knows, so `release` and `held` have no clause.
+/// A far store that holds its first `put` at a gate, and passes all other calls to the store inside it. Contracts see the inner store, but
+/// not the atomics of the gate. So `release` and `held` have no clauses.
 ///
 /// It is for testing what else a table can do while a put is under way. A put is held for at most 10,000,000 turns of a loop, and then
 /// returns `FarFault` (21). So no call waits for ever.
@@ -67,7 +67,7 @@ impl<S> GateStore<S> {
         }
     }
 
-    /// Opens the gate, for good. Allocates nothing.
+    /// Opens the gate permanently. Allocates nothing.
     pub fn release(&self) {
         self.open.store(true, Ordering::SeqCst);
     }
@@ -98,7 +98,8 @@ impl<S> GateStore<S> {
     }
 }
 
-// Pauses, mostly shortly, so that all turns take a fraction of a second. The other thread may need this processor.
+// Pauses for one turn. Most pauses are short, so that all turns take a fraction of a second. The other thread may need this processor,
+// so some pauses yield it.
 fn rest(turn: u32) {
     if turn % YIELDING == 0 {
         thread::yield_now();

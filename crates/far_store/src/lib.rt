@@ -1,18 +1,17 @@
 #![tactic(auto)]
 //! The far store: keeps the contents of objects that are not in local memory.
 //!
-//! A content is a list of bytes. [`FarStore::put`] returns a ticket for it. [`FarRead::get`] reads the ticket's content, as often as one
-//! likes. [`FarTickets`] compares tickets without a call to the store.
+//! A content is a list of bytes. [`FarStore::put`] returns a ticket for it. [`FarRead::get`] reads the ticket's content, any number of
+//! times. [`FarTickets`] compares tickets without waiting.
 //!
-//! A table knows of a store only what these three traits say. So it runs over any store:
+//! A table uses a store only through these three traits, so it runs over any store:
 //! - [`AgentStore`] in this process;
 //! - [`EngineStore`] over an [`Engine`] of your own (docs/FAR_STORE.md); [`ByteLog`] is an example of one;
 //! - [`FaultyStore`] and [`GateStore`], for testing calls that fail or take long.
 //!
-//! A store that reaches nothing itself is a [`FarDelivery`]: the calling program keeps the contents, and delivers those that are to be
-//! read.
+//! [`FarDelivery`] is for a store without storage of its own: the calling program keeps the contents, and delivers each before it is read.
 //!
-//! Threads share stores, and nothing is ever removed from one.
+//! Threads share stores, and no content is ever removed.
 
 mod agent;
 mod byte_log;

@@ -3,10 +3,10 @@ ghost use Rattle.std.specs.Prelude.{◌≡◌, ◌+◌, ◌<◌, ◌^◌};
 
 use std::marker::Model;
 
-/// How many faults a caller has met. Contracts see the number.
+/// Counts the faults that a caller has met. Contracts see the number.
 ///
 /// Threads share a far store, so the caller keeps the count. Each call that may fault takes the caller's meter, and adds one to it exactly
-/// if it returns `FarFault` (21). So only a store calls [`Meter::rise`], in whichever crate it is.
+/// if it returns `FarFault` (21). Only stores call [`Meter::rise`], and they may be in other crates.
 #[derive(Drop, Debug)]
 pub struct Meter {
     faults: u64,
@@ -21,14 +21,14 @@ impl Model for Meter {
 }
 
 impl Meter {
-    /// Makes the meter of a caller that has met no fault yet. Allocates nothing.
+    /// Makes a meter that has counted no fault yet. Allocates nothing.
     pub fn new() -> Meter
         ensures { result ≡ 0 }
     {
         Meter { faults: 0 }
     }
 
-    /// Returns how many faults were met. Allocates nothing.
+    /// Returns how many faults were counted. Allocates nothing.
     pub fn faults(&self) -> u64
         ensures { result ≡ self.now }
     {
@@ -43,7 +43,7 @@ impl Meter {
         self.faults += other.faults;
     }
 
-    /// Counts one more fault. Only a store that is about to return `FarFault` (21) calls it. Allocates nothing.
+    /// Counts one more fault. Only a store that is about to return `FarFault` (21) calls this. Allocates nothing.
     pub fn rise(&mut self)
         requires { self.old < 2 ^ 63 }
         ensures { self.new ≡ self.old + 1 }

@@ -6,15 +6,15 @@ use crate::Meter;
 use far_types::Refusal;
 use std::alloc::Global;
 
-/// The part of a far store that a table can use without waiting: comparing and copying its tickets.
+/// The part of a far store that a table can use without waiting: it compares and copies tickets.
 ///
-/// [`FarRead`] and [`FarStore`] are traits of their own because each of these may wait: a store over a network waits in every read. Code
-/// under a lock asks only for `FarTickets`, and is known to return.
+/// [`FarRead`] and [`FarStore`] are separate traits because their calls may wait: a store over a network waits in every read. Code under a
+/// lock requires only `FarTickets`, and so is known to return.
 ///
-/// A far store with a small interface is AIFM's remote device (OSDI 2020). Tickets that name one content for good are this project's own.
+/// A far store with a small interface follows AIFM's remote device (OSDI 2020). Tickets that permanently name one content are this
+/// project's own.
 pub trait FarTickets: Sync + Drop {
-    /// The handle of one content that was put. It is kept by value, outlives every borrow of the store, and can be sent from thread to
-    /// thread.
+    /// A handle of one content that was put. It is kept by value, outlives every borrow of the store, and can be sent between threads.
     type Ticket: Send + Sync + Drop;
 
     /// The bytes that were put for a ticket.
@@ -42,7 +42,7 @@ pub trait FarTickets: Sync + Drop {
         requires { is_of ticket.now (store_id self.now) }
         ensures { result ≡ number_of ticket.now };
 
-    /// Returns whether two tickets have the same number. Then they have the same content too. Allocates nothing.
+    /// Returns whether two tickets have the same number. Tickets with the same number have the same content. Allocates nothing.
     fn same(&self, a: &Self::Ticket, b: &Self::Ticket) -> bool
         requires a_here { is_of a.now (store_id self.now) }
         requires b_here { is_of b.now (store_id self.now) }
@@ -52,7 +52,7 @@ pub trait FarTickets: Sync + Drop {
 
 /// A far store whose contents can be read.
 pub trait FarRead: FarTickets {
-    /// Replaces the content of the buffer by the ticket's content. If it is refused, the buffer is empty. Refused with:
+    /// Replaces the bytes of the buffer with the ticket's content. After a refused call the buffer is empty. Refused with:
     /// - `FarFault` (21) if the store fails in this call;
     /// - `NoMemory` (1).
     fn get(
@@ -70,9 +70,9 @@ pub trait FarRead: FarTickets {
         ensures refused { RefusedBy (21 ∷ 1 ∷ []) result };
 }
 
-/// A far store: takes contents, and returns a ticket for each, by which they are read.
+/// A far store that takes contents, and returns a ticket for each, with which the content is read.
 ///
-/// Bytes are put, with a second call if the first runs out of memory:
+/// Puts the far form of a list, with a second call if the first runs out of memory:
 ///
 /// ```
 /// pub fn put<T: Elem, S: FarStore>(alloc: Global, store: &S, list: &[T]) -> Result<S::Ticket, Refusal>
@@ -99,7 +99,8 @@ pub trait FarStore: FarRead {
         requires { meter.old < 2 ^ 63 }
         ensures here { IfOk result (λ ticket. Self.is_of ticket (Self.store_id self.now)) }
         ensures content { IfOk result (λ ticket. Self.content ticket ≡ bytes.now) }
-        ensures number { IfOk result (λ ticket. Self.number_of ticket < Self.capacity_of self.now) }
+        ensures number { IfOk result
+            (λ ticket. Self.number_of ticket < Self.capacity_of self.now) }
         ensures faults { meter.new ≡ meter.old + faults_in result }
         ensures refused { RefusedBy (21 ∷ 22 ∷ 1 ∷ []) result };
 }

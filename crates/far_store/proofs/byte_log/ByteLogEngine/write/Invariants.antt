@@ -1,7 +1,7 @@
 use Rattle.std.proofs.Common.{◌≡◌, ◌+◌, ℕ, Some, map, slice_get, IfSome, take, length}
 use Rattle.far_store.proofs.byte_log.ByteLogEngine.write.Given as goal
 
--- the loop made one token for each byte so far, of its slot and its byte
+-- the loop has made one token for each byte so far, which is of the byte's slot and has its value
 abbrev pub invariant-loop-i : goal.invariant-loop-i
 invariant-loop-i l = record {
   count : length l.written.items ≡ l.i;
