@@ -25,7 +25,7 @@ AllByRecursion-append P (x ∷ xs) ys p q = (p.0, AllByRecursion-append P xs ys 
 pub taken_more : {X : Type 0} (xs : List X) (i : ℕ) (x : X) → i < length xs → x ≡ get_or xs i x → take (i + 1) xs ≡ take i xs ++ x ∷ []
 taken_more xs i x h is = take_more xs i x h ∙ ap (λ y. take i xs ++ y ∷ []) (sym is)
 
--- appending what is written for more elements
+-- appending the output of f for more elements
 pub written_more : {X Y : Type 0} (f : X → List Y) (start written more : List Y) (xs ys : List X) → written ≡ start ++ flat_map f xs → more ≡ flat_map f ys → written ++ more ≡ start ++ flat_map f (xs ++ ys)
 written_more f start written more xs ys e h =
     ap (λ l. l ++ more) e ∙ append_assoc start (flat_map f xs) more ∙ ap (λ l. start ++ (flat_map f xs ++ l)) h
@@ -36,7 +36,7 @@ pub items_8 : {X : Type 0} (xs : List X) (x0 x1 x2 x3 x4 x5 x6 x7 : X) → lengt
 items_8 (y0 ∷ y1 ∷ y2 ∷ y3 ∷ y4 ∷ y5 ∷ y6 ∷ y7 ∷ []) x0 x1 x2 x3 x4 x5 x6 x7 len e0 e1 e2 e3 e4 e5 e6 e7 = cc
 items_8 _ x0 x1 x2 x3 x4 x5 x6 x7 len e0 e1 e2 e3 e4 e5 e6 e7 = absurd (omega arith)
 
--- n more elements
+-- the first j elements are the first n * i and the next n
 pub taken_block : {X : Type 0} (xs : List X) (n i j : ℕ) → j ≡ n * i + n → take j xs ≡ take (n * i) xs ++ take n (drop (n * i) xs)
 taken_block xs n i j e = ap (λ k. take k xs) e ∙ take-add (n * i) n xs
 

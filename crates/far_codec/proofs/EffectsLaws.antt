@@ -1,4 +1,4 @@
--- Texts, one of which changes: they have a far form, and which list they are.
+-- Texts after one of them changes: they have a far form, and one text is replaced or appended.
 use Rattle.std.proofs.Common.{◌≡◌, ℕ, suc, ◌+◌, ◌<◌, ◌^◌, List, [], ◌∷◌, ◌++◌, length, set, take, drop, Option, Bool, map, sym, ap, ◌∙◌, arith}
 use Rattle.std.specs.Prelude.{IfSome, is_none}
 use Rattle.std.specs.Int.{w32, to_le_bytes}
@@ -22,20 +22,20 @@ are_with texts i text are utf8 space =
       bytes = omega (arith, space);
     }
 
--- text i replaces one of them
+-- if i is below their count, text i is replaced
 pub with_is_set : (made texts : Texts) (i : ℕ) (text : Option (List ℕ)) → made ≡ texts → i < length texts → with_text made i text ≡ set texts i text
 with_is_set made texts i text same h =
     let next : i + 1 ≡ suc i = omega arith in
     ap (λ l. with_text l i text) same ∙ ap (λ n. take i texts ++ text ∷ drop n texts) next ∙ sym (set_split texts i text h)
 
--- text i is appended to them
+-- if i is their count, the text is appended
 pub with_is_next : (made texts : Texts) (i : ℕ) (text : Option (List ℕ)) → made ≡ texts → i ≡ length texts → with_text made i text ≡ texts ++ text ∷ []
 with_is_next made texts i text same is =
     ap (λ l. with_text l i text) same
     ∙ ap (λ l. l ++ text ∷ drop (i + 1) texts) (take_all i texts (omega (arith, is)))
     ∙ ap (λ l. texts ++ text ∷ l) (drop_all (i + 1) texts (omega (arith, is)))
 
--- the parts of the form
+-- a head, followed by ends and bytes, is the form
 pub form_made : (texts : Texts) (form start front : List ℕ) (flags : List Bool) → form ≡ front ++ (flat_map (to_le_bytes w32) (ends_of texts) ++ flat_map bytes_of texts) → front ≡ start ++ head 1 flags → start ≡ [] → map is_none texts ≡ flags → form ≡ texts_form texts
 form_made texts form start front flags is front_is start_is same =
     let fields = flat_map (to_le_bytes w32) (ends_of texts) ++ flat_map bytes_of texts in

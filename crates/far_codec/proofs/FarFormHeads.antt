@@ -13,12 +13,12 @@ use Rattle.far_codec.specs.MaskLaws.{missing_in_none}
 use Rattle.far_codec.proofs.PlainNumbersWords.{IsBytes}
 use Rattle.far_codec.proofs.ReadingMasks.{length-flags_of}
 
--- the first six bytes, cell by cell
+-- the first six bytes, one by one
 cells_6 : (bytes : List ℕ) → 6 ≤ length bytes → bytes ≡ get_or bytes 0 0 ∷ get_or bytes 1 0 ∷ get_or bytes 2 0 ∷ get_or bytes 3 0 ∷ get_or bytes 4 0 ∷ get_or bytes 5 0 ∷ drop 6 bytes
 cells_6 (a ∷ b ∷ c ∷ d ∷ e ∷ f ∷ rest) h = refl
 cells_6 _ h = absurd (omega arith)
 
--- four bytes are the bytes of the number that they encode
+-- encoding the count that four bytes encode returns the bytes
 count_again : (bytes : List ℕ) (count : ℕ) → IsBytes bytes → count ≡ from_le_bytes w32 (get_or bytes 2 0 ∷ get_or bytes 3 0 ∷ get_or bytes 4 0 ∷ get_or bytes 5 0 ∷ []) → to_le_bytes w32 count ≡ get_or bytes 2 0 ∷ get_or bytes 3 0 ∷ get_or bytes 4 0 ∷ get_or bytes 5 0 ∷ []
 count_again bytes count fits is = le_bytes_4 (get_or bytes 2 0 ∷ get_or bytes 3 0 ∷ get_or bytes 4 0 ∷ get_or bytes 5 0 ∷ []) count refl four is
   where
@@ -29,7 +29,7 @@ count_again bytes count fits is = le_bytes_4 (get_or bytes 2 0 ∷ get_or bytes 
     four (suc (suc (suc zero))) = fits 5
     four (suc (suc (suc (suc i)))) = omega arith
 
--- bytes whose first cells are these begin with that head
+-- bytes with these first six begin with the head
 pub head_found : (bytes : List ℕ) (kind count : ℕ) (flags : List Bool) (fields : List ℕ) → IsBytes bytes → 6 ≤ length bytes → get_or bytes 0 0 ≡ version flags → get_or bytes 1 0 ≡ kind → count ≡ from_le_bytes w32 (get_or bytes 2 0 ∷ get_or bytes 3 0 ∷ get_or bytes 4 0 ∷ get_or bytes 5 0 ∷ []) → length flags ≡ count → drop 6 bytes ≡ mask_of flags ++ fields → bytes ≡ head kind flags ++ fields
 unfolding head
 head_found bytes kind count flags fields fits long first second is len back =
@@ -40,7 +40,7 @@ head_found bytes kind count flags fields fits long first second is len back =
     ∙ ap (λ l. version flags ∷ kind ∷ l ++ drop 6 bytes) (sym (ap (to_le_bytes w32) len ∙ count_again bytes count fits is))
     ∙ ap (λ l. version flags ∷ kind ∷ to_le_bytes w32 (length flags) ++ l) back
 
--- bytes that begin with a head have these first cells
+-- bytes that begin with a head have these first six
 pub record HeadCells (bytes : List ℕ) (kind : ℕ) (flags : List Bool) (fields : List ℕ) : Type 0 where
   pub long : 6 ≤ length bytes
   pub first : get_or bytes 0 0 ≡ version flags
@@ -84,7 +84,7 @@ pub unset_without_mask : (count : ℕ) → All (λ missing. missing ≡ false) (
 unset_without_mask count = λ k d h.
     get_or-map-range_with_len (is_missing []) 0 count k k d (omega (arith, length-flags_of [] count)) (omega arith) ∙ missing_in_none k
 
--- without a mask nothing is missing
+-- without a mask no value is missing
 pub none_missing : (count : ℕ) → some_missing (flags_of [] count) ≡ false
 none_missing count = list_any_none (λ missing. missing) (flags_of [] count) (unset_without_mask count)
 
@@ -117,7 +117,7 @@ front_made kind version_byte n flags count missing v m e len =
     ∙ ap (λ l. version flags ∷ kind ∷ get_or l 0 0 ∷ get_or l 1 0 ∷ get_or l 2 0 ∷ get_or l 3 0 ∷ []) e
     ∙ ap (λ k. version flags ∷ kind ∷ to_le_bytes w32 k) len
 
--- the same if a value is missing
+-- the first six bytes of a head if a value is missing
 pub masked_front : (kind n : ℕ) (flags : List Bool) (count : List ℕ) → some_missing flags ≡ true → count ≡ to_le_bytes w64 n → n ≡ length flags → 2 ∷ kind ∷ get_or count 0 0 ∷ get_or count 1 0 ∷ get_or count 2 0 ∷ get_or count 3 0 ∷ [] ≡ version flags ∷ kind ∷ to_le_bytes w32 (length flags)
 masked_front kind n flags count any e len = front_made kind 2 n flags count true refl (sym any) e len
 

@@ -9,7 +9,7 @@ use Rattle.far_codec.specs.Reading.{flags_of}
 use Rattle.far_codec.specs.MaskLaws.{bit, flag_of_part, masked, mask_byte_at, length-mask_bytes, no_flag}
 use Rattle.far_codec.proofs.ReadingMasks.{is_set, flags_again, no_bit}
 
--- a byte of flags of which none is set
+-- the mask byte is 0 if no flag is set
 zero_byte : (flags : List Bool) → ((j : ℕ) → get_or flags j false ≡ false) → mask_byte flags ≡ 0
 zero_byte [] none = refl
 zero_byte (b ∷ flags) none = omega (arith, ap bit (none 0), zero_byte flags (λ j. none (suc j)))
@@ -25,7 +25,7 @@ no_byte : (flags : List Bool) → some_missing flags ≡ false → list_any is_s
 no_byte flags none = list_any_none is_set (mask_bytes flags) (λ k d h.
     ap is_set (get_or_default (mask_bytes flags) k d 0 h ∙ mask_byte_at flags k (omega (arith, length-mask_bytes flags)) ∙ zero_byte (take 8 (drop (8 * k) flags)) (λ j. none_in_part flags k j none)))
 
--- a mask has a bit where a value is missing
+-- a mask has a bit exactly if a value is missing
 pub bytes_tell : (flags : List Bool) → list_any is_set (mask_bytes flags) ≡ some_missing flags
 bytes_tell flags =
     elim (cases_Bool (some_missing flags)) [

@@ -39,7 +39,7 @@ byte_more flags k i h =
 pub byte_none : (flags : List Bool) (k : ℕ) → mask_byte (drop (length (eight flags k)) (eight flags k)) ≡ 0
 byte_none flags k = ap mask_byte (drop_all (length (eight flags k)) (eight flags k) (omega arith))
 
--- seven flags leave space for one more
+-- the mask byte of at most seven flags is below 128
 pub byte_small : (flags : List Bool) (k i : ℕ) → 0 < i → mask_byte (drop i (eight flags k)) < 128
 byte_small flags k i h =
     let rest = drop i (eight flags k) in

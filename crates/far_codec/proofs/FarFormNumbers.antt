@@ -17,7 +17,7 @@ use Rattle.far_codec.proofs.Chunks.{chunks_joined}
 use Rattle.far_codec.proofs.ReadingMasks.{length-flags_of, flag_at}
 use Rattle.far_codec.proofs.PlainNumbersWords.{IsBytes, IsBytes-drop, IsBytes-take, word_again, number_fits, length-first_chunks}
 
--- chunk i
+-- chunk i of a list
 pub chunk_at : {X : Type 0} (n k i : ℕ) (xs : List X) (d : List X) → i < k → get_or (first_chunks n k xs) i d ≡ take n (drop (n * i) xs)
 chunk_at n zero i xs d h = absurd (omega arith)
 chunk_at n (suc k) zero xs d h = let none : 0 ≡ n * 0 = omega arith in ap (λ j. take n (drop j xs)) none
@@ -55,7 +55,7 @@ flags_are mask words =
     ∙ none_is (is_missing mask i) (number_of (get_or words i []))
     ∙ sym (flag_at mask (length words) i in_words))
 
--- encoding a decoded word of eight bytes returns it
+-- each word has eight bytes; encoding a decoded word returns it
 abbrev pub AreWords : List (List ℕ) → Type 0
 AreWords words = (i : ℕ) → i < length words → (length (get_or words i []) ≡ 8) × IsBytes (get_or words i [])
 

@@ -32,7 +32,7 @@ is_texts_form bytes texts are e =
     let meant = texts_meant bytes texts are e in
     record { texts = subst AreTexts (sym meant) are; is = e ∙ ap texts_form (sym meant) }
 
--- a text that is borrowed is not missing
+-- a text that is borrowed is text i of the list, and not missing
 pub lent_there : (lent : Option (Bor (List ℕ))) (texts : TextsOf) (i : ℕ) → option_copied lent ≡ option_and_then (λ text. text) (slice_get texts i) → IfSome lent (λ text. slice_get texts i ≡ Some (Some text.now))
 lent_there None texts i e = tt
 lent_there (Some text) texts i e = there (slice_get texts i) e
@@ -79,7 +79,7 @@ lies_so form texts are e =
       ends_len = omega (arith, length-end_bytes (ends_of texts), length-ends_of texts);
     }
 
--- no other values have the same form of numbers or of texts
+-- different values have different forms
 pub ints_only : (bytes : List ℕ) (numbers : List (Option ℤ)) → AreInts numbers → bytes ≡ ints_form numbers → (values : Values) → HaveForm values → bytes ≡ form_of values → Ints numbers ≡ values
 ints_only bytes numbers are e (Ints other) have same = ap Ints (sym (ints_meant bytes numbers are e) ∙ ints_meant bytes other have same)
 ints_only bytes numbers are e (Texts texts) have same = absurd (not_both bytes numbers texts e same)

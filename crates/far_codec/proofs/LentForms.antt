@@ -42,7 +42,7 @@ size_is form count size is many e =
     let lies = ints_lie_so form is in
     e ∙ ap (λ n. cond (eqb (get_or form 0 0) 2) ((n + 7) / 8) 0) (many ∙ lies.count) ∙ lies.mask_len
 
--- the parts that splitting returns are the parts of the numbers
+-- the parts that splitting returns encode the numbers of the form
 pub lent_numbers : (form rest mask fields : List ℕ) (words : List (List ℕ)) (size : ℕ) → IsIntsForm form → rest ≡ drop 6 form → mask ≡ take size rest → fields ≡ drop size rest → words ≡ first_chunks 8 (length fields / 8) fields → size ≡ length (mask_of (map is_none (ints_meaning form))) → numbers_of mask words ≡ ints_meaning form
 lent_numbers form rest mask fields words size is rest_is mask_is fields_are words_are len =
     let numbers = ints_meaning form in

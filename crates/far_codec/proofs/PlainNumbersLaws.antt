@@ -1,4 +1,4 @@
--- Lists of numbers none of which is missing.
+-- Lists of numbers, none of which is missing.
 use Rattle.std.proofs.Common.{◌≡◌, ℕ, Bool, true, false, eqb, cond, ℤ, pos, List, [], ◌∷◌, ◌++◌, length, get_or, map, Option, None, Some, FitsSigned, refl, sym, ap, ◌∙◌}
 use Rattle.std.specs.Prelude.{is_none, is_some, not, IfSome}
 use Rattle.std.specs.Int.{w32, w64, to_le_bytes}
@@ -51,7 +51,7 @@ pub words_of_values : (numbers : List ℤ) → map number_bytes (map Some number
 words_of_values [] = refl
 words_of_values (x ∷ numbers) = ap (λ l. number_bytes (Some x) ∷ l) (words_of_values numbers)
 
--- a head without a mask and the words are the form
+-- a head without a mask, followed by the words, is the form
 pub present_form : (numbers : List (Option ℤ)) → AllByRecursion IsThere numbers → 1 ∷ 0 ∷ to_le_bytes w32 (length numbers) ++ flat_map number_bytes numbers ≡ ints_form numbers
 present_form numbers there =
     let none : list_any (λ missing. missing) (flags_in numbers) ≡ false = sym (missing_any numbers) ∙ none_missing numbers there in

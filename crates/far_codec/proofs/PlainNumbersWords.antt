@@ -1,4 +1,4 @@
--- Which bytes are the far form of numbers none of which is missing.
+-- Which bytes are the far form of numbers, none of which is missing.
 use Rattle.std.proofs.Common.{◌≡◌, ℕ, zero, suc, ◌+◌, ◌*◌, ◌^◌, ◌<◌, ◌≤◌, ℤ, List, [], ◌∷◌, ◌++◌, length, get_or, map, take, drop, Some, FitsSigned, refl, sym, ap, subst, ◌∙◌, arith, inl, inr}
 use Rattle.std.specs.Int.{w32, w64, to_le_bytes, from_le_bytes}
 use Rattle.std.specs.List.{flat_map, AllByRecursion}
@@ -33,7 +33,7 @@ IsBytes-behind bytes front back fits e = subst IsBytes (ap (drop (length front))
 value_below : (bytes : List ℕ) → IsBytes bytes → from_le_bytes w64 bytes < 2 ^ 64
 value_below bytes fits = omega (arith, fits 0, fits 1, fits 2, fits 3, fits 4, fits 5, fits 6, fits 7)
 
--- eight bytes are the bytes of the number that they encode
+-- encoding the number that eight bytes encode returns the bytes
 pub word_again : (word : List ℕ) → length word ≡ 8 → IsBytes word → number_bytes (Some (number_of word)) ≡ word
 unfolding number_bytes number_of
 word_again word len fits = ap (to_le_bytes w64) (of_z-to_z w64 (from_le_bytes w64 word) (value_below word fits)) ∙ le_bytes_8 word (from_le_bytes w64 word) len fits refl

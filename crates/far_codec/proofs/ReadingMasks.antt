@@ -28,7 +28,7 @@ flags_again flags =
     ext_get_or false (flags_of (mask_of flags) (length flags)) flags len (λ k h.
     flag_at (mask_of flags) (length flags) k (omega arith) ∙ missing_by_mask flags k (omega arith))
 
--- no bit is set beyond the values
+-- no bit is set after the bit of the last value
 abbrev pub HasNoSpare : List ℕ → ℕ → Type 0
 HasNoSpare mask count = (k j : ℕ) → k < (count + 7) / 8 → j < 8 → count ≤ 8 * k + j → bit_at (get_or mask k 0) j ≡ 0
 
@@ -75,7 +75,7 @@ byte_again mask count k fits spare h =
       | inr past ↦ ap bit (get_or_past flags (8 * k + j) false (omega (arith, length-flags_of mask count))) ∙ sym (spare k j h small past)
     ])
 
--- such bytes are the mask of their flags
+-- bytes without such a bit are the mask of their flags, if a flag is set
 pub mask_again : (mask : List ℕ) (count : ℕ) → IsBytes mask → length mask ≡ (count + 7) / 8 → HasNoSpare mask count → some_missing (flags_of mask count) ≡ true → mask ≡ mask_of (flags_of mask count)
 mask_again mask count fits len spare any =
     let flags = flags_of mask count in
@@ -84,7 +84,7 @@ mask_again mask count fits len spare any =
     sym (byte_again mask count k fits spare (omega (arith, len))) ∙ sym (mask_byte_at flags k (omega (arith, len, same_count))))
     ∙ sym (masked flags any)
 
--- if a byte has a bit, a value is missing
+-- if a byte is not 0, a value is missing
 pub bit_tells : (mask : List ℕ) (count k : ℕ) → IsBytes mask → HasNoSpare mask count → k < (count + 7) / 8 → get_or mask k 0 ≢ 0 → some_missing (flags_of mask count) ≡ true
 bit_tells mask count k fits spare h byte =
     let flags = flags_of mask count in
@@ -114,7 +114,7 @@ spare_zero mask count is any h =
 abbrev pub is_set : ℕ → Bool
 is_set byte = not (eqb byte 0)
 
--- a byte that is not 0
+-- the index of a byte that is not 0
 pub first_set : (mask : List ℕ) → list_any is_set mask ≡ true → (k : ℕ) × (k < length mask) × (get_or mask k 0 ≢ 0)
 first_set [] e = absurd cc
 first_set (zero ∷ mask) e = let rest = first_set mask e in (suc rest.0, omega (arith, rest.1), rest.2)
@@ -131,7 +131,7 @@ all_zero [] k e = refl
 all_zero (b ∷ mask) zero e = (cons_none b mask e).0
 all_zero (b ∷ mask) (suc k) e = all_zero mask k (cons_none b mask e).1
 
--- if no byte has a bit, no value is missing
+-- if each byte is 0, no value is missing
 pub no_bit : (mask : List ℕ) (count : ℕ) → list_any is_set mask ≡ false → some_missing (flags_of mask count) ≡ false
 no_bit mask count e =
     let len = length-flags_of mask count in

@@ -26,7 +26,7 @@ pub start_is : (mask ends body : List ℕ) (i : ℕ) → AreTextParts mask ends 
 start_is mask ends body i parts h =
     ap (λ l. get_or (0 ∷ l) i 0) (sym (ends_are mask ends body parts)) ∙ start_at (texts_of mask ends body) i (omega (arith, length-texts_of mask ends body))
 
--- how many bytes the texts have
+-- how many bytes the texts have after one text replaces the texts from i up to after
 pub bytes_with : (texts : Texts) (i after : ℕ) (text : Option (List ℕ)) → text_bytes (take i texts ++ text ∷ drop after texts) ≡ bytes_before texts i + length (bytes_of text) + length (flat_map bytes_of (drop after texts))
 bytes_with texts i after text =
     omega (
@@ -53,7 +53,7 @@ pub flat_words : (words : List (List ℕ)) (ends : List ℕ) (i : ℕ) → words
 flat_words words ends i is =
     ap (λ l. flat_map (λ word. word) (take i l)) is ∙ ap (flat_map (λ word. word)) (take-map (to_le_bytes w32) i ends) ∙ flat_map-map (λ word. word) (to_le_bytes w32) (take i ends)
 
--- written one after another
+-- six lists that are appended one by one
 pub six_written : (old a b c d e f : List ℕ) → (((((old ++ a) ++ b) ++ c) ++ d) ++ e) ++ f ≡ old ++ ((a ++ (b ++ c)) ++ (d ++ (e ++ f)))
 six_written old a b c d e f =
     let front = ((old ++ a) ++ b) ++ c in
@@ -107,7 +107,7 @@ fields_next mask ends body n end text parts many end_is =
     ∙ ap (λ x. (flat_map le (take n ends) ++ (l ++ flat_map le (moved a end (drop n ends)))) ++ (take a body ++ (t ++ x))) (sym (drop_all a body (omega (arith, whole))))
     ∙ fields_with mask ends body n n end text parts (omega (arith, many)) (omega (arith, many)) (omega (arith, end_is, whole))
 
--- four pieces appended to a prefix, one by one
+-- four lists that are appended to a prefix one by one
 pub five_written : (front e l b t : List ℕ) → (((front ++ e) ++ l) ++ b) ++ t ≡ front ++ (e ++ (l ++ (b ++ t)))
 five_written front e l b t =
     append_assoc ((front ++ e) ++ l) b t ∙ append_assoc (front ++ e) l (b ++ t) ∙ append_assoc front e (l ++ (b ++ t))

@@ -38,7 +38,7 @@ one_length : (text : Option (List ℕ)) → option_map_or length text 0 ≡ leng
 one_length None = refl
 one_length (Some text) = refl
 
--- the bytes of the texts after text i is replaced
+-- how many bytes the texts have after text i is replaced
 pub bytes_set : (texts : Texts) (i : ℕ) (text : Option (List ℕ)) → i < length texts → text_bytes (set texts i text) + length (bytes_of (get_or texts i None)) ≡ text_bytes texts + length (bytes_of text)
 bytes_set texts i text h =
     omega (arith, sum_by-set (λ t. option_map_or length t 0) texts i text None h, one_length text, one_length (get_or texts i None))
@@ -46,7 +46,7 @@ bytes_set texts i text h =
 pub bytes_next : (texts : Texts) (text : Option (List ℕ)) → text_bytes (texts ++ text ∷ []) ≡ text_bytes texts + length (bytes_of text)
 bytes_next texts text = sum_by-append (λ t. option_map_or length t 0) texts (text ∷ []) ∙ ap (λ n. text_bytes texts + n) (sum_by-cons (λ t. option_map_or length t 0) text [] ∙ omega (arith, one_length text))
 
--- what the parts of a valid form show
+-- what the parts of a valid form say about the texts
 pub record Tells (mask : List ℕ) (words : List (List ℕ)) (body : List ℕ) (texts : Texts) : Type 0 where
   pub count : length words ≡ length texts
   pub flags : map is_none texts ≡ flags_of mask (length words)
@@ -62,7 +62,7 @@ tells mask words body texts parts same =
       bytes = sym (ap length (body_is mask ends body parts)) ∙ sym (text_bytes_is (texts_of mask ends body)) ∙ ap text_bytes same;
     }
 
--- a text that is borrowed is the text of the list
+-- borrowing text i returns text i of the list
 pub lent_is : (lent : Option (List ℕ)) (made texts : Texts) (i : ℕ) → lent ≡ option_and_then (λ text. text) (slice_get made i) → made ≡ texts → i < length texts → lent ≡ get_or texts i None
 lent_is lent made texts i e same h = e ∙ ap (λ l. option_and_then (λ text. text) (slice_get l i)) same ∙ ap (option_and_then (λ text. text)) (slice_get-get_or texts i None h)
 

@@ -19,7 +19,7 @@ cond_le : (b : Bool) (n : ℕ) → cond b n 0 ≤ n
 cond_le true n = omega arith
 cond_le false n = omega arith
 
--- every form is short enough to be counted
+-- a form has fewer than 2 ^ 36 bytes
 pub form_small : (form : List ℕ) → IsTextsForm form → length form < 2 ^ 36
 form_small form is =
     let texts = texts_meaning form in
@@ -34,13 +34,13 @@ some_none (Some x) e = refl
 pub none_without : (form : List ℕ) → IsTextsForm form → get_or form 0 0 ≡ 1 → some_missing (map is_none (texts_meaning form)) ≡ false
 none_without form is first = version_1 (map is_none (texts_meaning form)) (sym (lies_so form (texts_meaning form) is.texts is.is).cells.first ∙ first)
 
--- no text is missing after one that is present is appended
+-- if no text is missing, none is missing after a text that is present is appended
 pub none_next : (form : List ℕ) (text : Option (List ℕ)) → IsTextsForm form → get_or form 0 0 ≡ 1 → is_none text ≡ false → list_any is_none (texts_meaning form ++ text ∷ []) ≡ false
 none_next form text is first there =
     let texts = texts_meaning form in
     missing_next texts text ∙ ap (λ b. b || some_missing (map is_none texts)) there ∙ none_without form is first
 
--- the form is then longer by an end and the text's bytes
+-- after such an append the form is longer by an end and the text's bytes
 pub next_length : (form : List ℕ) (text : Option (List ℕ)) → IsTextsForm form → get_or form 0 0 ≡ 1 → is_none text ≡ false → length form + 4 + length (bytes_of text) ≡ texts_length (texts_meaning form ++ text ∷ [])
 next_length form text is first there =
     let texts = texts_meaning form in

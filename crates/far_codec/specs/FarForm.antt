@@ -4,12 +4,12 @@ use Rattle.std.specs.List.{list_any, flat_map, range_with_len}
 use Rattle.std.specs.Option.{option_map_or, IfSome}
 use Rattle.std.specs.Int.{w32, w64, to_le_bytes, cast_unsigned}
 
--- a byte with a bit for each of up to eight flags, the lowest for the first
+-- a byte with one bit for each of up to eight flags; the lowest bit is the first flag
 abbrev pub mask_byte : List Bool → ℕ
 mask_byte [] = 0
 mask_byte (missing ∷ flags) = cond missing 1 0 + 2 * mask_byte flags
 
--- whether a value is missing
+-- whether at least one value is missing
 abbrev pub some_missing : List Bool → Bool
 some_missing flags = list_any (λ missing. missing) flags
 
@@ -18,7 +18,7 @@ unfoldable pub mask_bytes : List Bool → List ℕ
 mask_bytes flags = map (λ k. mask_byte (take 8 (drop (8 * k) flags)))
     (range_with_len 0 ((length flags + 7) / 8))
 
--- the mask, which marks the missing values; it has no byte if none is missing
+-- the mask, which marks the missing values; it is empty if none is missing
 unfoldable pub mask_of : List Bool → List ℕ
 mask_of flags = cond (some_missing flags) (mask_bytes flags) []
 

@@ -1,4 +1,4 @@
--- Values of a kind and their far form.
+-- Values of either kind, and their far form.
 use Rattle.std.specs.Prelude.{ℕ, List}
 use Rattle.far_codec.specs.FarForm.{ints_form, AreInts}
 use Rattle.far_codec.specs.TextForm.{texts_form, AreTexts}

@@ -50,18 +50,24 @@ flag_of_part flags k j h = get_or-take 8 (drop (8 * k) flags) j false h
 abbrev pub part : List Bool → ℕ → ℕ
 part flags k = mask_byte (take 8 (drop (8 * k) flags))
 
-pub masked : (flags : List Bool) → some_missing flags ≡ true → mask_of flags ≡ mask_bytes flags
+-- if a value is missing, the mask is the packed flags
+pub masked : (flags : List Bool) → some_missing flags ≡ true
+    → mask_of flags ≡ mask_bytes flags
 unfolding mask_of
 masked flags any = ap (λ b. cond b (mask_bytes flags) []) any
 
+-- if no value is missing, the mask is empty
 pub no_mask : (flags : List Bool) → some_missing flags ≡ false → mask_of flags ≡ []
 unfolding mask_of
 no_mask flags none = ap (λ b. cond b (mask_bytes flags) []) none
 
-pub length-mask_bytes : (flags : List Bool) → length (mask_bytes flags) ≡ (length flags + 7) / 8
+-- how many bytes the packed flags have
+pub length-mask_bytes : (flags : List Bool)
+    → length (mask_bytes flags) ≡ (length flags + 7) / 8
 unfolding mask_bytes
 length-mask_bytes flags = length-map-range_with_len (part flags) 0 ((length flags + 7) / 8)
 
+-- byte k of the packed flags is the byte for the eight flags from 8 * k on
 pub mask_byte_at : (flags : List Bool) (k : ℕ) → k < (length flags + 7) / 8
     → get_or (mask_bytes flags) k 0 ≡ part flags k
 unfolding mask_bytes
@@ -69,10 +75,12 @@ mask_byte_at flags k h = get_or-map-range_with_len (part flags) 0 ((length flags
     (omega arith)
 
 -- byte k of the mask is the byte for the eight flags from 8 * k on
-pub mask_at : (flags : List Bool) (k : ℕ) → some_missing flags ≡ true → k < (length flags + 7) / 8
+pub mask_at : (flags : List Bool) (k : ℕ) → some_missing flags ≡ true
+    → k < (length flags + 7) / 8
     → get_or (mask_of flags) k 0 ≡ part flags k
 mask_at flags k any h = ap (λ m. get_or m k 0) (masked flags any) ∙ mask_byte_at flags k h
 
+-- how many bytes a mask has if a value is missing
 pub length-mask : (flags : List Bool) → some_missing flags ≡ true
     → length (mask_of flags) ≡ (length flags + 7) / 8
 length-mask flags any = ap length (masked flags any) ∙ length-mask_bytes flags
@@ -81,6 +89,7 @@ tells_bit : (b : Bool) → eqb (bit b) 1 ≡ b
 tells_bit true = refl
 tells_bit false = refl
 
+-- no flag is set if no value is missing
 pub no_flag : (flags : List Bool) (i : ℕ) → some_missing flags ≡ false
     → get_or flags i false ≡ false
 no_flag [] i none = refl

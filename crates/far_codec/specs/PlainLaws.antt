@@ -1,4 +1,4 @@
--- Numbers none of which is missing have one far form, and decoding it returns them.
+-- A list of numbers, none of which is missing, has only one far form, and decoding it returns the numbers.
 use Rattle.std.proofs.Common.{◌≡◌, ℕ, ◌+◌, ◌*◌, Bool, false, cond, ℤ, List, [], ◌∷◌, ◌++◌, length, map, Some, All, FitsSigned, refl, sym, ap, ◌∙◌, arith}
 use Rattle.std.specs.Prelude.{is_none}
 use Rattle.std.specs.Int.{w32, w64, to_le_bytes, cast_unsigned, cast_signed}
@@ -30,9 +30,11 @@ plain_head kind flags none =
     ∙ ap (λ m. 1 ∷ kind ∷ to_le_bytes w32 (length flags) ++ m) (no_mask flags none)
     ∙ append-nil (1 ∷ kind ∷ to_le_bytes w32 (length flags))
 
+-- the bytes of the form
 pub plain_form_is : (numbers : List ℤ)
     → plain_form numbers
-    ≡ 1 ∷ 0 ∷ to_le_bytes w32 (length numbers) ++ flat_map (λ x. number_bytes (Some x)) numbers
+    ≡ 1 ∷ 0 ∷ to_le_bytes w32 (length numbers)
+    ++ flat_map (λ x. number_bytes (Some x)) numbers
 unfolding ints_form
 plain_form_is numbers =
     ap (λ front. front ++ flat_map number_bytes (map Some numbers))
@@ -42,6 +44,7 @@ plain_form_is numbers =
     ∙ ap (λ rest. 1 ∷ 0 ∷ to_le_bytes w32 (length numbers) ++ rest)
     (flat_map-map number_bytes Some numbers)
 
+-- each number has eight bytes
 pub length-numbers : (numbers : List ℤ)
     → length (flat_map (λ x. number_bytes (Some x)) numbers) ≡ 8 * length numbers
 length-numbers [] = refl
@@ -52,6 +55,7 @@ length-numbers (x ∷ numbers) = omega (
   length-numbers numbers,
 )
 
+-- decoding a number's eight bytes returns the number
 pub number_back : (x : ℤ) → FitsSigned w64 x → number_of (number_bytes (Some x)) ≡ x
 unfolding number_of number_bytes
 number_back x fits = ap (cast_signed w64)
@@ -65,13 +69,16 @@ pub words_again : (numbers : List ℤ)
 words_again numbers = chunks_again 8 (λ x. number_bytes (Some x))
     (λ x. length-number_bytes (Some x)) numbers
 
+-- decoding the bytes of each number returns the numbers
 pub numbers_again : (numbers : List ℤ) → AllByRecursion (FitsSigned w64) numbers
     → map number_of (map (λ x. number_bytes (Some x)) numbers) ≡ numbers
 numbers_again [] fits = refl
 numbers_again (x ∷ numbers) fits =
-    ap (λ y. y ∷ map number_of (map (λ x. number_bytes (Some x)) numbers)) (number_back x fits.0)
+    ap (λ y. y ∷ map number_of (map (λ x. number_bytes (Some x)) numbers))
+    (number_back x fits.0)
     ∙ ap (λ ys. x ∷ ys) (numbers_again numbers fits.1)
 
+-- decoding the form returns the numbers
 pub plain_reads_back : (numbers : List ℤ) → All (FitsSigned w64) numbers → FitsCount numbers
     → plain_meaning (plain_form numbers) ≡ numbers
 plain_reads_back numbers fits few =
@@ -86,11 +93,15 @@ plain_reads_back numbers fits few =
     ∙ ap (map number_of) (words_again numbers)
     ∙ numbers_again numbers (recursion_from_All (FitsSigned w64) numbers fits)
 
-pub length-plain_form : (numbers : List ℤ) → length (plain_form numbers) ≡ 6 + 8 * length numbers
+-- how many bytes the form has
+pub length-plain_form : (numbers : List ℤ)
+    → length (plain_form numbers) ≡ 6 + 8 * length numbers
 length-plain_form numbers = ap length (plain_form_is numbers)
     ∙ omega (arith, length-numbers numbers)
 
-pub one_plain_list : (one other : List ℤ) → All (FitsSigned w64) one → All (FitsSigned w64) other
+-- different lists have different forms
+pub one_plain_list : (one other : List ℤ) → All (FitsSigned w64) one
+    → All (FitsSigned w64) other
     → FitsCount one → plain_form one ≡ plain_form other → one ≡ other
 one_plain_list one other fits fits_too few e =
     let few_too : FitsCount other =

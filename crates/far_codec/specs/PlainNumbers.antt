@@ -1,11 +1,11 @@
--- Numbers none of which is missing.
+-- Lists of numbers, none of which is missing.
 use Rattle.std.specs.Prelude.{◌≡◌, ℕ, ◌+◌, ◌*◌, ℤ, FitsSigned, List, ◌∷◌, length, map, take, drop, Option, Some, IsSomeAnd}
 use Rattle.std.specs.Int.{w32, w64, to_le_bytes}
 use Rattle.std.specs.Simd.{first_chunks}
 use Rattle.far_codec.specs.FarForm.{ints_form}
 use Rattle.far_codec.specs.Reading.{count_in, number_of}
 
--- the far form of numbers none of which is missing
+-- the far form of numbers, none of which is missing
 abbrev pub plain_form : List ℤ → List ℕ
 plain_form numbers = ints_form (map Some numbers)
 

@@ -5,13 +5,14 @@ use Rattle.std.specs.Int.{w32, w64, bit_at, from_le_bytes, cast_signed}
 use Rattle.std.specs.Simd.{first_chunks}
 use Rattle.far_codec.specs.FarForm.{ints_form, AreInts}
 
--- how many values the head counts
+-- how many values the form has, as its head says
 abbrev pub count_in : List ℕ → ℕ
 count_in bytes = from_le_bytes w32 (drop 2 bytes)
 
 -- the mask, which is after the head if the first byte is 2
 abbrev pub mask_in : List ℕ → List ℕ
-mask_in bytes = cond (slice_index bytes 0 == 2) (take ((count_in bytes + 7) / 8) (drop 6 bytes)) []
+mask_in bytes = cond (slice_index bytes 0 == 2)
+    (take ((count_in bytes + 7) / 8) (drop 6 bytes)) []
 
 -- the bytes after the mask
 abbrev pub fields_in : List ℕ → List ℕ

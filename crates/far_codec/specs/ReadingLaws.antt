@@ -26,6 +26,7 @@ chunks_again n f len (x ∷ xs) =
     ∙ ap (λ l. f x ∷ first_chunks n (length xs) l) (drop_at (f x) rest n (len x))
     ∙ ap (λ l. f x ∷ l) (chunks_again n f len xs)
 
+-- a number has eight bytes
 pub length-number_bytes : (number : Option ℤ) → length (number_bytes number) ≡ 8
 unfolding number_bytes
 length-number_bytes number = refl
@@ -48,9 +49,11 @@ head_mask kind flags rest count =
           ap (λ b. cond (eqb (cond b 2 1) 2) behind []) any
           ∙ take_at (mask_of flags) rest ((count_in bytes + 7) / 8)
           (length-mask flags any ∙ ap (λ n. (n + 7) / 8) (sym count))
-      | inr none ↦ ap (λ b. cond (eqb (cond b 2 1) 2) behind []) none ∙ sym (no_mask flags none)
+      | inr none ↦ ap (λ b. cond (eqb (cond b 2 1) 2) behind []) none
+          ∙ sym (no_mask flags none)
     ]
 
+-- reading a head that was written returns its count, its mask, and the bytes after it
 pub head_read : (kind : ℕ) (flags : List Bool) (rest : List ℕ) → FitsCount flags
     → HeadRead flags (head kind flags ++ rest) rest
 unfolding head
@@ -78,6 +81,7 @@ number_again (Some x) missing e fits =
     (from_le_bytes-to_le_bytes_8 (cast_unsigned w64 x) (omega (arith, Fits-of_z fits)))
     ∙ to_z-of_z w64 x fits)
 
+-- decoding the parts of a form of numbers returns the numbers
 pub numbers_again : (numbers : List (Option ℤ))
     → All (λ number. IfSome number (FitsSigned w64)) numbers
     → numbers_of (mask_of (map is_none numbers)) (map number_bytes numbers) ≡ numbers
@@ -103,7 +107,7 @@ numbers_again numbers fits =
     ∙ get_or-map is_none numbers k d false in_list)
     (fits k d in_list))
 
--- decoding a form of numbers returns them
+-- decoding a form of numbers returns the numbers
 pub ints_read_back : (numbers : List (Option ℤ)) → AreInts numbers
     → ints_meaning (ints_form numbers) ≡ numbers
 unfolding ints_form
@@ -121,6 +125,7 @@ ints_read_back numbers are =
     ∙ ap (numbers_of (mask_of flags)) (chunks_again 8 number_bytes length-number_bytes numbers)
     ∙ numbers_again numbers are.range
 
+-- decoding the spelling of a list of elements returns the list
 pub ints_list_reads_back : (numbers : List (Option ℤ))
     → All (λ number. IfSome number (FitsSigned w64)) numbers → FitsCount numbers
     → ints_meaning (ints_form numbers) ≡ numbers
@@ -137,11 +142,13 @@ length-words (x ∷ numbers) = omega (
   length-words numbers,
 )
 
+-- how many bytes a head has, with its mask
 pub length-head : (kind : ℕ) (flags : List Bool)
     → length (head kind flags) ≡ 6 + length (mask_of flags)
 unfolding head
 length-head kind flags = omega arith
 
+-- how many bytes a mask has; 0 if no value is missing
 pub length-mask_of : (flags : List Bool)
     → length (mask_of flags) ≡ cond (some_missing flags) ((length flags + 7) / 8) 0
 length-mask_of flags =
@@ -151,8 +158,10 @@ length-mask_of flags =
           ∙ ap (λ b. cond b ((length flags + 7) / 8) 0) (sym none)
     ]
 
+-- how many bytes a form of numbers has
 pub length-ints_form : (numbers : List (Option ℤ))
-    → length (ints_form numbers) ≡ 6 + length (mask_of (map is_none numbers)) + 8 * length numbers
+    → length (ints_form numbers)
+    ≡ 6 + length (mask_of (map is_none numbers)) + 8 * length numbers
 unfolding ints_form
 length-ints_form numbers = omega (
   arith,
@@ -176,6 +185,7 @@ same_version true false e = absurd (omega arith)
 same_version false true e = absurd (omega arith)
 same_version false false e = refl
 
+-- if two forms are equal, a value is missing in both or in neither
 pub same_missing : (kind other : ℕ) (one two : List Bool) (rest more : List ℕ)
     → head kind one ++ rest ≡ head other two ++ more → some_missing one ≡ some_missing two
 same_missing kind other one two rest more e = same_version (some_missing one) (some_missing two)
@@ -192,7 +202,7 @@ unfolding ints_form
 same_form_heads one other e = same_missing 0 0 (map is_none one) (map is_none other)
     (flat_map number_bytes one) (flat_map number_bytes other) e
 
--- no other list has the same form
+-- different lists have different forms
 pub one_ints_list : (one other : List (Option ℤ))
     → All (λ number. IfSome number (FitsSigned w64)) one
     → All (λ number. IfSome number (FitsSigned w64)) other → FitsCount one

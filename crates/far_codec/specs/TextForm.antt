@@ -61,7 +61,7 @@ pub record IsTextAt (mask ends body : List ℕ) (i : ℕ) : Type 0 where
   pub there : is_missing mask i ≡ false
       → IsUtf8 (slice_range body (slice_index (0 ∷ ends) i) (slice_index ends i))
 
--- the parts are those of a form of texts: each text is valid, and the last ends where the text bytes do
+-- the parts are parts of a form of texts: each text is valid, and the last ends where the text bytes end
 pub record AreTextParts (mask ends body : List ℕ) : Type 0 where
   pub each : (i : ℕ) → i < length ends → IsTextAt mask ends body i
   pub whole : slice_index (0 ∷ ends) (length ends) ≡ length body

@@ -1,4 +1,4 @@
--- Decoding a form of texts returns them.
+-- Decoding a form of texts returns the texts.
 -- Internal: no public contract cites it.
 use Rattle.std.proofs.Common.{◌≡◌, ℕ, zero, suc, ◌+◌, ◌-◌, ◌*◌, ◌^◌, ◌<◌, ◌≤◌, Bool, false, cond, List, [], ◌∷◌, ◌++◌, length, get_or, map, take, drop, Option, None, Some, refl, sym, ap, ◌∙◌, arith, append_assoc}
 use Rattle.std.specs.Prelude.{is_none, slice_range}
@@ -23,9 +23,11 @@ use Rattle.far_codec.specs.TextForm.{bytes_of, bytes_before, ends_of, texts_form
 abbrev pub Texts : Type 0
 Texts = List (Option (List ℕ))
 
+-- each text has an end
 pub length-ends_of : (texts : Texts) → length (ends_of texts) ≡ length texts
 length-ends_of texts = length-map-range_with_len (λ i. bytes_before texts (i + 1)) 0 (length texts)
 
+-- the end of text i
 pub end_at : (texts : Texts) (i : ℕ) → i < length texts
     → get_or (ends_of texts) i 0 ≡ bytes_before texts (i + 1)
 end_at texts i h = get_or-map-range_with_len (λ k. bytes_before texts (k + 1)) 0 (length texts) i i
@@ -45,7 +47,8 @@ pub before_more : (texts : Texts) (i : ℕ) → i < length texts
 before_more texts i h =
     ap (flat_map bytes_of) (take_more texts i None h)
     ∙ flat_map-append bytes_of (take i texts) (get_or texts i None ∷ [])
-    ∙ ap (λ l. flat_map bytes_of (take i texts) ++ l) (append-nil (bytes_of (get_or texts i None)))
+    ∙ ap (λ l. flat_map bytes_of (take i texts) ++ l)
+    (append-nil (bytes_of (get_or texts i None)))
 
 -- the bytes between two ends are the text
 pub text_between : (texts : Texts) (i : ℕ) → i < length texts
@@ -61,13 +64,15 @@ text_between texts i h =
     ∙ ap (λ l. l ++ back) (before_more texts i h) ∙ append_assoc front text back in
     let len : bytes_before texts (i + 1) - bytes_before texts i ≡ length text =
     omega (arith, ap length (before_more texts i h), length-append front text) in
-    ap (λ l. take (bytes_before texts (i + 1) - bytes_before texts i) (drop (length front) l)) whole
+    ap (λ l. take (bytes_before texts (i + 1) - bytes_before texts i) (drop (length front) l))
+    whole
     ∙ ap (take (bytes_before texts (i + 1) - bytes_before texts i))
     (drop_at front (text ++ back) (length front) refl)
     ∙ take_at text back (bytes_before texts (i + 1) - bytes_before texts i) (sym len)
 
 -- no end is past the last
-pub before_le : (texts : Texts) (i : ℕ) → bytes_before texts i ≤ length (flat_map bytes_of texts)
+pub before_le : (texts : Texts) (i : ℕ)
+    → bytes_before texts i ≤ length (flat_map bytes_of texts)
 before_le texts i =
     let whole : flat_map bytes_of texts
     ≡ flat_map bytes_of (take i texts) ++ flat_map bytes_of (drop i texts) =
@@ -86,6 +91,7 @@ one_length : (text : Option (List ℕ)) → option_length text ≡ length (bytes
 one_length None = refl
 one_length (Some text) = refl
 
+-- how many bytes the texts have in total
 pub text_bytes_is : (texts : Texts) → text_bytes texts ≡ length (flat_map bytes_of texts)
 text_bytes_is [] = refl
 text_bytes_is (text ∷ texts) = omega (
@@ -98,7 +104,8 @@ text_bytes_is (text ∷ texts) = omega (
 
 -- the first chunks of a list that was joined from chunks of one length
 pub chunks_before : {A : Type 0} (n : ℕ) (f : A → List ℕ) → ((x : A) → length (f x) ≡ n)
-    → (xs : List A) (rest : List ℕ) → first_chunks n (length xs) (flat_map f xs ++ rest) ≡ map f xs
+    → (xs : List A) (rest : List ℕ)
+    → first_chunks n (length xs) (flat_map f xs ++ rest) ≡ map f xs
 chunks_before n f len [] rest = refl
 chunks_before n f len (x ∷ xs) rest =
     let more = flat_map f xs ++ rest in
@@ -128,7 +135,8 @@ ends_again texts are =
     (omega arith) in
     omega (arith, end, before_le texts (k + 1), text_bytes_is texts, are.bytes)))
 
-text_again : (missing : Bool) (text : Option (List ℕ)) (bytes : List ℕ) → missing ≡ is_none text
+text_again : (missing : Bool) (text : Option (List ℕ)) (bytes : List ℕ)
+    → missing ≡ is_none text
     → bytes ≡ bytes_of text → cond missing None (Some bytes) ≡ text
 text_again missing None bytes e same = ap (λ b. cond b None (Some bytes)) e
 text_again missing (Some text) bytes e same = ap (λ b. cond b None (Some bytes)) e ∙ ap Some same
@@ -138,9 +146,13 @@ abbrev pub text_at : List ℕ → List ℕ → List ℕ → ℕ → Option (List
 text_at mask ends body i = cond (is_missing mask i) None
     (Some (slice_range body (get_or (0 ∷ ends) i 0) (get_or ends i 0)))
 
-pub length-texts_of : (mask ends body : List ℕ) → length (texts_of mask ends body) ≡ length ends
-length-texts_of mask ends body = length-map-range_with_len (text_at mask ends body) 0 (length ends)
+-- parts encode a text for each end
+pub length-texts_of : (mask ends body : List ℕ)
+    → length (texts_of mask ends body) ≡ length ends
+length-texts_of mask ends body =
+    length-map-range_with_len (text_at mask ends body) 0 (length ends)
 
+-- text i of the texts that parts encode
 pub texts_of_at : (mask ends body : List ℕ) (i : ℕ) (d : Option (List ℕ)) → i < length ends
     → get_or (texts_of mask ends body) i d ≡ text_at mask ends body i
 texts_of_at mask ends body i d h = get_or-map-range_with_len (text_at mask ends body) 0
@@ -170,11 +182,15 @@ texts_again texts =
     ∙ get_or-map is_none texts i None false in_list)
     slice)
 
-pub length-end_bytes : (ends : List ℕ) → length (flat_map (to_le_bytes w32) ends) ≡ 4 * length ends
+-- each end has four bytes
+pub length-end_bytes : (ends : List ℕ)
+    → length (flat_map (to_le_bytes w32) ends) ≡ 4 * length ends
 length-end_bytes [] = refl
 length-end_bytes (e ∷ ends) = omega (arith, length-end_bytes ends)
 
-pub texts_read_back : (texts : Texts) → AreTexts texts → texts_meaning (texts_form texts) ≡ texts
+-- decoding a form of texts returns the texts
+pub texts_read_back : (texts : Texts) → AreTexts texts
+    → texts_meaning (texts_form texts) ≡ texts
 unfolding texts_form
 texts_read_back texts are =
     let flags = map is_none texts in
@@ -187,9 +203,11 @@ texts_read_back texts are =
     ap (λ m. texts_of m
     (ends_in (first_chunks 4 (count_in (texts_form texts)) (fields_in (texts_form texts))))
     (drop (4 * count_in (texts_form texts)) (fields_in (texts_form texts)))) read.mask_is
-    ∙ ap (λ l. texts_of (mask_of flags) (ends_in (first_chunks 4 (count_in (texts_form texts)) l))
+    ∙ ap (λ l. texts_of (mask_of flags)
+    (ends_in (first_chunks 4 (count_in (texts_form texts)) l))
     (drop (4 * count_in (texts_form texts)) l)) read.fields
-    ∙ ap (λ n. texts_of (mask_of flags) (ends_in (first_chunks 4 n fields)) (drop (4 * n) fields))
+    ∙ ap (λ n. texts_of (mask_of flags) (ends_in (first_chunks 4 n fields))
+    (drop (4 * n) fields))
     count
     ∙ ap (λ w. texts_of (mask_of flags) (ends_in w) (drop (4 * length ends) fields))
     (chunks_before 4 (to_le_bytes w32) (λ e. refl) ends body)

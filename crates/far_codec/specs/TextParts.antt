@@ -4,7 +4,7 @@ use Rattle.std.specs.Prelude.{◌≡◌, ℕ, ◌<◌, ◌≤◌, true, List, �
 use Rattle.std.specs.Str.{IsUtf8}
 use Rattle.far_codec.specs.Reading.{is_missing}
 
--- the ends ascend, and the last is this one
+-- the ends ascend from 0 to `last`
 pub record Ascend (ends : List ℕ) (last : ℕ) : Type 0 where
   pub each : (i : ℕ) → i < length ends → slice_index (0 ∷ ends) i ≤ slice_index ends i
   pub whole : slice_index (0 ∷ ends) (length ends) ≡ last

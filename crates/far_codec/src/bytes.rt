@@ -1,4 +1,4 @@
-// The bytes of a far form of texts, as elements. A list of bytes that is a form spells itself.
+// Bytes as elements of objects. A list of bytes that is a far form of texts is its own spelling.
 ghost use Rattle.std.specs.Prelude.{◌<◌, ◌^◌, List, ℕ};
 ghost use Rattle.far_codec.specs.TextForm.{IsTextsForm};
 ghost use Rattle.far_codec.specs.BytesLaws.{bytes_read_back, one_bytes_list};

@@ -15,7 +15,7 @@ use crate::texts::{TextParts, end_in, start_in};
 use far_types::{Refusal, Text};
 use std::alloc::{AllocError, Global};
 
-/// Appends ends, counted from one byte in the old form and from another in the new one.
+/// Appends the ends, each as `end - from + to`.
 fn push_moved(
     form: &mut Vec<u8>,
     ends: &[[u8; 4]],
@@ -34,8 +34,8 @@ fn push_moved(
     Ok(())
 }
 
-/// Appends the ends and the bytes of the texts with text `i` replaced by this one. Copies the rest unchanged, except for the ends after
-/// text `i`.
+/// Appends the ends and the bytes of the texts with text `i` replaced by `text`, or with `text` appended if `i` is their count. Recomputes
+/// only the ends from text `i` on, and copies the rest.
 fn push_fields(
     form: &mut Vec<u8>,
     parts: TextParts<'_>,
@@ -74,7 +74,7 @@ fn push_fields(
     Ok(())
 }
 
-/// Clears a list that is no longer needed, and reserves `size` bytes in it. Allocates only if the list has too little space.
+/// Clears a list that is no longer needed, and reserves `size` bytes in it. Allocates only if its capacity is smaller.
 #[inline(always)]
 fn emptied(spare: Vec<u8>, size: usize) -> Result<Vec<u8>, Refusal>
     ensures items { IfOk result (λ list. list.items ≡ []) }
@@ -86,8 +86,8 @@ fn emptied(spare: Vec<u8>, size: usize) -> Result<Vec<u8>, Refusal>
     Ok(list)
 }
 
-/// Makes the far form of the texts with text `i` replaced by this one. The form has `size` bytes. Reuses the memory of a list that is no
-/// longer needed.
+/// Makes the far form of the texts with text `i` replaced by `text`, or with `text` appended if `i` is their count. Reserves `size` bytes
+/// in the memory of `spare`, a list that is no longer needed.
 fn form_around(
     spare: Vec<u8>,
     parts: TextParts<'_>,
@@ -125,8 +125,8 @@ fn form_around(
     Ok(form)
 }
 
-/// Makes the far form of texts with one more text appended, if none is missing. It has `size` bytes. Reuses the memory of a list that is
-/// no longer needed. Copies each part unchanged; only the head is new.
+/// Makes the far form of the texts with `text` appended, if no text is missing. Reserves `size` bytes in the memory of `spare`, a list
+/// that is no longer needed. Copies the old ends and bytes unchanged.
 fn form_behind(
     spare: Vec<u8>,
     parts: TextParts<'_>,
@@ -167,8 +167,8 @@ fn form_behind(
     Ok(form)
 }
 
-/// Makes the far form of the texts with text `i` replaced by this one, in one pass over the old form and one allocation. Refused only
-/// with `NoMemory` (1).
+/// Makes the far form of the texts with text `i` replaced by `text`, in one pass over the old form and one allocation. Refused only with
+/// `NoMemory` (1).
 pub fn form_with(
     alloc: Global,
     form: &[u8],
@@ -182,7 +182,8 @@ pub fn form_with(
     ensures texts { IfOk result
         (λ new. texts_meaning new.items ≡ slice_set (texts_meaning form.now) i text.now) }
     ensures length { IfOk result
-        (λ new. length new.items ≡ texts_length (slice_set (texts_meaning form.now) i text.now)) }
+        (λ new. length new.items
+        ≡ texts_length (slice_set (texts_meaning form.now) i text.now)) }
     ensures memory { IfErr result (λ e. e ≡ Refusal.NoMemory) }
 {
     form_around(
@@ -194,9 +195,9 @@ pub fn form_with(
     )
 }
 
-/// Makes the far form of the texts with this text appended, in one pass over the old form.
+/// Makes the far form of the texts with `text` appended, in one pass over the old form.
 ///
-/// Reuses the memory of `spare`, a list that is no longer needed, and allocates only if that has too little space. Refused only with
+/// Reuses the memory of `spare`, a list that is no longer needed, and allocates only if its capacity is too small. Refused only with
 /// `NoMemory` (1).
 pub fn form_with_next(spare: Vec<u8>, form: &[u8], text: &Option<Text>) -> Result<Vec<u8>, Refusal>
     requires form { IsTextsForm form.now }
@@ -218,7 +219,7 @@ pub fn form_with_next(spare: Vec<u8>, form: &[u8], text: &Option<Text>) -> Resul
     form_around(spare, old, old.ends.len(), text, size)
 }
 
-/// Makes the far form of one text, in the memory of a list that is no longer needed. Refused only with `NoMemory` (1).
+/// Makes the far form of one text, in the memory of `spare`, a list that is no longer needed. Refused only with `NoMemory` (1).
 pub fn form_of(spare: Vec<u8>, text: &Option<Text>) -> Result<Vec<u8>, Refusal>
     requires { texts_length (text.now ∷ []) < 2 ^ 32 }
     ensures form { IfOk result (λ new. IsTextsForm new.items) }

@@ -11,7 +11,7 @@ use std::alloc::Global;
 pub trait Elem: Copy + Drop + Send + Sync {
     /// The element is in the range of its type, as each element of a running program is.
     ///
-    /// For the proof: nothing else tells the crates above that it is.
+    /// Proofs of the crates that use this trait need it: they cannot learn it from elsewhere.
     ghost in_range: { Self → Type 0 };
 
     /// The list has a spelling.
@@ -36,7 +36,8 @@ pub trait Elem: Copy + Drop + Send + Sync {
         ensures found { IfOk result (λ read. IfSome read
             (λ list. IsSpelled in_range has_spelling spelling list.items bytes.now)) }
         // A list with these bytes as its spelling is returned.
-        ensures only { (list : List Self) → IsSpelled in_range has_spelling spelling list bytes.now
+        ensures only { (list : List Self)
+            → IsSpelled in_range has_spelling spelling list bytes.now
             → IfOk result (λ read. option_map (λ found. found.items) read ≡ Some list) }
         ensures memory { IfErr result (λ e. e ≡ Refusal.NoMemory) };
 
@@ -49,7 +50,7 @@ pub trait Elem: Copy + Drop + Send + Sync {
     ghost reads_back: { (list : List Self) → All in_range list → has_spelling list
         → meaning (spelling list) ≡ list };
 
-    /// No other list has the same spelling.
+    /// Different lists have different spellings.
     ghost one_list: { (one other : List Self) → All in_range one → All in_range other
         → has_spelling one → spelling one ≡ spelling other → one ≡ other };
 }

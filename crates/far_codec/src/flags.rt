@@ -1,4 +1,4 @@
-// Flags that say which of some values are missing.
+// Flags that say which values are missing.
 ghost use Rattle.std.specs.Prelude.{◌≡◌, ◌<◌, length, slice_index_or, slice_set, is_none, false};
 ghost use Rattle.std.specs.List.{list_any};
 ghost use Rattle.far_codec.specs.FarForm.{some_missing};
@@ -10,7 +10,7 @@ use crate::head::is_set;
 pub(crate) trait Flags {
     ghost use Rattle.std.specs.Prelude.{Bool, List};
 
-    /// Whether each is missing.
+    /// For each value, whether it is missing.
     ghost flags: { Self → List Bool };
 
     /// Returns how many values there are.
@@ -22,13 +22,12 @@ pub(crate) trait Flags {
         requires { i < length (flags self.now) }
         ensures { result ≡ slice_index_or (flags self.now) i false };
 
-    /// Returns whether one is missing.
+    /// Returns whether at least one value is missing.
     fn any_missing(&self) -> bool
         ensures { result ≡ some_missing (flags self.now) };
 }
 
-/// Returns whether a value other than value `i` is missing. Without a mask none is, and no flag is read. Else the search stops at the
-/// first.
+/// Returns whether a value other than value `i` is missing. Reads no flag if there is no mask, and else stops at the first such value.
 pub(crate) fn other_missing(mask: &[u8], count: usize, i: usize) -> bool
     ensures { result ≡ some_missing (slice_set (flags_of mask.now count) i false) }
 {
@@ -44,7 +43,7 @@ pub(crate) fn other_missing(mask: &[u8], count: usize, i: usize) -> bool
     false
 }
 
-/// Returns whether a value is missing.
+/// Returns whether at least one value is missing.
 fn any_none<T>(values: &[Option<T>]) -> bool
     ensures { result ≡ list_any is_none values.now }
 {
@@ -69,7 +68,7 @@ impl<T> Flags for &[Option<T>] {
     }
 }
 
-/// The flags of a mask of `count` values, except that value `i` has another flag.
+/// The flags of a mask of `count` values, with the flag of value `i` replaced by `missing`.
 #[derive(Clone, Copy)]
 pub(crate) struct ChangedFlags<'a> {
     pub mask: &'a [u8],

@@ -4,8 +4,7 @@ ghost use Rattle.std.specs.List.{list_any};
 ghost use Rattle.far_codec.specs.FarForm.{head, mask_of, some_missing, FitsCount};
 ghost use Rattle.far_codec.specs.Reading.{is_missing, flags_of};
 
-/// The parts of a far form of one kind: the count of its values, its mask, and the bytes after the
-/// mask.
+/// The parts of a far form: the count of its values, its mask, and the bytes after the mask.
 #[derive(Clone, Copy)]
 pub(crate) struct Masked<'a> {
     pub count: usize,
@@ -13,7 +12,7 @@ pub(crate) struct Masked<'a> {
     pub fields: &'a [u8],
 }
 
-/// Returns whether value `i` is missing.
+/// Returns whether the mask marks value `i` as missing.
 pub(crate) fn is_set(mask: &[u8], i: usize) -> bool
     ensures { result ≡ is_missing mask.now i }
 {
@@ -23,7 +22,7 @@ pub(crate) fn is_set(mask: &[u8], i: usize) -> bool
     }
 }
 
-/// Returns whether a byte is not 0.
+/// Returns whether at least one byte is not 0.
 pub(crate) fn has_bit(mask: &[u8]) -> bool
     ensures { result ≡ list_any (λ byte. not (byte == 0)) mask.now }
 {
@@ -44,7 +43,7 @@ fn is_mask(mask: &[u8], count: usize) -> bool
     has_bit(mask)
 }
 
-/// Splits off the mask of `count` values.
+/// Splits off the mask of `count` values. Returns `None` if the bytes do not begin with such a mask.
 fn split_mask(count: usize, rest: &[u8]) -> Option<Masked<'_>>
     requires { count < 2 ^ 32 }
     ensures found { IfSome result (λ m. (m.count ≡ count)
@@ -70,14 +69,15 @@ fn split_mask(count: usize, rest: &[u8]) -> Option<Masked<'_>>
     })
 }
 
-/// Splits off the head and the mask of a form of the kind.
+/// Splits off the head and the mask of a form of this kind. Returns `None` if the bytes do not begin with these.
 pub(crate) fn split_head(bytes: &[u8], kind: u8) -> Option<Masked<'_>>
     ensures found { IfSome result (λ m. (m.count < 2 ^ 32)
         × (bytes.now ≡ head kind (flags_of m.mask.now m.count) ++ m.fields.now)) }
     ensures only { (flags : List Bool) (rest : List ℕ) → FitsCount flags
         → bytes.now ≡ head kind flags ++ rest
         → IsSomeAnd result
-        (λ m. (m.count ≡ length flags) × (m.mask.now ≡ mask_of flags) × (m.fields.now ≡ rest)) }
+        (λ m. (m.count ≡ length flags) × (m.mask.now ≡ mask_of flags)
+        × (m.fields.now ≡ rest)) }
 {
     if bytes.len() < 6 {
         return None;

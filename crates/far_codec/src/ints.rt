@@ -46,8 +46,8 @@ fn missing_are_zero(mask: &[u8], words: &[[u8; 8]]) -> bool
 pub(crate) fn split_ints(bytes: &[u8]) -> Option<IntParts<'_>>
     ensures found { IfSome result (λ parts. AreInts (numbers_of parts.mask.now parts.words.now)
         × (bytes.now ≡ ints_form (numbers_of parts.mask.now parts.words.now))) }
-    ensures only { (numbers : List (Option ℤ)) → AreInts numbers → bytes.now ≡ ints_form numbers
-        → IsSome result }
+    ensures only { (numbers : List (Option ℤ)) → AreInts numbers
+        → bytes.now ≡ ints_form numbers → IsSome result }
 {
     let Masked {
         count,
@@ -116,7 +116,7 @@ pub fn encode_ints(alloc: Global, numbers: &[Option<i64>]) -> Result<Vec<u8>, Re
     Ok(form)
 }
 
-/// Returns whether the bytes say that a value is missing, if they are a far form.
+/// Returns whether the first byte is 2, which says in a far form that a value is missing.
 fn tells_missing(bytes: &[u8]) -> bool
     ensures { result ≡ (slice_index_or bytes.now 0 0 == 2) }
 {

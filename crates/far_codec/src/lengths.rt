@@ -9,7 +9,7 @@ use crate::text_forms::{bytes_in, form_parts};
 use crate::texts::text_in;
 use far_types::Text;
 
-/// Returns the length of a borrowed text in bytes, 0 if it is missing.
+/// Returns the length of a borrowed text in bytes; 0 if it is missing.
 fn lent_length(text: Option<&str>) -> usize
     ensures { result ≡ length (bytes_of (option_copied text.entry)) }
 {
@@ -19,7 +19,7 @@ fn lent_length(text: Option<&str>) -> usize
     }
 }
 
-/// Returns the length of the mask of `count` values in bytes.
+/// Returns the length of the mask of `count` values in bytes; 0 if none is missing.
 fn mask_size(missing: bool, count: usize) -> usize
     requires { count ≤ 2 ^ 32 }
     ensures { result ≡ cond missing ((count + 7) / 8) 0 }
@@ -27,7 +27,7 @@ fn mask_size(missing: bool, count: usize) -> usize
     if missing { (count + 7) / 8 } else { 0 }
 }
 
-/// Returns the length of the form of `count` texts that have `bytes` bytes in all.
+/// Returns the length of the form of `count` texts that have `bytes` bytes in total.
 pub(crate) fn length_of(missing: bool, count: usize, bytes: usize) -> usize
     requires few { count ≤ 2 ^ 32 }
     requires space { bytes < 2 ^ 63 + 2 ^ 33 }
@@ -36,7 +36,7 @@ pub(crate) fn length_of(missing: bool, count: usize, bytes: usize) -> usize
     6 + mask_size(missing, count) + 4 * count + bytes
 }
 
-/// Returns the length of the far form with text `i` replaced by this one.
+/// Returns the length of the far form with text `i` replaced by `text`.
 pub fn length_with(form: &[u8], i: usize, text: &Option<Text>) -> usize
     requires form { IsTextsForm form.now }
     requires there { i < length (texts_meaning form.now) }
@@ -53,7 +53,7 @@ pub fn length_with(form: &[u8], i: usize, text: &Option<Text>) -> usize
     )
 }
 
-// Returns the length of the far form with this text appended, computed from the form's parts.
+// Returns the length of the far form with `text` appended, computed from the form's parts.
 fn parted_length_with_next(form: &[u8], text: &Option<Text>) -> usize
     requires { IsTextsForm form.now }
     ensures { result ≡ texts_length (texts_meaning form.now ++ text.now ∷ []) }
@@ -64,13 +64,12 @@ fn parted_length_with_next(form: &[u8], text: &Option<Text>) -> usize
     length_of(missing, count + 1, parts.body.len() + bytes_in(text).len())
 }
 
-/// Returns the length of the far form with this text appended.
+/// Returns the length of the far form with `text` appended.
 pub fn length_with_next(form: &[u8], text: &Option<Text>) -> usize
     requires { IsTextsForm form.now }
     ensures { result ≡ texts_length (texts_meaning form.now ++ text.now ∷ []) }
 {
-    // A form without a mask needs none for a text that is not missing: it grows by an end and by the text's
-    // bytes.
+    // If no text is missing, there is no mask before or after. The form then grows by an end and by the text's bytes.
     if form[0] == 1 && text.is_some() {
         return form.len() + 4 + bytes_in(text).len();
     }

@@ -53,7 +53,7 @@ impl<'a> LentInts<'a> {
     }
 }
 
-/// The texts of a far form, read in place. Contracts see the list of the lists of their bytes.
+/// The texts of a far form, read in place. Contracts see each text as the list of its bytes.
 #[derive(Drop)]
 pub struct LentTexts<'a> {
     parts: TextParts<'a>,

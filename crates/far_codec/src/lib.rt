@@ -1,5 +1,5 @@
 #![tactic(auto)]
-//! Far forms: the serialized encoding of the values of one column and row group, for the far store; and the elements of objects.
+//! Far forms: how the values of one column and row group are serialized for the far store. Also the element types of objects.
 
 mod bytes;
 mod changes;

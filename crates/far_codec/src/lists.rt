@@ -41,7 +41,7 @@ impl IntList {
     }
 }
 
-/// A list of texts, each of which may be missing. Contracts see the list of the lists of their bytes.
+/// A list of texts, each of which may be missing. Contracts see each text as the list of its bytes.
 #[derive(Drop, Debug)]
 pub struct TextList {
     texts: Vec<Option<Text>>,

@@ -8,7 +8,7 @@ use crate::flags::Flags;
 use crate::head::has_bit;
 use std::alloc::AllocError;
 
-/// Returns the length of the mask of values in bytes.
+/// Returns the length of the mask of values in bytes; 0 if none is missing.
 pub(crate) fn mask_length<T>(values: &[Option<T>]) -> usize
     ensures { result ≡ mask_length values.now }
 {
@@ -19,7 +19,7 @@ pub(crate) fn mask_length<T>(values: &[Option<T>]) -> usize
     }
 }
 
-/// Returns the first byte of a form.
+/// Returns the first byte of a form, which says whether the form has a mask.
 fn version(masked: bool) -> u8
     ensures { result ≡ cond masked 2 1 }
 {
@@ -70,8 +70,7 @@ pub(crate) fn push_head<F: Flags>(form: &mut Vec<u8>, kind: u8, flags: &F) -> Re
     Ok(())
 }
 
-/// Returns the bytes after the mask of values, some of them missing, if the bytes begin with that mask. Stops at the first
-/// difference.
+/// Returns the bytes after the mask of `values`, if the bytes begin with that mask and a value is missing. Stops at the first difference.
 fn strip_mask<'a, T>(bytes: &'a [u8], values: &[Option<T>]) -> Option<&'a [u8]>
     ensures found { IfSome result (λ rest. (bytes.now
         ≡ mask_bytes (map is_none values.now) ++ rest.now)
@@ -95,7 +94,7 @@ fn strip_mask<'a, T>(bytes: &'a [u8], values: &[Option<T>]) -> Option<&'a [u8]>
     Some(rest)
 }
 
-/// Returns the bytes after the head and the mask of values, some of them missing, if the bytes begin with these. Stops at the first
+/// Returns the bytes after the head and the mask of `values`, if the bytes begin with these and a value is missing. Stops at the first
 /// difference.
 pub(crate) fn strip_head<'a, T>(bytes: &'a [u8], kind: u8, values: &[Option<T>]) -> Option<&'a [u8]>
     ensures found { IfSome result (λ rest. (bytes.now

@@ -1,4 +1,4 @@
-// Numbers none of which is missing, as elements.
+// Numbers as elements of objects; none of them is missing.
 ghost use Rattle.std.specs.Prelude.{◌≡◌, ◌↔◌, ◌++◌, ◌∷◌, ◌<◌, ◌^◌, ℤ, List, map, length, FitsSigned, OnOk, IfOk, IfSome, IsSomeAnd, IsTrue, Some};
 ghost use Rattle.std.specs.List.{flat_map, AllByRecursion};
 ghost use Rattle.std.specs.Int.{w32, w64, to_le_bytes};
@@ -12,7 +12,7 @@ use crate::words::{are_words, number_in, push_words};
 use far_types::Refusal;
 use std::alloc::{AllocError, Global};
 
-/// Decodes the numbers of the words.
+/// Decodes the number in each word.
 fn read_numbers(alloc: Global, words: &[[u8; 8]]) -> Result<Vec<i64>, AllocError>
     ensures { IfOk result (λ numbers. numbers.items ≡ map number_of words.now) }
 {
@@ -21,7 +21,7 @@ fn read_numbers(alloc: Global, words: &[[u8; 8]]) -> Result<Vec<i64>, AllocError
     Ok(numbers)
 }
 
-/// Returns the words of a form of numbers without a mask, if the bytes are such a form with any count.
+/// Returns the words of a form of numbers without a mask, if the bytes are such a form. Does not check that the count fits four bytes.
 pub(crate) fn plain_words(bytes: &[u8]) -> Option<&[[u8; 8]]>
     ensures found { IfSome result (λ words. IsPlain bytes.now words.now) }
     ensures only { (numbers : List ℤ) → bytes.now ≡ plain_form numbers
@@ -42,7 +42,7 @@ pub(crate) fn plain_words(bytes: &[u8]) -> Option<&[[u8; 8]]>
     Some(words)
 }
 
-/// Appends the head of `count` numbers none of which is missing.
+/// Appends the head of `count` numbers, none of which is missing.
 pub(crate) fn push_plain_head(form: &mut Vec<u8>, count: usize) -> Result<(), AllocError>
     requires { count < 2 ^ 32 }
     ensures { OnOk result (form.new.items ≡ form.old.items ++ 1 ∷ 0 ∷ to_le_bytes w32 count) }

@@ -8,8 +8,7 @@ use crate::numbers::plain_words;
 use crate::words::EightBytes;
 use std::alloc::AllocError;
 
-/// Writes the words of a block into their places. Returns whether no number is missing. Stops at the first missing
-/// one.
+/// Writes the word of each number of a block into its place. Returns whether none is missing. Stops at the first missing one.
 #[tactic(auto, unfolding(crate::specs::FarForm::number_bytes))]
 fn write_present(words: &mut [[u8; 8]], block: &[Option<i64>]) -> bool
     requires { length words.old ≡ length block.now }
@@ -28,7 +27,8 @@ fn write_present(words: &mut [[u8; 8]], block: &[Option<i64>]) -> bool
 /// Appends the words of a few numbers. Returns whether none is missing. Stops at the first missing one.
 fn push_few(form: &mut Vec<u8>, numbers: &[Option<i64>]) -> Result<bool, AllocError>
     ensures written { IfOk result
-        (λ all. IsTrue all → form.new.items ≡ form.old.items ++ flat_map number_bytes numbers.now) }
+        (λ all. IsTrue all
+        → form.new.items ≡ form.old.items ++ flat_map number_bytes numbers.now) }
     ensures there { IfOk result (λ all. IsTrue all → AllByRecursion IsThere numbers.now) }
 {
     for number in numbers {
@@ -42,10 +42,11 @@ fn push_few(form: &mut Vec<u8>, numbers: &[Option<i64>]) -> Result<bool, AllocEr
 
 /// Appends the words of numbers. Returns whether none is missing. Stops at the first missing one.
 ///
-/// Writes them in blocks, so that it need not test for each word whether the form has space.
+/// Writes the words in blocks, so that it tests only once for each block whether the form has capacity.
 pub(crate) fn push_present(form: &mut Vec<u8>, numbers: &[Option<i64>]) -> Result<bool, AllocError>
     ensures written { IfOk result
-        (λ all. IsTrue all → form.new.items ≡ form.old.items ++ flat_map number_bytes numbers.now) }
+        (λ all. IsTrue all
+        → form.new.items ≡ form.old.items ++ flat_map number_bytes numbers.now) }
     ensures there { IfOk result (λ all. IsTrue all → AllByRecursion IsThere numbers.now) }
 {
     let mut words = [[0; 8]; 64];
@@ -61,12 +62,12 @@ pub(crate) fn push_present(form: &mut Vec<u8>, numbers: &[Option<i64>]) -> Resul
     push_few(form, rest)
 }
 
-/// Returns whether none of the numbers is missing and the words are theirs. Stops at the first difference.
+/// Returns whether none of the numbers is missing and the words encode them. Stops at the first difference.
 fn are_present(words: &[[u8; 8]], numbers: &[Option<i64>]) -> bool
     ensures found { IsTrue result
         → (words.now ≡ map number_bytes numbers.now) × AllByRecursion IsThere numbers.now }
-    ensures only { words.now ≡ map number_bytes numbers.now → list_any is_none numbers.now ≡ false
-        → IsTrue result }
+    ensures only { words.now ≡ map number_bytes numbers.now
+        → list_any is_none numbers.now ≡ false → IsTrue result }
 {
     if words.len() != numbers.len() {
         return false;

@@ -1,4 +1,4 @@
-// Far forms of texts: writing them, and borrowing a text of one.
+// Writes far forms of texts, and borrows single texts of them.
 ghost use Rattle.std.specs.Prelude.{◌≡◌, ◌++◌, ◌∷◌, ◌+◌, ◌/◌, ◌==◌, ◌<◌, ◌^◌, [], cond, ℕ, List, Option, Some, length, map, slice_get, option_and_then, OnOk, IfOk, IfErr, IfSome, All};
 ghost use Rattle.std.specs.Option.{option_copied};
 ghost use Rattle.std.specs.List.{flat_map};
@@ -12,7 +12,7 @@ use crate::texts::{TextParts, split_texts, text_in};
 use far_types::{Refusal, Text};
 use std::alloc::{AllocError, Global};
 
-/// Borrows the bytes of a text in place: none if it is missing.
+/// Borrows the bytes of a text in place; an empty slice if it is missing.
 pub(crate) fn bytes_in(text: &Option<Text>) -> &[u8]
     ensures bytes { result.now ≡ bytes_of text.now }
     ensures utf8 { IfSome text.now IsUtf8 }
@@ -23,7 +23,7 @@ pub(crate) fn bytes_in(text: &Option<Text>) -> &[u8]
     }
 }
 
-/// Returns how many bytes the texts have in all.
+/// Returns how many bytes the texts have in total.
 fn count_bytes(texts: &[Option<Text>]) -> usize
     requires { text_bytes texts.now < 2 ^ 62 }
     ensures { result ≡ text_bytes texts.now }
@@ -60,7 +60,8 @@ fn push_ends(form: &mut Vec<u8>, texts: &[Option<Text>]) -> Result<(), AllocErro
 
 /// Appends the bytes of each text.
 fn push_texts(form: &mut Vec<u8>, texts: &[Option<Text>]) -> Result<(), AllocError>
-    ensures written { OnOk result (form.new.items ≡ form.old.items ++ flat_map bytes_of texts.now) }
+    ensures written { OnOk result
+        (form.new.items ≡ form.old.items ++ flat_map bytes_of texts.now) }
     ensures utf8 { OnOk result (All (λ text. IfSome text IsUtf8) texts.now) }
 {
     for text in texts {

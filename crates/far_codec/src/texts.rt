@@ -33,7 +33,7 @@ pub(crate) fn start_in(ends: &[[u8; 4]], i: usize) -> usize
     if i == 0 { 0 } else { end_in(&ends[i - 1]) }
 }
 
-/// Returns whether the ends ascend from 0 to the last.
+/// Returns whether the ends ascend from 0 to `last`.
 fn ascend_to(ends: &[[u8; 4]], last: usize) -> bool
     ensures { IsTrue result ↔ Ascend (ends_in ends.now) last }
 {
@@ -85,8 +85,7 @@ fn are_utf8(ends: &[[u8; 4]], body: &[u8]) -> bool
     true
 }
 
-/// Returns whether these are the parts of a form of texts. If all text bytes are ASCII, the texts are not
-/// checked one by one.
+/// Returns whether these are the parts of a form of texts. If all text bytes are ASCII, does not check the texts one by one.
 fn are_texts(mask: &[u8], ends: &[[u8; 4]], body: &[u8]) -> bool
     ensures { IsTrue result ↔ AreTextParts mask.now (ends_in ends.now) body.now }
 {
@@ -108,8 +107,8 @@ pub(crate) fn split_texts(bytes: &[u8]) -> Option<TextParts<'_>>
     ensures found { IfSome result (λ p. AreTexts
         (texts_of p.mask.now (ends_in p.ends.now) p.body.now)
         × (bytes.now ≡ texts_form (texts_of p.mask.now (ends_in p.ends.now) p.body.now))) }
-    ensures only { (texts : List (Option (List ℕ))) → AreTexts texts → bytes.now ≡ texts_form texts
-        → IsSome result }
+    ensures only { (texts : List (Option (List ℕ))) → AreTexts texts
+        → bytes.now ≡ texts_form texts → IsSome result }
 {
     let Masked {
         count,

@@ -17,8 +17,7 @@ pub enum Values {
     Texts(TextList),
 }
 
-/// Decodes a far form: returns its values, or `None` if the bytes are not a far form. Refused only with
-/// `NoMemory` (1).
+/// Decodes a far form: returns its values, or `None` if the bytes are not a far form. Refused only with `NoMemory` (1).
 pub fn decode(alloc: Global, bytes: &[u8]) -> Result<Option<Values>, Refusal>
     // Values that are returned have these bytes as their form.
     ensures found { IfOk result

@@ -9,10 +9,10 @@ use std::alloc::AllocError;
 
 /// A value that is written as eight bytes.
 pub(crate) trait EightBytes: Copy + Drop {
-    /// The eight bytes.
+    /// The eight bytes of the value.
     ghost written: { Self → List ℕ };
 
-    /// The element is in the range of its type.
+    /// The value is in the range of its type.
     ghost in_range: { Self → Type 0 };
 
     fn word(&self) -> [u8; 8]
@@ -65,10 +65,10 @@ fn write_words<T: EightBytes>(words: &mut [[u8; 8]], block: &[T])
     }
 }
 
-/// Appends the words of a list. Writes them in blocks, so that the compiler makes wide moves of
-/// them.
+/// Appends the words of a list. Writes them in blocks, so that the compiler uses wide moves.
 pub(crate) fn push_words<T: EightBytes>(form: &mut Vec<u8>, list: &[T]) -> Result<(), AllocError>
-    ensures written { OnOk result (form.new.items ≡ form.old.items ++ flat_map T.written list.now) }
+    ensures written { OnOk result
+        (form.new.items ≡ form.old.items ++ flat_map T.written list.now) }
     ensures range { OnOk result (AllByRecursion T.in_range list.now) }
 {
     let mut words = [[0; 8]; 64];
@@ -85,7 +85,7 @@ pub(crate) fn push_words<T: EightBytes>(form: &mut Vec<u8>, list: &[T]) -> Resul
     Ok(())
 }
 
-/// Returns whether the words are those of the list. Stops at the first difference.
+/// Returns whether the words encode the list. Stops at the first difference.
 pub(crate) fn are_words<T: EightBytes>(words: &[[u8; 8]], list: &[T]) -> bool
     ensures exact { IsTrue result ↔ (words.now ≡ map T.written list.now) }
     ensures range { IsTrue result → AllByRecursion T.in_range list.now }

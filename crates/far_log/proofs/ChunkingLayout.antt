@@ -7,7 +7,7 @@ use Rattle.std.specs.Prelude.{vec_capacity, slice_get, slice_set}
 use Rattle.std.specs.declared.vec.Vec.{Vec}
 use Rattle.far_log.specs.Chunking.{capacity_at, start_at, items_of, AreChunks, IsPlaceOf}
 
--- a chunk has as much space as the chunks before it and one more first chunk
+-- a chunk has the capacity of all chunks before it and one more first chunk
 pub start-size : (size number : ℕ) → start_at size number + size ≡ capacity_at size number
 start-size size zero = omega arith
 start-size size (suc number) = let later = start-size (size + size) number in omega arith
@@ -150,7 +150,7 @@ module _ {X Z : Type 0} where
       let later = ends-within (size + size) (a ∷ cs) number c h.1 e in
       omega (arith, later, h.0, length-append b.items (items_of (a ∷ cs)))
 
-  -- what a read there returns
+  -- an element of a chunk is the element of the list at its place
   pub read-chunk : (size : ℕ) (cs : List (Vec X Z)) (number at : ℕ) (c : Vec X Z) → AreChunks size cs → slice_get cs number ≡ Some c → at < length c.items
       → slice_get (items_of cs) (start_at size number + at) ≡ slice_get c.items at
   read-chunk size [] number at c h e lt = absurd (cc)
@@ -160,7 +160,7 @@ module _ {X Z : Type 0} where
       let disjoint : size + start_at (size + size) number + at ≡ size + (start_at (size + size) number + at) = omega arith in
       rw disjoint (get-back b.items (items_of (d ∷ cs)) size (start_at (size + size) number + at) h.0 ∙ read-chunk (size + size) (d ∷ cs) number at c h.1 e lt)
 
-  -- what a write there changes
+  -- writing an element of a chunk writes the element of the list at its place
   pub write-chunk : (size : ℕ) (cs : List (Vec X Z)) (number at : ℕ) (c d : Vec X Z) (x : X) → AreChunks size cs → slice_get cs number ≡ Some c → at < length c.items
       → d.items ≡ slice_set c.items at x → items_of (slice_set cs number d) ≡ slice_set (items_of cs) (start_at size number + at) x
   write-chunk size [] number at c d x h e lt is = absurd (cc)
@@ -170,7 +170,7 @@ module _ {X Z : Type 0} where
       let disjoint : size + start_at (size + size) number + at ≡ size + (start_at (size + size) number + at) = omega arith in
       rw disjoint (ap (λ zs. b.items ++ zs) (write-chunk (size + size) (a ∷ cs) number at c d x h.1 e lt is) ∙ set-back b.items (items_of (a ∷ cs)) size (start_at (size + size) number + at) x h.0)
 
-  -- the chunks after one is written
+  -- chunks remain chunks after one of them is written
   pub chunks-set : (size : ℕ) (cs : List (Vec X Z)) (number : ℕ) (c d : Vec X Z) → AreChunks size cs → slice_get cs number ≡ Some c → length d.items ≡ length c.items → vec_capacity d ≡ vec_capacity c
       → AreChunks size (slice_set cs number d)
   chunks-set size [] number c d h e long capacity = absurd (cc)

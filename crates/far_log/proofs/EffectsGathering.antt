@@ -41,7 +41,7 @@ module _ {X : Type 0} where
   fill-layout_from from [] = omega arith
   fill-layout_from from (xs ∷ xss) = omega (arith, fill-layout_from (from + length xs) xss, sum_by-cons (λ (ys : List X). length ys) xs xss)
 
-  -- one more list
+  -- one more list is placed
   pub layout_from-push : (from : ℕ) (xss : List (List X)) (xs : List X) → layout_from from (xss ++ xs ∷ []) ≡ layout_from from xss ++ record { offset = fill_from from (layout_from from xss); list = xs } ∷ []
   layout_from-push from [] xs = refl
   layout_from-push from (ys ∷ xss) xs = ap (λ ps. record { offset = from; list = ys } ∷ ps) (layout_from-push (from + length ys) xss xs)
@@ -67,7 +67,7 @@ module _ {X : Type 0} where
         | inr other ↦ rw (ne_eqb p.offset offset other) (omega (arith, rest, one, two))
       ]
 
-  -- the length of one part, and of the others
+  -- the length of one part and of the others is at most the total length
   used-split : (offset : ℕ) (ps : List (Part X)) → length (list_or_none ps offset) + used (others offset ps) ≤ used ps
   used-split offset [] = omega arith
   used-split offset (p ∷ ps) =
@@ -83,7 +83,7 @@ module _ {X : Type 0} where
   list-of-others : (offset q : ℕ) (ps : List (Part X)) → q ≢ offset → list_or_none (others offset ps) q ≡ list_or_none ps q
   list-of-others offset q ps ne = ap (λ o. unwrap_or o []) (list-others ps offset q ne)
 
-  -- parts that are listed once have in all at most the total length
+  -- the length of parts that are each listed once is at most the total length
   abbrev pub lens : List (Part X) → List ℕ → ℕ
   lens ps order = sum_by (λ offset. length (list_or_none ps offset)) order
 
@@ -112,7 +112,7 @@ module _ {X : Type 0} where
   lens-of ps [] = refl
   lens-of ps (o ∷ os) = omega (arith, lens-of ps os, sum_by-cons (λ (xs : List X). length xs) (list_or_none ps o) (map (list_or_none ps) os), sum_by-cons (λ n. length (list_or_none ps n)) o os)
 
-  -- the next part has space
+  -- the next part fits in the segment
   pub next-fits : (s : SegmentState X) (order : List ℕ) (i size : ℕ) → IsLayout s → IsOrder s.parts order → i < length order → s.size ≤ size
       → length (list_or_none s.parts (get_or order i 0)) ≤ size - fill_from 0 (gathered s.parts (take i order))
   next-fits s order i size h o lt le =

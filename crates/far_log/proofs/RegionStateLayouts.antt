@@ -51,7 +51,7 @@ module _ {X : Type 0} where
   pub layout-without_part : (s : SegmentState X) (offset : ℕ) → IsLayout s → IsLayout (without_part s offset)
   layout-without_part s offset h = layout-filter 0 s.size s.parts (λ p. not (eqb p.offset offset)) h
 
-  -- under a write
+  -- after a write
   length-over : (xs : List X) (i : ℕ) (ws : List X) → length (written_over xs i ws) ≡ length xs
   length-over xs i ws =
       omega (arith, length-take (length xs) (take i xs ++ (ws ++ drop (i + length ws) xs)), length-append (take i xs) (ws ++ drop (i + length ws) xs), length-append ws (drop (i + length ws) xs), length-take i xs, length-drop (i + length ws) xs)

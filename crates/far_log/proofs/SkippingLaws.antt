@@ -1,4 +1,4 @@
--- Searches for space that skip segments known to lack it.
+-- Searches for space, which skip segments that are known to lack it.
 use Rattle.std.proofs.Common.{◌≡◌, ◌⊎◌, ℕ, zero, suc, ◌+◌, ◌-◌, ◌<◌, ◌≤◌, true, false, List, [], ◌∷◌, length, map, drop, Some, None, refl, sym, ap, subst, ◌∙◌, inl, inr, arith, get_or-set_same, get_or-set_other}
 use Rattle.std.specs.Prelude.{nat_le}
 use Rattle.std.specs.List.{list_all}
@@ -13,7 +13,7 @@ use Rattle.far_log.specs.Skipping.{IsSkip, IsSpaced}
 use Rattle.far_log.proofs.FittingLaws.{lowest-first, lowest-later, after_fill-first}
 use Rattle.far_log.proofs.RegionStateLayouts.{space-after_write}
 
--- the lengths of waiting lists, and 0 for each list that was placed
+-- each length is 0, for a list that was placed, or at least `len`
 abbrev pub AreLong : ℕ → List ℕ → Type 0
 AreLong len [] = Unit {0}
 AreLong len (w ∷ ws) = ((w ≡ 0) ⊎ (len ≤ w)) × AreLong len ws
@@ -29,7 +29,7 @@ pub long-any : (ws : List ℕ) → AreLong 0 ws
 long-any [] = tt
 long-any (w ∷ ws) = (inr (omega arith), long-any ws)
 
--- they remain so when a segment takes some
+-- this remains true after a segment takes some lists
 pub long-after_fill : (f len : ℕ) (ws : List ℕ) → AreLong len ws → AreLong len (after_fill f ws)
 long-after_fill f len [] h = tt
 long-after_fill f len (w ∷ ws) h = elim (cases_lt f w) [
@@ -64,7 +64,7 @@ module _ {X : Type 0} where
       lowest-later (space_in s) (map space_in state) len (lt-leb len (space_in s) first)
       ∙ ap (λ o. option_map_or (λ i. Some (suc i)) o None) (lowest-is state n len (λ k less. none (suc k) (omega (arith, less))) (omega (arith, lt)) takes)
 
-  -- if none is found there is none
+  -- if the search finds no segment, no segment has the space
   pub none-takes : (state : RegionState X) (n len : ℕ) → HasNoSpace state n len → length state ≤ n → target_of state len ≡ None
   none-takes [] n len none le = refl
   none-takes (s ∷ state) zero len none le = absurd (omega (arith, le))
@@ -73,7 +73,7 @@ module _ {X : Type 0} where
       lowest-later (space_in s) (map space_in state) len (lt-leb len (space_in s) first)
       ∙ ap (λ o. option_map_or (λ i. Some (suc i)) o None) (none-takes state n len (λ k less. none (suc k) (omega (arith, less))) (omega (arith, le)))
 
-  -- several lists, none of them shorter, searched for from the first segment that may have the space
+  -- a search for several lists, none of them shorter than `len`, may begin after segments that lack the space
   pub skipped-fit : (state : RegionState X) (from to len : ℕ) (ws : List ℕ) → ((k : ℕ) → from ≤ k → k < to → space_in (segment_of state k) < len) → from ≤ to → AreLong len ws
       → waiting_fit (map space_in (drop from state)) ws ≡ waiting_fit (map space_in (drop to state)) ws
   skipped-fit [] from to len ws none le long = ap (λ l. waiting_fit (map space_in l) ws) (drop_all from [] (omega arith) ∙ sym (drop_all to [] (omega arith)))
@@ -85,16 +85,16 @@ module _ {X : Type 0} where
       ∙ ap (waiting_fit (map space_in state)) (unfilled (space_in s) len ws (none 0 (omega arith) (omega arith)) long)
       ∙ skipped-fit state zero to len ws (λ k least less. none (suc k) (omega arith) (omega (arith, less))) (omega arith) long
 
-  -- longer lists
+  -- a segment without space for a list has none for a longer list
   pub no-space-longer : (state : RegionState X) (below len more : ℕ) → HasNoSpace state below len → len ≤ more → HasNoSpace state below more
   no-space-longer state below len more none le = λ k lt. let less = none k lt in omega (arith, less, le)
 
-  -- if nothing is skipped
+  -- the skip that skips nothing
   pub skip-nothing : (state : RegionState X) → IsSkip state record { first = 0; next = 0; len = 0 }
   skip-nothing state = record { ordered = omega arith; full = λ k lt ne. absurd (omega (arith, lt)) }
 
   module _ (state : RegionState X) (known : Skip) (skip : IsSkip state known) where
-    -- the segments before the first that is tried
+    -- the segments before the first that is tried lack the space
     pub before-first : HasNoSpace state known.first known.len
     before-first k lt = skip.full k (omega (arith, lt, skip.ordered)) (λ e. omega (arith, lt, e))
 
@@ -111,7 +111,7 @@ module _ {X : Type 0} where
       ]
     ]
 
-    -- the segment that is found
+    -- the skip that a search returns
     pub skip-found : (number more next : ℕ) → known.first ≤ number → known.len ≤ more → HasNoSpace state number more → number ≤ next → (next ≤ number) ⊎ (next ≤ known.next) → IsSkip state record { first = number; next = next; len = more }
     skip-found number more next first less none ordered reach = record {
       ordered = ordered;
@@ -155,6 +155,6 @@ module _ {X : Type 0} where
     | inr same ↦ subst (IsSkip state) (sym same) h'
   ]
 
-  -- what a search may skip
+  -- the skip that a search uses
   pub skip-known : (items state : RegionState X) → items ≡ state → (known skip : Skip) → IsSkip items known → (skip ≡ known) ⊎ (skip ≡ record { first = 0; next = 0; len = 0 }) → IsSkip state skip
   skip-known items state same known skip h is = skip-either state known record { first = 0; next = 0; len = 0 } skip (subst (λ r. IsSkip r known) same h) (skip-nothing state) is

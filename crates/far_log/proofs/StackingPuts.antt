@@ -37,7 +37,7 @@ module _ {X : Type 0} (old gap xs : List X) (at : ℕ) (filled : length gap ≡ 
       ∙ get_or-append_right xs (drop (at + length xs) old) (length xs) (k - at) d refl (omega (arith, le))
       ∙ get_or-drop (at + length xs) old (k - at - length xs) d ∙ ap (λ i. get_or old i d) same
 
-  -- elements of a list that is in the block
+  -- an element of a range of the block
   in-list : (ys : List X) (from n k : ℕ) (d : X) → k < n → get_or (take n (drop from ys)) k d ≡ get_or ys (from + k) d
   in-list ys from n k d lt = get_or-take n (drop from ys) k d lt ∙ get_or-drop from ys k d
 
@@ -73,7 +73,7 @@ module _ {X : Type 0} (old gap xs : List X) (at : ℕ) (filled : length gap ≡ 
   }
 
 module _ {X : Type 0} (old xs : List X) (at : ℕ) where
-  -- within the block
+  -- a write within the block
   pub put-within : at + length xs ≤ length old → IsPut old (block_over old at xs) at xs
   put-within le =
       let nothing : length {A = X} [] ≡ at - length old = omega (arith, le) in

@@ -26,7 +26,7 @@ module _ (es : List PartEntry) (m k o : ℕ) (s : Extent) (d : PartEntry) (sorte
   pub entry-before : o < (get_or es m d).extent.offset → slice_get (extents_of es) k ≡ Some s → s.offset ≡ o → k < m
   entry-before lt e at = before (extents_of es) m k o s (get_or es m d).extent sorted (extent-is es m (get_or es m d) (slice_get-get_or es m d there)) lt e at
 
--- an extent with another link
+-- replacing a link changes no extent
 pub extents-relinked : (es : List PartEntry) (i : ℕ) (e : PartEntry) (l : Link) → slice_get es i ≡ Some e → extents_of (slice_set es i record { extent = e.extent; link = l }) ≡ extents_of es
 extents-relinked [] i e l h = refl
 extents-relinked (d ∷ es) zero e l h = let same : d ≡ e = cc in rw same refl

@@ -43,7 +43,7 @@ dead-more : (s : Extent) (ss : List Extent) → s.live ≡ false → EndsLive (s
 dead-more s [] dead h = absurd (cc)
 dead-more s (t ∷ ss) dead h = omega arith
 
--- the live extent before a live one has its number
+-- the live extent before these names one of them as the next
 behind-there : (i b n : ℕ) (ss : List Extent) (ls : List Link) → AreLinked i (suc b) n ss ls → EndsLive ss → 0 < length ss → (i ≤ n) × (n < i + length ss)
 behind-there i b n [] ls h ends some = absurd (omega arith)
 behind-there i b n (s ∷ ss) [] h ends some = absurd h
@@ -90,7 +90,7 @@ relinked i k b n (s ∷ ss) (l ∷ ls) h ends some = head s.live refl (λ rest m
         let next : n - i ≡ suc (n - suc i) = omega (arith, there.0) in
         rw next (rw e (λ live. absurd (cc), later rest more))
 
--- an extent other than the last is taken out: the live extent before it is before these, or among them
+-- an extent other than the last is removed: the live extent before it is before these extents, or among them
 abbrev Unlinked : ℕ → ℕ → ℕ → ℕ → List Extent → List Link → Link → Type 0
 Unlinked i b n k ss ls l =
     ((l.before ≡ b) × AreLinked i b l.behind (emptied_at ss k) (with_before ls (l.behind - i) l.before))
@@ -128,7 +128,7 @@ unlinked i b n (suc k) (t ∷ ss) (m ∷ ls) s l h ends here live there more far
         let more : l.before - suc i ≡ suc (l.before - suc (suc i)) = omega (arith, r.0) in
         inr (omega (arith, r.0), rw (more, next) (h.0, r.1))
 
--- the last extent is taken out: the extents up to the live one before it remain
+-- the last extent is removed: the extents up to the live one before it remain
 abbrev LeftOf : ℕ → ℕ → ℕ → List Extent → Link → Type 0
 LeftOf i b k ss l =
     ((l.before ≡ b) × (filter (λ u. u.live) (emptied_at ss k) ≡ []))
@@ -181,7 +181,7 @@ linked-behind i b n (suc k) s t (u ∷ ss) l (m ∷ ls) h ends long =
     let further : i + suc (suc k) ≡ suc i + suc k = omega arith in
     rw further (h.0, linked-behind (suc i) _ _ k u t ss m ls h.1 ends (omega arith))
 
--- an extent is emptied, and the extents before it stay
+-- emptying an extent does not change the extents before it
 pub take-emptied : (m k : ℕ) (ss : List Extent) → m ≤ k → take m (emptied_at ss k) ≡ take m ss
 take-emptied zero k ss le = refl
 take-emptied (suc m) k [] le = refl

@@ -25,7 +25,7 @@ module _ {X : Type 0} where
         | false ↦ later
       ]
 
-  -- elements after the extents do not count
+  -- removing elements after the extents changes no part
   pub parts-take : (items : List X) (n : ℕ) (from : ℕ) (ss : List Extent) → AreAdjacent from ss → extents_end from ss ≤ n → n ≤ length items → parts_in (take n items) ss ≡ parts_in items ss
   parts-take items n from ss h le within =
       sym (parts-append (take n items) (drop n items) from ss h (omega (arith, length-take n items))) ∙ ap (λ xs. parts_in xs ss) (take-append-drop n items)

@@ -22,7 +22,7 @@ module _ {X : Type 0} (items : List X) where
   pub length-part : (s : Extent) → s.offset + s.len ≤ length items → length (part_in items s).list ≡ s.len
   length-part s h = omega (arith, length-take s.len (drop s.offset items), length-drop s.offset items)
 
-  -- an extent other than the last ends within the elements
+  -- the first extent ends within the elements
   pub head-within : (from : ℕ) (s : Extent) (ss : List Extent) → AreAdjacent from (s ∷ ss) → extents_end from (s ∷ ss) ≤ length items → s.offset + s.len ≤ length items
   head-within from s ss h le = let later = begin-le-end (from + s.len) ss h.2 in omega (arith, h.0)
 
@@ -46,7 +46,7 @@ module _ {X : Type 0} (items : List X) where
         | false ↦ layout-parts f (from + s.len) size ss (omega arith) h.2 end state
       ]
 
-  -- the same for a whole segment
+  -- a segment's fill is the number of its elements
   pub stored-fill : (ss : List Extent) (used size : ℕ) → IsStored items ss used size → fill_from 0 (parts_in items ss) ≡ length items
   stored-fill [] used size h = h.end
   stored-fill (s ∷ ss) used size h = fill-parts 0 0 s ss h.adjacent (omega (arith, h.end)) h.live ∙ h.end
@@ -74,7 +74,7 @@ begins from [] k s h e = absurd (cc)
 begins from (t ∷ ss) zero s h e = let same : t ≡ s = cc in omega (arith, h.0, ap (λ (u : Extent). u.offset) same)
 begins from (t ∷ ss) (suc k) s h e = let later = begins (from + t.len) ss k s h.2 e in omega arith
 
--- a later extent begins later
+-- an extent with a higher number begins at a higher offset
 pub begins-later : (from : ℕ) (ss : List Extent) (j k : ℕ) (s t : Extent) → AreAdjacent from ss → slice_get ss j ≡ Some s → slice_get ss k ≡ Some t → j < k → s.offset < t.offset
 begins-later from [] j k s t h e f lt = absurd (cc)
 begins-later from (u ∷ ss) zero zero s t h e f lt = absurd (omega arith)
@@ -107,7 +107,7 @@ before ss m k o s t h e lt f at = elim (cases_lt k m) [
   ]
 ]
 
--- extents, the last of them live
+-- the first n extents end with a live one if extent n - 1 is live
 pub ends-live : (ss : List Extent) (n : ℕ) (d : Extent) → n ≤ length ss → ((k : ℕ) → n ≡ suc k → (get_or ss k d).live ≡ true) → EndsLive (take n ss)
 ends-live ss zero d le h = tt
 ends-live [] (suc n) d le h = tt

@@ -46,7 +46,7 @@ module _ {X : Type 0} (size : ℕ) where
   state-at (xs ∷ xss) (t ∷ ts) zero h lt = refl
   state-at (xs ∷ xss) (t ∷ ts) (suc k) h lt = state-at xss ts k h.1 (omega arith)
 
-  -- another segment at a number
+  -- segment k has another stack and another table
   pub states-set : (xss : List (List X)) (ts : List Table) (k : ℕ) (xs : List X) (t : Table) → segment_states size (slice_set xss k xs) (slice_set ts k t) ≡ slice_set (segment_states size xss ts) k (shown xs (extents_of t.entries) size)
   states-set [] ts k xs t = refl
   states-set (ys ∷ xss) [] zero xs t = refl
@@ -61,7 +61,7 @@ module _ {X : Type 0} (size : ℕ) where
   kept-set (ys ∷ xss) (u ∷ ts) zero xs t h one = (one, h.1)
   kept-set (ys ∷ xss) (u ∷ ts) (suc k) xs t h one = (h.0, kept-set xss ts k xs t h.1 one)
 
-  -- the tables do not change
+  -- segment k has another stack; the tables do not change
   pub states-set_stack : (xss : List (List X)) (ts : List Table) (k : ℕ) (xs : List X) → segment_states size (slice_set xss k xs) ts ≡ slice_set (segment_states size xss ts) k (shown xs (extents_of (get_or ts k default_value).entries) size)
   states-set_stack [] ts k xs = refl
   states-set_stack (ys ∷ xss) [] zero xs = refl
@@ -119,7 +119,7 @@ module _ {X : Type 0} (size : ℕ) where
       let there : number < length ts = omega (arith, lt, ap length e, count-states xss ts h) in
       segment-from state number (get_or xss number []) (get_or ts number default_value) (kept-at xss ts number h there) (ap (λ r. segment_of r number) (sym e) ∙ state-at xss ts number h there)
 
-  -- the same, given the table
+  -- a segment of the region, given its table
   pub segment-with : (xss : List (List X)) (ts : List Table) (state : RegionState X) (number : ℕ) (t : Table) → AreSegmentsStored size xss ts → segment_states size xss ts ≡ state → number < length state → t ≡ get_or ts number t → IsSegment state number (get_or xss number []) t
   segment-with xss ts state number t h e lt read =
       let there : number < length ts = omega (arith, lt, ap length e, count-states xss ts h) in

@@ -112,7 +112,7 @@ module _ {X : Type 0} where
         | false ↦ later
       ]
 
-  -- a write over a stack is one over a block that ends with it
+  -- a write over a stack is a write over a block that ends with the stack
   over-is : (items : List X) (at : ℕ) (ws : List X) → at ≤ length items → written_over items at ws ≡ block_over items at ws
   over-is items at ws le =
       ap (λ ys. take (length items) (take at items ++ (ws ++ ys))) (sym (drop-drop (length ws) at items))

@@ -10,9 +10,10 @@ pub record ChangesOnly {X : Type 0} (old new : RegionState X) (at : At)
   pub others : (q : At) → q ≢ at → part_of new q ≡ part_of old q
 
 module _ {X : Type 0} where
-  -- the segment with one more part, at its fill
+  -- the segment with this list as one more part, at its fill
   abbrev pub with_part : SegmentState X → List X → SegmentState X
-  with_part s list = record s { parts = s.parts ++ record { offset = fill_of s; list = list } ∷ [] }
+  with_part s list =
+      record s { parts = s.parts ++ record { offset = fill_of s; list = list } ∷ [] }
 
   -- the segment without the part that begins at an offset
   abbrev pub without_part : SegmentState X → ℕ → SegmentState X
@@ -86,7 +87,7 @@ module _ {X : Type 0} where
     pub whole : (offset : ℕ) → IsSome (list_at parts offset) → Contains order offset
     pub once : AllPairs (λ offset other. offset ≢ other) order
 
-  -- new is old with one more part: this list, in the lowest segment that has the space, at its fill. That is this location
+  -- new is old with this list as one more part, at this location: the fill of the lowest segment that has the space
   pub record IsPlaced (old new : RegionState X) (at : At) (list : List X) : Type 0 where
     pub segment : target_of old (length list) ≡ Some at.segment
     pub offset : at.offset ≡ fill_of (segment_of old at.segment)

@@ -7,8 +7,9 @@ use Rattle.far_log.specs.RegionState.{lowest_for}
 -- the waiting lengths after a segment has taken those that fit, in their order: each that it took is 0
 abbrev pub after_fill : ℕ → List ℕ → List ℕ
 after_fill space [] = []
-after_fill space (n ∷ ns) = if nat_le n space then 0 ∷ after_fill (space - n) ns else n ∷ after_fill
-    space ns
+after_fill space (n ∷ ns) =
+    if nat_le n space then 0 ∷ after_fill (space - n) ns
+    else n ∷ after_fill space ns
 
 -- whether the waiting lengths, which are those other than 0, can be placed one after another
 abbrev pub waiting_fit : List ℕ → List ℕ → Bool

@@ -20,26 +20,26 @@ with_list_from b from ws = record b {
 }
 
 module _ (T : RattleType) (s : MutBor (Block T.Denot)) where
-  -- internal: what the borrow r ends with is written over the block's elements from an index on
+  -- internal: when the borrow r ends, its list is written over the block's elements from an index on
   abbrev pub lends_block : ℕ → MutBor (List T.Denot) → Fml
   lends_block from r = Lends (block.the_row T) (Array T 0) s r (with_list_from s.now from)
 
-  -- internal: the first `most` elements of what the borrow r ends with are written over them
+  -- internal: when the borrow r ends, at most `most` elements of its list are written over the block's elements from an index on
   abbrev pub lends_bounded : ℕ → ℕ → MutBor (List T.Denot) → Fml
   lends_bounded from most r = Lends (block.the_row T) (Array T 0) s r
       (λ ws. with_list_from s.now from (take most ws))
 
 module _ (T : RattleType) (s : MutBor (Stacked T.Denot)) where
-  -- internal: what the borrow r ends with is written over the elements of a stack from `from` on
+  -- internal: when the borrow r ends, its list is written over the elements of a stack from index `from` on
   abbrev pub lends_stack : ℕ → ℕ → MutBor (List T.Denot) → Fml
   lends_stack number from r = Lends (stacks.the_row T) (Array T 0) s r
       (λ ws. with_stack s.now number (written_over (stack_of s.now number) from ws))
 
 module _ (T : RattleType) (s : MutBor (RegionState T.Denot)) where
-  -- internal: what the borrow r ends with is written over the elements from the i-th after a location on
+  -- internal: when the borrow r ends, its list is written over the elements from the i-th after a location on
   abbrev pub lends_range : At → ℕ → MutBor (List T.Denot) → Fml
   lends_range at i r = Lends (segments.the_row T) (Array T 0) s r (after_write_at s.now at i)
 
-  -- what the borrow r ends with is written over the elements from the i-th after a location on
+  -- when the borrow r ends, its list is written over the elements from the i-th after a location on
   abbrev pub lends_part : At → ℕ → MutBor (List T.Denot) → Fml
   lends_part at i r = Lends (region.the_row T) (Array T 0) s r (after_write_at s.now at i)

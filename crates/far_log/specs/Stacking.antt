@@ -22,11 +22,12 @@ module _ {X : Type 0} where
   stacks_from size block from (n ∷ ns) = take n (drop from block)
       ∷ stacks_from size block (from + size) ns
 
-  -- new is old with xs written at an index. A list before it or after it stays, and one that ends there is longer by xs
+  -- new is old with xs written at index `at`: a list before or after xs is unchanged, and a list that ends at `at` is extended by xs
   pub record IsPut (old new : List X) (at : ℕ) (xs : List X) : Type 0 where
     pub long : length old ≤ length new
     pub reach : at + length xs ≤ length new
-    pub others : (from n : ℕ) → n ≤ length old - from → (from + n ≤ at) ⊎ (at + length xs ≤ from)
+    pub others : (from n : ℕ) → n ≤ length old - from
+        → (from + n ≤ at) ⊎ (at + length xs ≤ from)
         → take n (drop from new) ≡ take n (drop from old)
     pub here : (from n : ℕ) → from + n ≡ at → n ≤ length old - from
         → take (n + length xs) (drop from new) ≡ take n (drop from old) ++ xs

@@ -25,7 +25,7 @@ abbrev pub IsSorted : List Extent → Type 0
 IsSorted extents = (j k : ℕ) (s t : Extent) → slice_get extents j ≡ Some s
     → slice_get extents k ≡ Some t → j < k → s.offset < t.offset
 
--- the offset at which the last extent ends
+-- the offset at which the last extent ends, or `from` if there is none
 abbrev pub extents_end : ℕ → List Extent → ℕ
 extents_end from [] = from
 extents_end from (s ∷ ss) = extents_end (from + s.len) ss
@@ -36,14 +36,14 @@ EndsLive [] = Unit {0}
 EndsLive (s ∷ []) = s.live ≡ true
 EndsLive (s ∷ (t ∷ ss)) = EndsLive (t ∷ ss)
 
--- the table after this extent lost its part
+-- the extents after the part of extent `number` was dropped
 abbrev pub emptied_at : List Extent → ℕ → List Extent
 emptied_at [] number = []
 emptied_at (s ∷ ss) zero = record s { live = false } ∷ ss
 emptied_at (s ∷ ss) (suc number) = s ∷ emptied_at ss number
 
--- the live extents of a table, from this number on, are linked: each has the count of extents up to and including the live one before it,
--- and that one has its number. `before` and `behind` are the values for the extents before it
+-- the live extents of a table, from this number on, are linked: each has the number, plus 1, of the live one before it, and that one has
+-- its number. `before` and `behind` are the values for the extents before these
 abbrev pub AreLinked : ℕ → ℕ → ℕ → List Extent → List Link → Type 0
 AreLinked number before behind [] [] = Unit {0}
 AreLinked number before behind [] (l ∷ ls) = ⊥
@@ -53,13 +53,13 @@ AreLinked number before behind (s ∷ ss) (l ∷ ls) =
     × AreLinked (suc number) (if s.live then suc number else before)
     (if s.live then l.behind else behind) ss ls
 
--- the links, with another next extent in link i
+-- the links with `behind` replaced in link i
 abbrev pub with_behind : List Link → ℕ → ℕ → List Link
 with_behind [] i behind = []
 with_behind (l ∷ ls) zero behind = record l { behind = behind } ∷ ls
 with_behind (l ∷ ls) (suc i) behind = l ∷ with_behind ls i behind
 
--- the links, with another previous extent in link i
+-- the links with `before` replaced in link i
 abbrev pub with_before : List Link → ℕ → ℕ → List Link
 with_before [] i before = []
 with_before (l ∷ ls) zero before = record l { before = before } ∷ ls

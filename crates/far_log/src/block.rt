@@ -3,7 +3,7 @@ ghost use Rattle.std.specs.Prelude.{◌≡◌, ◌+◌, ◌-◌, ◌<◌, ◌≤
 ghost use Rattle.std.specs.Borrow.{sem};
 ghost use Rattle.far_log.specs.Stacking.{IsPut};
 
-/// A block of memory that is reserved once. Its list is the part that was written so far, up to the highest index.
+/// A block of memory that is reserved once. Its list has the elements up to the highest index that was written so far.
 #[derive(Drop)]
 pub struct Block<T> {
     pub items: Vec<T>,
@@ -32,7 +32,7 @@ impl<T: Copy + Drop> Block<T> {
         };
     }
 
-    // Extends a shorter list to `len` elements with copies of `filler`.
+    // Extends the list to `len` elements with copies of `filler`, if it is shorter.
     fn lengthen(&mut self, len: usize, filler: T)
         requires { len ≤ vec_capacity self.old.items }
         ensures grown { self.new.items.items
@@ -84,10 +84,10 @@ impl<T> Block<T> {
         self.items.slice_mut(begin..end)
     }
 
-    /// Mutably borrows a range of the block. Afterwards the range counts as at most `most` elements, which is its space.
+    /// Mutably borrows a range of the block. By the contract, a write through the borrow changes at most `most` elements.
     ///
-    /// A slice keeps its length, so this does the same as `slice_mut`. But a contract on a borrow covers longer lists too. By the contract
-    /// of `slice_mut` those would overwrite what comes after the space.
+    /// A slice keeps its length, so this does the same as `slice_mut`. But the contract of a borrow also covers lists that are longer than
+    /// the slice. By the contract of `slice_mut`, those would overwrite the elements after the first `most`.
     pub fn lend(&mut self, begin: usize, end: usize, most: usize) -> &mut [T]
         requires ordered { begin ≤ end }
         requires within { end ≤ vec_len self.old.items }

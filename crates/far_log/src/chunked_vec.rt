@@ -28,14 +28,14 @@ fn chunk_capacity(chunk: usize) -> usize
     FIRST << chunk
 }
 
-// Returns the chunk of the element with an index, and its index in the chunk.
+// Returns the chunk of the element at `index`, and the element's index in the chunk.
 fn place_of(index: usize) -> Place
     requires { index < 2 ^ 32 }
     ensures place { IsPlaceOf index result.chunk result.at }
     ensures few { result.chunk ≤ 26 }
 {
-    // Chunk k comes after 64 * 2^k - 64 elements, so the highest bit of the sum is the chunk. The index is a number of 32 bits, so the
-    // compiler knows that the sum is not 0, and makes no test.
+    // Chunk k begins at element 64 * 2^k - 64, so the highest bit of the sum is bit k + 6. The cast to 32 bits shows the compiler that the
+    // sum is not 0, so that the logarithm needs no test.
     let sum = index as u32 as usize + FIRST;
     let chunk = sum.ilog2() as usize - FIRST_LEVEL;
     Place {
@@ -44,14 +44,14 @@ fn place_of(index: usize) -> Place
     }
 }
 
-/// Returns the number of the chunk that has the element with an index.
+/// Returns the number of the chunk that has the element at `index`.
 pub fn chunk_of(index: usize) -> usize
     requires { index < 2 ^ 32 }
     ensures from { start_at 64 result ≤ index }
     ensures to { index < start_at 64 result + capacity_at 64 result }
     ensures few { result ≤ 26 }
 {
-    // A short list has one chunk: this branch saves the logarithm.
+    // A short list has only this chunk. The branch saves the logarithm.
     if index < FIRST {
         0
     } else {
@@ -68,7 +68,7 @@ pub fn start_of(chunk: usize) -> usize
     chunk_capacity(chunk) - FIRST
 }
 
-// Makes a chunk, unless it exists. If it is refused, the chunks are as before.
+// Allocates a chunk, unless it exists. Refused only with `NoMemory` (1). Then the elements are as before.
 #[inline(always)]
 fn make_chunk<T: Drop>(chunks: &mut Vec<Vec<T>>, chunk: usize) -> Result<(), Refusal>
     requires few { chunk ≤ 26 }
@@ -90,8 +90,8 @@ fn make_chunk<T: Drop>(chunks: &mut Vec<Vec<T>>, chunk: usize) -> Result<(), Ref
 
 /// A list of plain values that grows without moving them (a segmented array).
 ///
-/// The values are in chunks. The first has space for 64 values, and each other has twice the space of the one before it. A chunk is
-/// allocated when it is first needed. Only the list of the chunks moves, which are at most 27.
+/// The values are in at most 27 chunks. The first has capacity for 64 values, and each later one has twice the capacity of the one before
+/// it. A chunk is allocated when it is first needed. Only the list of chunks is moved when it grows.
 ///
 /// `truncate` keeps the chunks for later values, as `Vec` keeps its memory. Dropping the list frees them.
 #[derive(Drop)]
@@ -130,7 +130,7 @@ impl<T: Copy + Drop> ChunkedVec<T> {
         self.len
     }
 
-    /// Returns the value with an index.
+    /// Returns the value at `index`.
     pub fn get(&self, index: usize) -> T
         requires { index < length self.now }
         ensures { slice_get self.now index ≡ Some result }
@@ -154,7 +154,7 @@ impl<T: Copy + Drop> ChunkedVec<T> {
         chunk
     }
 
-    /// Sets the value with an index.
+    /// Sets the value at `index`.
     pub fn set(&mut self, index: usize, value: T)
         requires { index < length self.old }
         ensures { self.new ≡ slice_set self.old index value }
@@ -164,7 +164,7 @@ impl<T: Copy + Drop> ChunkedVec<T> {
         chunks[chunk][at] = value;
     }
 
-    /// Appends a value, and moves none. Refused only with `NoMemory` (1), if a chunk cannot be allocated. Then the list is as before.
+    /// Appends a value, and moves no other. Refused only with `NoMemory` (1), if a chunk cannot be allocated. Then the list is as before.
     #[inline(always)]
     pub fn push(&mut self, value: T) -> Result<(), Refusal>
         requires few { length self.old < 2 ^ 32 }
@@ -184,7 +184,7 @@ impl<T: Copy + Drop> ChunkedVec<T> {
         Ok(())
     }
 
-    /// Cuts the list to its first `len` values; a shorter one stays as it is. Takes constant time, and frees no memory.
+    /// Cuts the list to its first `len` values; a shorter list is unchanged. Takes constant time, and frees no memory.
     pub fn truncate(&mut self, len: usize)
         ensures { self.new ≡ take len self.old }
     {

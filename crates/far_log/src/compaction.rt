@@ -55,8 +55,8 @@ impl<T: Copy + Drop> Segments<T> {
         Ok(offsets)
     }
 
-    /// Moves the parts of segment `from` into segment `to`, which is empty. Refused only with `NoMemory` (1). Then the segments are as
-    /// before.
+    /// Moves the parts of segment `from` into segment `to`, which is empty, in the given order. Returns where each begins. Refused only
+    /// with `NoMemory` (1). Then the segments are as before.
     pub fn compact(
         &mut self,
         alloc: Global,

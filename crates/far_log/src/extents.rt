@@ -62,14 +62,14 @@ fn chunk_at(table: &ChunkedVec<PartEntry>, offset: u32) -> usize
     0
 }
 
-// Searches for the number of the extent that begins at an offset; an arbitrary number if none does. It is not inlined, so that
+// Searches for the extent that begins at an offset and returns its number; an arbitrary number if none does. It is not inlined, so that
 // `number_at` stays short.
 #[inline(never)]
 fn number_among(table: &ChunkedVec<PartEntry>, offset: u32) -> usize
     requires some { 0 < length table.now }
     requires adjacent { AreAdjacent 0 (extents_of table.now) }
-    ensures { (k : ℕ) (s : Extent) → slice_get (extents_of table.now) k ≡ Some s → s.offset ≡ offset
-        → result ≡ k }
+    ensures { (k : ℕ) (s : Extent) → slice_get (extents_of table.now) k ≡ Some s
+        → s.offset ≡ offset → result ≡ k }
 {
     let chunk = chunk_at(table, offset);
     start_of(chunk) + extent_among(table.chunk(chunk), offset)
@@ -80,8 +80,8 @@ fn number_among(table: &ChunkedVec<PartEntry>, offset: u32) -> usize
 pub fn number_at(table: &ChunkedVec<PartEntry>, offset: u32) -> usize
     requires some { 0 < length table.now }
     requires adjacent { AreAdjacent 0 (extents_of table.now) }
-    ensures { (k : ℕ) (s : Extent) → slice_get (extents_of table.now) k ≡ Some s → s.offset ≡ offset
-        → result ≡ k }
+    ensures { (k : ℕ) (s : Extent) → slice_get (extents_of table.now) k ≡ Some s
+        → s.offset ≡ offset → result ≡ k }
 {
     // An object whose list is replaced drops its old part after the new one is placed. So the last extent but one is tried first. If the
     // new part is in another segment, the old one may be the last.
@@ -99,7 +99,8 @@ pub fn number_at(table: &ChunkedVec<PartEntry>, offset: u32) -> usize
 /// Returns the extent that begins at an offset. If none does, returns an arbitrary extent, or `None` if the table has no extent.
 pub fn extent_at(table: &ChunkedVec<PartEntry>, offset: u32) -> Option<Extent>
     requires { AreAdjacent 0 (extents_of table.now) }
-    ensures there { IfSome result (λ s. (k : ℕ) × (slice_get (extents_of table.now) k ≡ Some s)) }
+    ensures there { IfSome result
+        (λ s. (k : ℕ) × (slice_get (extents_of table.now) k ≡ Some s)) }
     ensures found { (k : ℕ) (s : Extent) → slice_get (extents_of table.now) k ≡ Some s
         → s.offset ≡ offset → result ≡ Some s }
 {

@@ -3,8 +3,7 @@ ghost use Rattle.std.specs.Prelude.{◌≡◌, ◌==◌};
 ghost use Rattle.std.specs.List.{list_all};
 ghost use Rattle.far_log.specs.Fitting.{after_fill};
 
-/// Fills the space of a segment with the waiting lengths, in their order. Sets each length that fits to
-/// 0.
+/// Assigns the space of a segment to the waiting lists, in their order. Sets the length of each list that fits to 0.
 pub fn fill(space: usize, waiting: &mut [usize])
     ensures { waiting.new ≡ after_fill space waiting.old }
 {
@@ -17,7 +16,7 @@ pub fn fill(space: usize, waiting: &mut [usize])
     }
 }
 
-/// Returns whether every length has been placed.
+/// Returns whether every list has been placed: all lengths are 0.
 pub fn none_waits(waiting: &[usize]) -> bool
     ensures { result ≡ list_all (λ len. len == 0) waiting.now }
 {

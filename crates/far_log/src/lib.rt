@@ -6,8 +6,8 @@
 //! - `part`, `part_mut` and `range_mut` borrow a part in place.
 //! - `drop_at` drops a part. The space between parts is not reused until `compact` moves a segment's parts into an empty one.
 //!
-//! Contracts see a region as the list of its segments, and of each segment its parts (where a part begins, and its elements) and its
-//! size: `specs/RegionState.antt`. Its changes are defined in `specs/Effects.antt`.
+//! Contracts see a region as a list of segments. A segment has its parts (where each begins, and its elements) and its size:
+//! `specs/RegionState.antt`. The changes of a region are defined in `specs/Effects.antt`.
 
 mod block;
 mod chunked_vec;

@@ -10,7 +10,7 @@ use far_types::Refusal;
 /// The nearest live extents before and after a live extent. The link of a dead extent has no meaning.
 #[derive(Clone, Copy)]
 pub struct Link {
-    /// How many extents there are up to and including the live one before it; 0 if there is none.
+    /// The number of the live extent before it, plus 1; 0 if there is none.
     pub before: u32,
     /// The number of the live extent after it, if there is one.
     pub behind: u32,
@@ -30,7 +30,7 @@ fn set_behind(table: &mut ChunkedVec<PartEntry>, number: usize, behind: u32)
     table.set(number, PartEntry { link, ..entry });
 }
 
-// Sets how many extents there are up to and including the live one before an extent.
+// Sets the number, plus 1, of the live extent before an extent; 0 if there is none.
 fn set_before(table: &mut ChunkedVec<PartEntry>, number: usize, before: u32)
     requires { number < length table.old }
     ensures extents { extents_of table.new ≡ extents_of table.old }
@@ -69,7 +69,7 @@ pub fn push_linked(table: &mut ChunkedVec<PartEntry>, extent: Extent) -> Result<
     Ok(())
 }
 
-/// Takes a live extent out of the links. Returns how many extents remain after those past the last part are cut off. Reads only the
+/// Removes a live extent from the links. Returns how many extents remain when those after the last part are cut off. Reads only the
 /// extent's neighbours.
 pub fn unlink(table: &mut ChunkedVec<PartEntry>, number: usize) -> usize
     requires linked { AreLinked 0 0 0 (extents_of table.old) (links_of table.old) }

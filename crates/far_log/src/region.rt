@@ -56,8 +56,8 @@ impl<T: Copy + Drop> Region<T> {
         })
     }
 
-    // Searches for the lowest segment that has the space for a list of `len` elements. It is `first` of the result, which also records all
-    // segments that the search passed over.
+    // Searches for the lowest segment that has the space for a list of `len` elements. That segment is `first` of the result, which also
+    // records all segments that the search passed over.
     fn search(&self, len: usize) -> Option<Skip>
         ensures lowest { option_map (λ found. found.first) result ≡ target_of self.now len }
         ensures passed { IfSome result (IsSkip self.now) }
@@ -92,8 +92,8 @@ impl<T: Copy + Drop> Region<T> {
     /// Returns whether at most 16 lists of these lengths, none of them empty, can be placed one after another. Allocates nothing and places
     /// nothing.
     ///
-    /// Each list goes to the lowest segment that has the space. So which lists go to a segment depends only on that segment. One pass over
-    /// the segments is enough, without those that a search for each list would skip.
+    /// Each list is placed in the lowest segment that has the space. So one pass over the segments is enough: each takes the lists that
+    /// fit, and the next takes from the rest. The pass skips the segments that a search for each list would skip.
     pub fn fits_in_order(&self, lens: &[usize]) -> bool
         requires few { length lens.now ≤ 16 }
         requires some { All (λ len. 0 < len) lens.now }
@@ -123,7 +123,7 @@ impl<T: Copy + Drop> Region<T> {
 
     /// Returns the total space of the segments after their fills, in elements. Allocates nothing.
     ///
-    /// A list needs its space in one segment. So a list may not fit although it is no longer than this.
+    /// A list must fit in one segment. So a list may not fit although it is no longer than this total.
     pub fn space(&self) -> usize
         ensures { result ≡ space_of self.now }
     {
@@ -172,7 +172,7 @@ impl<T: Copy + Drop> Region<T> {
         self.segments.part_long(at, len)
     }
 
-    /// Drops the part at a location, and moves no other. Allocates nothing.
+    /// Drops the part at a location, without moving the others. Allocates nothing.
     #[inline(always)]
     pub fn drop_at(&mut self, at: At)
         requires { IsSome (part_of self.old at) }
@@ -191,7 +191,7 @@ impl<T: Copy + Drop> Region<T> {
     /// Places a list as a new part in the lowest segment that has the space, at its fill. Returns the part's location.
     ///
     /// It allocates nothing for elements. A refused call changes nothing. Refused with:
-    /// - `RegionFull` (17) exactly if `fits` is false;
+    /// - `RegionFull` (17) exactly if `fits` returns false;
     /// - else only `NoMemory` (1), if the table of parts cannot grow.
     ///
     /// It is inlined, since returning a location through memory costs more than the search for it.
@@ -207,7 +207,8 @@ impl<T: Copy + Drop> Region<T> {
         ensures sound { IsRegion self.new }
         ensures full { IsErrOf result Refusal.RegionFull
             ↔ (fits_in self.old (length items.now) ≡ false) }
-        ensures refused { IfErr result (λ e. (e ≡ Refusal.RegionFull) ⊎ (e ≡ Refusal.NoMemory)) }
+        ensures refused { IfErr result
+            (λ e. (e ≡ Refusal.RegionFull) ⊎ (e ≡ Refusal.NoMemory)) }
         ensures err { OnErr result (self.new ≡ self.old) }
     {
         let Some(found) = self.search(items.len()) else {
@@ -245,7 +246,8 @@ impl<T: Copy + Drop> Region<T> {
         ensures missing { IsErrOf result Refusal.OutOfRange ↔ (length self.now ≤ from) }
         ensures full { IsErrOf result Refusal.RegionFull
             ↔ ((from < length self.now) × HasNoEmptyOther self.now from) }
-        ensures refused { IfErr result (λ e. (e ≡ Refusal.OutOfRange) ⊎ (e ≡ Refusal.RegionFull)) }
+        ensures refused { IfErr result
+            (λ e. (e ≡ Refusal.OutOfRange) ⊎ (e ≡ Refusal.RegionFull)) }
     {
         let from = from as usize;
         if self.segments.len() <= from {
@@ -266,14 +268,15 @@ impl<T: Copy + Drop> Region<T> {
     /// - else only `NoMemory` (1), if the tables cannot grow.
     pub fn compact(&mut self, alloc: Global, from: u32, order: &[u32]) -> Result<Moved, Refusal>
         requires { IsOrder (segment_of self.old from).parts order.now }
-        ensures compacted { IfOk result
-            (λ moved. Compacts self.old self.new from moved.segment order.now moved.offsets.items) }
+        ensures compacted { IfOk result (λ moved. Compacts self.old self.new from
+            moved.segment order.now moved.offsets.items) }
         ensures sound { IsRegion self.new }
         ensures missing { IsErrOf result Refusal.OutOfRange ↔ (length self.old ≤ from) }
         ensures full { IsErrOf result Refusal.RegionFull
             ↔ ((from < length self.old) × HasNoEmptyOther self.old from) }
         ensures refused { IfErr result
-            (λ e. (e ≡ Refusal.OutOfRange) ⊎ ((e ≡ Refusal.RegionFull) ⊎ (e ≡ Refusal.NoMemory))) }
+            (λ e. (e ≡ Refusal.OutOfRange)
+            ⊎ ((e ≡ Refusal.RegionFull) ⊎ (e ≡ Refusal.NoMemory))) }
         ensures err { OnErr result (self.new ≡ self.old) }
     {
         let from = from as usize;
@@ -298,7 +301,7 @@ impl<T: Copy + Drop> Region<T> {
 
     /// Mutably borrows the part at a location, in place. Allocates nothing.
     ///
-    /// The borrow changes this part's list, and no other part (`alone`).
+    /// A write through the borrow changes only this part (`alone`).
     pub fn part_mut(&mut self, at: At) -> &mut [T]
         requires { IsSome (part_of self.old at) }
         ensures* writes_back { sem 𝓛 (lends_part T.row self.entry at 0 result) }
@@ -312,7 +315,7 @@ impl<T: Copy + Drop> Region<T> {
 
     /// Mutably borrows the part at a location, which has `len` elements, in place. Allocates nothing, and reads no segment's table.
     ///
-    /// The borrow changes this part's list, and no other part (`alone`).
+    /// A write through the borrow changes only this part (`alone`).
     pub fn part_long_mut(&mut self, at: At, len: usize) -> &mut [T]
         requires { IsSomeAnd (part_of self.old at) (λ list. length list ≡ len) }
         ensures* writes_back { sem 𝓛 (lends_part T.row self.entry at 0 result) }

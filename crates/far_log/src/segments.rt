@@ -13,7 +13,7 @@ use far_types::Refusal;
 use std::alloc::Global;
 use std::marker::Model;
 
-/// Segments of one size: a stack of elements for each, all in one block, and a table of the parts in each.
+/// Segments of one size. Each has a stack of elements and a table of its parts. All stacks are in one block.
 #[derive(Drop)]
 pub struct Segments<T> {
     stacks: Stacks<T>,

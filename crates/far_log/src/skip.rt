@@ -6,20 +6,20 @@ ghost use Rattle.far_log.specs.Skipping.{IsSpaced};
 // How many segments a search may revisit, so that searches for shorter lists still skip the earlier ones.
 const NEAR: usize = 64;
 
-/// The segments that a search for space skips: no segment below `next`, except `first`, has the space for `len` elements. So a search for a
-/// list that is not shorter tries `first`, and then `next` and those after it.
+/// The segments that a search for space skips: no segment below `next`, except `first`, has the space for `len` elements. So a search for
+/// a list of at least `len` elements tries `first`, and then the segments from `next` on.
 ///
-/// One segment number would not do:
+/// One segment number is not enough:
 /// - A full segment mostly has the space for some short list, so `len` says for which lists it counts as full.
 /// - A replaced list frees space in its segment, which may be far before the others that have space. That segment is `first`. When it is
-///   full again, the search continues where it was.
+///   full again, the search continues at `next`.
 #[derive(Clone, Copy)]
 pub struct Skip {
     /// The number of the segment that is tried first.
     pub first: usize,
     /// The number of the segment that is tried next.
     pub next: usize,
-    /// The length from which on the search for a list skips the others.
+    /// The length of the shortest list for which a search skips the others.
     pub len: usize,
 }
 
@@ -58,11 +58,11 @@ impl Skip {
     /// Returns which segments are skipped after a search for a list of `len` elements ended with `found`.
     ///
     /// After a search through many segments the result is `found`, so that the next search skips them. After a short search it is `found`
-    /// only if no list loses by that, or if nothing was skipped yet.
+    /// only if each field of `found` is at least as good, or if nothing was skipped yet.
     pub fn after_search(self, found: Skip, len: usize) -> Skip
         ensures { (result ≡ self) ⊎ (result ≡ found) }
     {
-        // Mostly the first segment that was tried has the space. Then `found` equals what was skipped before.
+        // Usually the first segment that was tried has the space. Then `found` equals `self`.
         if found.first == self.first && self.len <= len {
             return self;
         }
@@ -79,12 +79,12 @@ impl Skip {
         }
     }
 
-    /// Returns which segments are skipped after the space of a segment changed to `space`, more or less than before.
+    /// Returns which segments are skipped after the space of a segment changed to `space`, which may be more or less than before.
     pub fn with_space(self, number: usize, space: usize) -> Skip
         requires { self.first ≤ self.next }
         ensures { IsSpaced self result number space }
     {
-        // Mostly this is the segment that is tried first, and it still has space.
+        // Usually this is the segment that is tried first, and it still has the space.
         if number == self.first && space >= self.len {
             return self;
         }

@@ -10,7 +10,7 @@ use std::marker::Model;
 
 /// Stacks of at most `size` elements each, in one block of memory that is reserved once.
 ///
-/// Stack number k begins at `k * size`. After its last element come old elements, which have no meaning.
+/// Stack number k begins at `k * size`. The elements after its last one are old, and have no meaning.
 #[derive(Drop)]
 pub struct Stacks<T> {
     block: Block<T>,
@@ -44,7 +44,8 @@ impl<T: Copy + Drop> Stacks<T> {
     /// Makes empty stacks. Reserves all memory for their elements, and does not write it. Refused only with `NoMemory` (1).
     pub fn new(alloc: Global, count: u32, size: u32) -> Result<Stacks<T>, Refusal>
         requires { count ≤ 65536 }
-        ensures empty { IfOk result (λ s. s ≡ record { stacks = replicate count []; size = size }) }
+        ensures empty { IfOk result
+            (λ s. s ≡ record { stacks = replicate count []; size = size }) }
         ensures memory { IfErr result (λ e. e ≡ Refusal.NoMemory) }
     {
         let items = Vec::with_capacity(alloc, begin_of(count as usize, size))?;
@@ -104,7 +105,7 @@ impl<T: Copy + Drop> Stacks<T> {
         self.lens[number] = len + list.len() as u32;
     }
 
-    /// Pushes a range of one stack's elements onto a stack, the same or another. Allocates nothing, and copies each element once.
+    /// Pushes a range of stack `source` onto stack `number`, which may be the same one. Allocates nothing, and copies each element once.
     pub fn push_from(&mut self, source: usize, from: usize, len: usize, number: usize)
         requires source { source < length self.old.stacks }
         requires there { number < length self.old.stacks }

@@ -35,8 +35,8 @@ impl Table {
         }
     }
 
-    /// Adds a part of `len` elements after the last. Returns where it begins. Refused only with `NoMemory` (1), if the table cannot grow.
-    /// Then it is as before.
+    /// Adds a part of `len` elements at `offset`, after the last part. Returns where it begins. Refused only with `NoMemory` (1), if the
+    /// table cannot grow. Then the table is as before.
     #[inline(always)]
     pub fn push(&mut self, offset: usize, len: usize) -> Result<u32, Refusal>
         requires linked { AreLinked 0 0 0 (extents_of self.old.entries)

@@ -6,7 +6,7 @@ use Rattle.far_codec.proofs.Compared.{same_if_not_ne, differ_if_ne}
 use Rattle.far_codec.proofs.PlainNumbersWords.{plain_parts, head_cells}
 use Rattle.far_codec.proofs.numbers.plain_words.Goals as goal
 
--- the words of bytes of this length
+-- 8 * n bytes have n words
 words_count : (n : ℕ) (body back : List ℕ) (len : ℕ) → back ≡ body → length body ≡ 8 * n → len ≡ length back / 8 → len ≡ n
 words_count n body back len same long is = omega (arith, ap length same)
 

@@ -1,5 +1,5 @@
--- `lend` returns the borrow of `slice_mut` under another contract: the block ends with the first `most` elements of what the borrow leaves.
--- The borrow checker follows no slice that a call got from another call, so this proof walks the code by hand.
+-- `lend` returns the borrow of `slice_mut` under another contract: at most `most` elements of the final list are written to the block.
+-- The borrow checker does not follow a slice that a call got from another call, so this proof follows the code by hand.
 use mathlib.Core.Path.{◌≡◌, refl, sym, ap, ◌∙◌}
 use Prim.Native.Nat.{ℕ, ◌-◌, ◌≤◌}
 use native.Mathlib.Omega.{arith}
@@ -52,7 +52,7 @@ use Rattle.far_log.specs.contracts.block.Block.lend.Key.{name as #self}
 use Rattle.far_log.proofs.block.Block.lend.Statement.{statement}
 use Rattle.far_log.proofs.block.Block.lend.Code as code
 
--- a list that is as long as the slice is all of its first elements
+-- a list as long as the slice has no elements after its first `most`
 module _ {M : Type 1} {𝓤 : Ura M} (𝓛 : Logic 𝓤) (κ : Lft) (q : Share) (R : RattleType) (r : MutBor (List R.Denot)) (most : ℕ) (le : length r.now ≤ most) where
   open 𝓛 use {H, A}
 
@@ -68,7 +68,7 @@ module _ {M : Type 1} {𝓤 : Ura M} (𝓛 : Logic 𝓤) (κ : Lft) (q : Share) 
   abbrev γ : GName
   γ = r.ghost_name
 
-  -- the slice under a new name, the token, and what the old slice ends as
+  -- the slice under a new name, the token, and the final list of the old slice
   abbrev Lent : GName → SProp 𝓤
   Lent δ = sep 𝓤 (sem 𝓛 ((MutSlice (named 0) κ R).own_val (record { ref_ptr = (b, o); ghost_name = δ; now = xs }) (slice_val (b, o) (length xs) ∷ []))) (sep 𝓤 (A.lft κ q) (sem 𝓛 (follows (Array R 0) (Array R 0) γ δ (take most))))
 
