@@ -69,7 +69,7 @@ impl<T: Elem> LocalMemory<T> {
         word
     }
 
-    /// Does nothing at run time. Shows the proof that each local object owns one part of the region, and that there is no other part.
+    /// Does nothing at run time. Tells the prover that each local object owns one part of the region, and that no other part exists.
     #[inline(always)]
     pub fn each_owns_its_part(&self)
         ensures { IsMemory self.now.words self.now.state }
