@@ -1,4 +1,4 @@
--- Things of which all pass a test, or none does.
+-- A test that either all things of a list pass, or none does.
 use Rattle.std.proofs.Common.{◌≡◌, inl, inr, ℕ, ◌<◌, Bool, true, false, List, length, get_or, sym, subst, ◌∙◌, arith}
 use Rattle.std.specs.Prelude.{All, AllPairs}
 use Rattle.std.specs.List.{list_all}
@@ -7,7 +7,7 @@ use Rattle.std.proofs.lemmas.List.{get_or_default}
 use Rattle.std.proofs.lemmas.List.Sums.{list_all-from_AllPass}
 
 module _ {C : Type 0} (test : C → Bool) (Has : C → Type 0) (HaveSameLength : C → C → Type 0) (turned : (c d : C) → HaveSameLength c d → HaveSameLength d c) (alike : (c d : C) → Has c → Has d → HaveSameLength c d → test c ≡ true → test d ≡ true) (cs : List C) (has : All Has cs) (same_length : AllPairs HaveSameLength cs) where
-  -- if one passes, all do
+  -- if one thing passes, all do
   pub all-with : (k : ℕ) (d : C) → k < length cs → test (get_or cs k d) ≡ true → All (λ c. test c ≡ true) cs
   all-with k d below passes j e inside =
       let c = get_or cs k e in

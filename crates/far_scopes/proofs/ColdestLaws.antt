@@ -20,11 +20,12 @@ use Rattle.far_scopes.proofs.RecencySearch.{has-reverse, found-is, found-none}
 use Rattle.far_scopes.proofs.CoolLaws.{all-hot}
 
 module _ {X K : Type 0} (m : Movement X K) where
-  -- the victim that the rest of the order has, if `found` is the first object without pins in the searched part, and none there is cold
+  -- the victim, when this rest of the order is still to be searched, `found` is the first object without pins in the searched part, and no
+  -- object there is cold
   abbrev pub coldest_in : Option ℕ → List ℕ → Option ℕ
   coldest_in found order = option_or (find (is_cold m) (reverse order)) (option_or found (find (is_unpinned m) (reverse order)))
 
-  -- the search of an empty rest
+  -- if the rest is empty, the victim is `found`
   pub coldest-none : (found : Option ℕ) → coldest_in found [] ≡ found
   coldest-none None = refl
   coldest-none (Some o) = refl
@@ -75,7 +76,7 @@ module _ {X K : Type 0} (m : Movement X K) where
     not-hot true false both is = cc
     not-hot false b both is = cc
 
-    -- if each local object is hot, the victim is the last of all without pins
+    -- if each local object is hot, the victim is the last object without pins
     pub coldest-hot : cool_in m.memory.words ≡ 0 → coldest m ≡ find (is_unpinned m) (reverse m.order)
     coldest-hot none = elim (cases_option (find (is_cold m) (reverse m.order))) [
       | inl nothing ↦ rw nothing refl
@@ -96,7 +97,7 @@ module _ {X K : Type 0} (m : Movement X K) where
     pub coldest-exactly : (found : Option ℕ) → coldest m ≡ found → (found ≡ None) ↔ ((o : ℕ) → is_local m o ≡ true → pins_of m o ≢ 0)
     coldest-exactly found is = subst (λ (f : Option ℕ). (f ≡ None) ↔ ((o : ℕ) → is_local m o ≡ true → pins_of m o ≢ 0)) is exactly
 
-  -- one step of the search: the last of the rest
+  -- one step of the search, which takes the last object of the rest
   module _ (left rest : List (ℕ × Unit {0})) (visited : List ℕ) (pair : ℕ × Unit {0}) (step : left ≡ rest ++ pair ∷ []) where
     pub keys-step : keys_of left ≡ keys_of rest ++ pair.0 ∷ []
     keys-step = ap keys_of step ∙ map_push (λ (p : ℕ × Unit {0}). p.0) rest pair
@@ -104,7 +105,7 @@ module _ {X K : Type 0} (m : Movement X K) where
     pub order-step : m.order ≡ keys_of left ++ visited → m.order ≡ keys_of rest ++ pair.0 ∷ visited
     order-step is = is ∙ ap (λ l. l ++ visited) keys-step ∙ append_assoc (keys_of rest) (pair.0 ∷ []) visited
 
-    -- the victim's number is in use
+    -- the number of the taken object is in use
     pub last-within : {meaning : List ℕ → List X} {content : K → List ℕ} {spelled : List X → List ℕ → Type 0} → AreTracked meaning content spelled m → m.order ≡ keys_of left ++ visited → pair.0 < length m.records
     last-within tracked is =
         let there : has m.order pair.0 ≡ true = ap (λ l. has l pair.0) (order-step is) ∙ list_any-append (λ p. nat_eq pair.0 p) (keys_of rest) (pair.0 ∷ visited) ∙ ap (λ b. has (keys_of rest) pair.0 || b) (has-cons_same visited pair.0) ∙ or_comm (has (keys_of rest) pair.0) true in

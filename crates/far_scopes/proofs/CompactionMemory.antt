@@ -25,7 +25,7 @@ use Rattle.far_scopes.proofs.Sorted.{in-read, Rises, rises-before, rises-disjoin
 use Rattle.far_scopes.proofs.CompactionOrder.{at-is, order-whole, order-is, objects-there, objects-within, objects-whole, objects-once}
 use Rattle.far_scopes.proofs.MemoryRelocation.{own-relocated, lists-relocated}
 
--- a segment exists if the call is not refused for it
+-- a segment exists if the call is not refused because there is no such segment
 pub not-missing : {A : Type 0} (x : A) (refusal : Refusal) (count segment : ℕ) → (IsErrOf (Ok x) refusal ↔ (count ≤ segment)) → segment < count
 not-missing x refusal count segment h = elim (cases_lt segment count) [
   | inl there ↦ there
@@ -39,7 +39,7 @@ same-slices [] (y ∷ ys) h = absurd (let e = h zero in cc)
 same-slices (x ∷ xs) [] h = absurd (let e = h zero in cc)
 same-slices (x ∷ xs) (y ∷ ys) h = rw (same_Some x y (h zero), same-slices xs ys (λ p. h (suc p))) refl
 
--- numbers that all differ have one index each
+-- in a list of numbers that all differ, each number has one index
 same-index : (xs : List ℕ) (i j : ℕ) → AllPairs (λ o p. o ≢ p) xs → i < length xs → j < length xs → get_or xs i 0 ≡ get_or xs j 0 → i ≡ j
 same-index xs i j disjoint first second same = elim (cases_lt i j) [
   | inl less ↦ absurd (disjoint i j 0 less second same)
@@ -50,7 +50,7 @@ same-index xs i j disjoint first second same = elim (cases_lt i j) [
 ]
 
 module _ {X : Type 0} where
-  -- the k-th part of an order begins after those before it
+  -- the k-th part of an order begins after the parts before it
   after-is : (parts : List (Part X)) (from : ℕ) (order : List ℕ) (k : ℕ) → AllPairs (λ o p. o ≢ p) order → k < length order
       → from + offset_after parts order (get_or order k 0) ≡ get_or (map (λ p. p.offset) (layout_from from (map (list_or_none parts) order))) k 0
   after-is parts from [] k once lt = absurd (omega (arith, lt))
@@ -100,7 +100,7 @@ module _ {X : Type 0} where
         rw (eq-eqb here.segment from (ap (λ q. q.segment) same ∙ within)) (ap (λ q. Local record { segment = to; offset = offset_after parts order q.offset } dirty false far) same)
     word-here Remote at is within = cc
 
-    -- the words of the segment's objects are those of the compaction
+    -- the updated words are the words after the compaction
     module _ (old new : List Pointer) (objects : List SegmentObject) (offsets : List ℕ) (settled : Settles old new objects to offsets (length objects))
         (listed : map (λ (f : SegmentObject). f.offset) objects ≡ order) (once : AllPairs (λ o p. o ≢ p) order) (offsets-are : offsets ≡ map (λ p. p.offset) (gathered parts order))
         (there : (found : SegmentObject) → Contains objects found → place_of old found.object ≡ Some record { segment = from; offset = found.offset })
@@ -155,7 +155,7 @@ module _ {X : Type 0} (words : List Pointer) (state state' : RegionState X) (m :
       let w = listed.whole at.offset (subst (λ n. IsSome (list_at (segment_of state n).parts at.offset)) here some) in
       (w.0, w.1, get_or_default order w.0 0 at.offset w.1 ∙ w.2)
 
-  -- part k of the order is at offset k
+  -- part k of the order has the k-th new offset
   offset-at : (k : ℕ) → k < length order → offset_after source order (get_or order k 0) ≡ get_or offsets k 0
   offset-at k lt = after-at source order k listed.once lt ∙ ap (λ l. get_or l k 0) (sym compacts.offsets_are)
 
@@ -166,7 +166,7 @@ module _ {X : Type 0} (words : List Pointer) (state state' : RegionState X) (m :
   pub offsets-long : length offsets ≡ length order
   offsets-long = ap (λ (l : List ℕ). length l) compacts.offsets_are ∙ length-map (gathered source order) (λ p. p.offset) ∙ length-layout 0 (map (list_or_none source) order) ∙ length-map order (list_or_none source)
 
-  -- no part is in the segment that was empty
+  -- no part is in segment `to`, which was empty
   not-target : (at : At) → IsSome (part_of state at) → at.segment ≢ to
   not-target at some same = not_some (part_of state at) (ap (λ n. list_at (segment_of state n).parts at.offset) same ∙ ap (λ ps. list_at ps at.offset) compacts.target.empty) some
 
@@ -181,7 +181,7 @@ module _ {X : Type 0} (words : List Pointer) (state state' : RegionState X) (m :
     | inr else ↦ ap (part_of state') (moved-else source order from to at else) ∙ ap (λ s. list_at s.parts at.offset) (compacts.others at.segment else (not-target at some))
   ]
 
-  -- no two lists begin at one location
+  -- the new offsets all differ
   offsets-disjoint : from < length state → AllPairs (λ o p. o ≢ p) offsets
   offsets-disjoint there =
       rw compacts.offsets_are (rises-disjoint 0 (map (λ p. p.offset) (gathered source order)) (rises-picked (list_or_none source) 0 order

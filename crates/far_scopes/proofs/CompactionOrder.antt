@@ -21,7 +21,7 @@ use Rattle.far_scopes.proofs.MemoryPlaces.{cases_option, same_some, none_or_some
 use Rattle.far_scopes.proofs.Sorted.{in-head, in-tail, in-none, in-cases, in-filter, from-filter, in-read, pairs-append, in-map, from-map, Rises, rises-before, rises-filter, rises-sorted, rises-disjoint, same-sorted}
 use Rattle.far_scopes.proofs.SegmentObjectsWords.{disjoint-at}
 
--- a location is its two numbers
+-- a location with this segment and this offset is the record of both
 pub at-is : (at : At) (segment offset : ℕ) → at.segment ≡ segment → at.offset ≡ offset → at ≡ record { segment = segment; offset = offset }
 at-is at segment offset e f = ap (λ (n : ℕ). let q : At = record { segment = n; offset = at.offset } in q) e ∙ ap (λ (n : ℕ). let q : At = record { segment = segment; offset = n } in q) f
 
@@ -36,7 +36,7 @@ heat true false is = cc
 heat false true is = cc
 heat false false is = refl
 
--- what a word in a segment says
+-- the location and the hot bit of a word, if `offset_if` finds its offset
 offset-is : (segment : ℕ) (h : Bool) (word : Pointer) (offset : ℕ) → offset_if segment h word ≡ Some offset → (at_of word ≡ Some record { segment = segment; offset = offset }) × (is_hot word ≡ h)
 offset-is segment h (Local at dirty hot far) offset is =
     let w = both (eqb at.segment segment) (cond h hot (not hot)) at.offset offset is in
@@ -144,7 +144,7 @@ module _ {X : Type 0} where
 
     -- facts about the objects of the segment
     module _ (own : OwnPlaces (place_of words) (part_of state)) where
-      -- an object is hot if its word says so
+      -- the object at a location is hot exactly if its word is hot
       hot-is : (o : ℕ) (word : Pointer) (at : At) → slice_get words o ≡ Some word → at_of word ≡ Some at → hot_at words at ≡ is_hot word
       hot-is o word at there is = true-or-not (is_hot word) (hot_at words at ≡ is_hot word)
           (λ hot. list_any_at (λ w. begins_at at w && is_hot w) words o word (slice_get_within words o word there) (rw (get_or_from_slice_get words o word word there, begins-there at word is) hot) ∙ sym hot)
@@ -173,7 +173,7 @@ module _ {X : Type 0} where
         there : (found : SegmentObject) → Contains objects found → (place_of words found.object ≡ Some record { segment = from; offset = found.offset }) × (hot-from found.offset ≡ h)
         there found in-it = found-is h found.object found.offset (All-contains (λ (f : SegmentObject). (f.object < length words) × (offset_of words from h f.object ≡ Some f.offset)) objects found are.all.sound in-it).1
 
-        -- two objects have two offsets
+        -- different objects have different offsets
         offsets-disjoint : AllPairs (λ o p. o ≢ p) (map (λ (f : SegmentObject). f.offset) objects)
         offsets-disjoint i j d lt within same =
             let none : SegmentObject = record { object = 0; offset = 0 } in
@@ -186,7 +186,7 @@ module _ {X : Type 0} where
             disjoint-at objects i j none are.all.once (λ e. omega (arith, lt, e)) first second
             (own.disjoint (get_or objects i none).object (get_or objects j none).object record { segment = from; offset = (get_or objects j none).offset } (one ∙ ap (λ (n : ℕ). let at : At = record { segment = from; offset = n } in Some at) offset) two)
 
-        -- their offsets, as the region has them
+        -- the objects' offsets are the offsets in the region that pass
         sorted-is : (passes : ℕ → Bool) → ((offset : ℕ) → passes offset ≡ true → hot-from offset ≡ h) → ((offset : ℕ) → hot-from offset ≡ h → passes offset ≡ true) → map (λ (f : SegmentObject). f.offset) objects ≡ filter passes offsets
         sorted-is passes to back =
             same-sorted 0 (map (λ (f : SegmentObject). f.offset) objects) (filter passes offsets)
@@ -204,7 +204,7 @@ module _ {X : Type 0} where
             in-map (λ (f : SegmentObject). f.offset) objects record { object = v.0; offset = offset } (are.all.whole v.0 offset (slice_get_within words v.0 u.0 u.1) (is-found h v.0 at v.1 refl (to offset w.1))))
 
       module _ (objects : List SegmentObject) (are : AreHotFirst words from objects) where
-        -- their offsets are the order of the compaction
+        -- the objects' offsets are the order of the compaction
         pub order-is : map (λ (f : SegmentObject). f.offset) objects ≡ hot_first here from
         order-is =
             let one = sorted-is true are.hot are.first hot-from (λ offset e. e) (λ offset e. e) in

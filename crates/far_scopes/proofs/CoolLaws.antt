@@ -13,7 +13,7 @@ use Rattle.far_scopes.specs.Renewal.{renewed_word}
 use Rattle.far_scopes.specs.Cool.{cool_of, cool_in}
 use Rattle.far_scopes.proofs.MemoryPlaces.{cases_option}
 
--- a word that says that its object is hot is not counted
+-- the word of a hot object is not counted
 pub none-hot : (word : Pointer) → cool_of (with_hot word true) ≡ 0
 none-hot (Local at dirty hot far) = refl
 none-hot Remote = refl
@@ -23,7 +23,7 @@ pub same-moved : (word : Pointer) (to : At) → cool_of (with_at word to) ≡ co
 same-moved (Local at dirty hot far) to = refl
 same-moved Remote to = refl
 
--- an object that was hot and no longer is counts from then on
+-- an object that was hot is counted once it is no longer hot
 pub more-cooled : (word : Pointer) (to : At) → cool_of (with_hot (with_at word to) false) ≡ cool_of word + cond (is_hot word) 1 0
 more-cooled (Local at dirty true far) to = refl
 more-cooled (Local at dirty false far) to = refl

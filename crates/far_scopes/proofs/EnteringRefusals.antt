@@ -1,4 +1,4 @@
--- Listed objects that are pinned one after another: the refusal that the remaining ones cause.
+-- Listed objects that are pinned one after another: the refusal that the remaining objects cause.
 use Rattle.std.proofs.Common.{◌≡◌, ℕ, ◌+◌, Bool, true, false, inl, inr, List, [], ◌∷◌, cond, Option, Some, None, refl, ap, ◌∙◌}
 use Rattle.std.specs.Prelude.{not, ◌==◌, slice_get}
 use Rattle.std.proofs.lemmas.Bool.{cases_eq}

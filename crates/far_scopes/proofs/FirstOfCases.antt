@@ -41,14 +41,14 @@ module _ {C : Type 0} (case : C → Bool × Refusal) where
       let first = two-free (case c) (map case cs) free in
       All-cons (λ d. None ≡ first_of (case d ∷ [])) c cs first.0 (none-due cs first.1)
 
-  -- whether a case applies, if the next one does not
+  -- whether a case applies, if the next case does not
   pub any-later : (cs : List C) (k : ℕ) (c : C) → k < length cs → c ≡ get_or cs k c → (case c).0 ≡ false → list_any (λ d. (case d).0) (drop k cs) ≡ list_any (λ d. (case d).0) (drop (k + 1) cs)
   any-later cs k c below read free = rw (next-is cs k c below read, free) refl
 
   pub any-here : (cs : List C) (k : ℕ) (c : C) → k < length cs → c ≡ get_or cs k c → (case c).0 ≡ true → list_any (λ d. (case d).0) (drop k cs) ≡ true
   any-here cs k c below read due = rw (next-is cs k c below read, due) refl
 
--- for a local object that may be written, and for one that may not
+-- the refusal of two cases tells whether the second case applies
 pub written-free : (here spent : Bool × Refusal) → None ≡ first_of (here ∷ spent ∷ []) → spent.0 ≡ false
 written-free (true, e) spent free = absurd cc
 written-free (false, e) (true, f) free = absurd cc

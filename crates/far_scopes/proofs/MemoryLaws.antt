@@ -17,7 +17,7 @@ use Rattle.far_scopes.proofs.MemoryPlaces.{own-lost, lists-lost, own-gained, lis
 use Rattle.far_scopes.proofs.MemoryWordPlaces.{place-set_same, place-set_other, place-push_last, place-push_other, place-end}
 
 module _ {X : Type 0} (words : List Pointer) (state state' : RegionState X) (m : IsMemory words state) where
-  -- an object goes away
+  -- an object is evicted
   module _ (o : ℕ) (at : At) (within : o < length words) (was : place_of words o ≡ Some at) (change : ChangesOnly state state' at None) where
     pub memory-lost : IsRegion state' → IsMemory (slice_set words o Remote) state'
     memory-lost region = record {
@@ -39,7 +39,7 @@ module _ {X : Type 0} (words : List Pointer) (state state' : RegionState X) (m :
     pub list-with_object : ChangesList (list_in record { words = words; state = state }) (list_in record { words = words ++ word ∷ []; state = state' }) (length words) (Some list)
     list-with_object = lists-gained (place_of words) (place_of (words ++ word ∷ [])) (part_of state) (part_of state') m.own (length words) (place-push_other words word) at list (place-end words) (place-push_last words word ∙ is) free change.here change.others
 
-  -- an object that was away comes back
+  -- an object that was away becomes local
   module _ (o : ℕ) (word : Pointer) (at : At) (list : List X) (within : o < length words) (was : place_of words o ≡ None) (is : at_of word ≡ Some at) (free : part_of state at ≡ None) (change : ChangesOnly state state' at (Some list)) where
     pub memory-after_bring : IsRegion state' → IsMemory (slice_set words o word) state'
     memory-after_bring region = record {
@@ -88,7 +88,7 @@ module _ {X : Type 0} (words : List Pointer) (state state' : RegionState X) (m :
     pub list-replaced : ChangesList (list_in record { words = words; state = state }) (list_in record { words = slice_set words o word; state = state' }) o (Some list)
     list-replaced = lists-moved (place_of words) (place_of (slice_set words o word)) (part_of state) (part_of state') m.own o (place-set_other words o word) at to list was (place-set_same words o word within ∙ is) free here dropped.here parts
 
--- the same, if a word changes and none is added or removed
+-- a word changes, and its location does not
 module _ {X : Type 0} (words : List Pointer) (state : RegionState X) (m : IsMemory words state) (o : ℕ) (old word : Pointer) (was : slice_get words o ≡ Some old) (same : at_of word ≡ at_of old) where
   places-after_mark : (p : ℕ) → place_of (slice_set words o word) p ≡ place_of words p
   places-after_mark p = elim (cases_eq p o) [
@@ -117,7 +117,7 @@ after_mark-is (Local at true false far) dirty hot = cc
 after_mark-is (Local at false hot far) dirty hot' = cc
 after_mark-is Remote dirty hot = refl
 
--- marking its object changes nothing
+-- marking the object of such a word changes nothing
 pub already-marked : {X : Type 0} (memory : Memory X) (o : ℕ) (word : Pointer) → slice_get memory.words o ≡ Some word → with_hot (with_dirty word) true ≡ word → memory ≡ after_mark memory o
 already-marked memory o word was same =
     let unchanged : slice_set memory.words o word ≡ memory.words = ap (slice_set memory.words o) (sym (get_or_from_slice_get memory.words o word word was)) ∙ set-get_or memory.words o word in

@@ -1,4 +1,4 @@
--- An object takes over the location of another, which is removed.
+-- An object takes over the location of another object, which is removed.
 use Rattle.std.proofs.Common.{◌≡◌, ◌≢◌, ℕ, ◌⊎◌, inl, inr, List, Option, Some, None, IsSome, sym, ap, subst, ◌∙◌}
 use Rattle.std.specs.Option.{option_and_then}
 use Rattle.std.proofs.lemmas.Bool.{cases_eq}
@@ -55,7 +55,7 @@ module _ {X : Type 0} (place place' : ℕ → Option At) (part part' : At → Op
     ];
   }
 
-  -- its list is the other object's, and the rest is unchanged
+  -- its list is the removed object's list, and the other lists are unchanged
   pub list-after_take_over : option_and_then part' (place' o) ≡ option_and_then part (place last)
   list-after_take_over = ap (option_and_then part') is ∙ parts to to_not_at ∙ sym (ap (option_and_then part) lay)
 

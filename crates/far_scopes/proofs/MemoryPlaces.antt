@@ -5,7 +5,7 @@ use Rattle.std.proofs.lemmas.Bool.{cases_eq}
 use Rattle.far_pointer.specs.declared.pointer.At.{At}
 use Rattle.far_scopes.specs.Memory.{ChangesList, OwnPlaces}
 
--- two locations are the same, or not
+-- two locations are equal or different
 pub cases_At : (one other : At) → (one ≡ other) ⊎ (one ≢ other)
 cases_At one other = elim (cases_eq one.segment other.segment) [
   | inl segment ↦ elim (cases_eq one.offset other.offset) [
@@ -169,7 +169,7 @@ module _ {X : Type 0} (place place' : ℕ → Option At) (part part' : At → Op
         others = λ p ne. other_list p (others p ne) (λ q taken. parts q (not_at p q ne taken) (not_to p q taken));
       }
 
-  -- no location changes, and no list
+  -- no location changes
   module _ (same : (p : ℕ) → place' p ≡ place p) where
     pub own-same : ((q : At) → IsSome (part' q) → IsSome (part q)) → ((q : At) → IsSome (part q) → IsSome (part' q)) → OwnPlaces place' part'
     own-same stays comes = record {

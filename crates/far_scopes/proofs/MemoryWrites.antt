@@ -27,7 +27,7 @@ some-and P Q None f h = absurd h
 some-and P Q (Some x) f h = f x h
 
 module _ {X : Type 0} where
-  -- parts that are written begin where they began
+  -- a write does not change where a part begins
   begin-unchanged : (from : ℕ) (ws : List X) (ps : List (Part X)) (k : ℕ) → is_some (list_at (map (after_overwrite from ws) ps) k) ≡ is_some (list_at ps k)
   begin-unchanged from ws [] k = refl
   begin-unchanged from ws (p ∷ ps) k = elim (nat_eq p.offset k) as (λ b. is_some (cond b (Some (after_overwrite from ws p).list) (list_at (map (after_overwrite from ws) ps) k)) ≡ is_some (cond b (Some p.list) (list_at ps k))) [
@@ -62,7 +62,7 @@ module _ {X : Type 0} where
     pub list-after_write : (i : ℕ) (ws list : List X) → WritesPart state (after_write_at state at i ws) at list → ChangesList (list_in record { words = words; state = state }) (list_in (after_overwrite_in record { words = words; state = state } o i ws)) o (Some list)
     list-after_write i ws list writes = rw (after_overwrite-is i ws) (lists-after_write (place_of words) (place_of words) (part_of state) (part_of (after_write_at state at i ws)) m.own (λ p. refl) o at list was writes.change.here writes.change.others)
 
-    -- the same for a range
+    -- writing over a range of the part's elements
     abbrev WritesRange : ℕ → ℕ → List X → Type 0
     WritesRange from to list = (range : List X) → length range ≡ to - from → WritesPart state (after_write_at state at from range) at (take from list ++ (range ++ drop to list))
 

@@ -1,4 +1,4 @@
--- What is true of all objects after one is brought back.
+-- The invariant of all objects after one becomes local again.
 use Rattle.std.proofs.Common.{◌≡◌, ◌≢◌, ℕ, zero, suc, ◌<◌, true, false, inl, inr, List, [], ◌∷◌, length, Option, Some, None, refl, sym, ap, subst, ◌∙◌, arith}
 use Rattle.std.specs.Prelude.{is_some, slice_get, slice_set, option_map, IsSomeAnd}
 use Rattle.std.specs.Option.{option_and_then}
@@ -34,7 +34,7 @@ not-within (x ∷ xs) zero within none = cc
 not-within (x ∷ xs) (suc i) within none = not-within xs i (omega (arith, within)) none
 
 module _ {X K : Type 0} (meaning : List ℕ → List X) (content : K → List ℕ) (spelled : List X → List ℕ → Type 0) (m : Movement X K) (tracked : AreTracked meaning content spelled m) (o : ℕ) where
-  -- an object that is away is brought back with the list that its ticket means
+  -- an object that is away becomes local with the list that its ticket's content encodes
   module _ (within : o < length m.records) (list : List X) (away : is_local m o ≡ false) (means : list_of meaning content m o ≡ Some list) where
     abbrev object_record-there : (e : ObjectRecord K) × (record_of m o ≡ Some e)
     object_record-there = elim (cases_option (record_of m o)) [
@@ -71,7 +71,7 @@ module _ {X K : Type 0} (meaning : List ℕ → List X) (content : K → List �
     some-after_arrive = subst (λ n. 0 < n) (sym long-after_arrive) (tracked.each o Remote object_record word-was was).some
 
     module _ (memory : Memory X) (at : At) (words : memory.words ≡ slice_set m.memory.words o (Local at false true true)) (change : ChangesList (list_in m.memory) (list_in memory) o (Some list)) where
-      -- the objects after it arrived
+      -- the objects after the arrival
       abbrev after_arrive_m : Movement X K
       after_arrive_m = record m { memory = memory; order = o ∷ m.order }
 

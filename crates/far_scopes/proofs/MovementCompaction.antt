@@ -1,4 +1,4 @@
--- What is true of all objects after many words change and no list does.
+-- The invariant of all objects after many words change and no list does.
 use Rattle.std.proofs.Common.{◌≡◌, ℕ, Bool, true, false, inl, inr, List, length, map, cond, eqb, Some, refl, sym, ap, subst, ◌∙◌}
 use Rattle.std.specs.Prelude.{is_some, slice_get, option_map, IfSome}
 use Rattle.std.specs.Option.{option_map_or, option_and_then}
@@ -20,7 +20,7 @@ pub record Keeps (change : Pointer → Pointer) : Type 0 where
   pub dirt : (word : Pointer) → is_dirty (change word) ≡ is_dirty word
   pub local : (word : Pointer) → is_some (at_of (change word)) ≡ is_some (at_of word)
 
--- an object that is away was away before
+-- an object that is away after the change was away before it
 away-unchanged : (change : Pointer → Pointer) → Keeps change → (word : Pointer) → change word ≡ Remote → word ≡ Remote
 away-unchanged change keeps (Local at dirty hot far) is = absurd (false≢true (sym (ap (λ w. is_some (at_of w)) is) ∙ keeps.local (Local at dirty hot far)))
 away-unchanged change keeps Remote is = refl
@@ -39,7 +39,7 @@ module _ {X K : Type 0} (meaning : List ℕ → List X) (content : K → List �
     | inr (old, is) ↦ (old, is, same_some (slice_get memory.words o) now (word-now o ∙ ap (option_map change) is))
   ]
 
-  -- what a change keeps of a word, it keeps of the object
+  -- a property of words that the change keeps is kept for each object's word
   of-unchanged : {A : Type 0} (f : Pointer → A) (d : A) → ((word : Pointer) → f (change word) ≡ f word) → (o : ℕ) → option_map_or f (slice_get memory.words o) d ≡ option_map_or f (slice_get m.memory.words o) d
   of-unchanged f d same o = elim (cases_option (slice_get m.memory.words o)) [
     | inl none ↦ ap (λ w. option_map_or f w d) (word-now o ∙ ap (option_map change) none) ∙ sym (ap (λ w. option_map_or f w d) none)
@@ -83,7 +83,7 @@ module _ {X : Type 0} (parts : List (Part X)) (order : List ℕ) (from to : ℕ)
   here-or-not b (Local at dirty hot far) = cond b (Local record { segment = to; offset = offset_after parts order at.offset } dirty false far) (Local at dirty hot far)
   here-or-not b Remote = Remote
 
-  -- a compaction keeps what is true of all objects
+  -- a compaction keeps which objects are local, dirty and have a far copy
   pub keeps-moved : Keeps (moved_word parts order from to)
   keeps-moved = record { copy = copies; dirt = dirts; local = locals }
     where

@@ -1,4 +1,4 @@
--- What is true of all objects after one is made.
+-- The invariant of all objects after one is created.
 use Rattle.std.proofs.Common.{◌≡◌, ◌≢◌, ℕ, ◌<◌, ◌^◌, true, false, inl, inr, List, [], ◌∷◌, ◌++◌, length, length-append, Some, refl, sym, ap, subst, ◌∙◌, arith}
 use Rattle.std.specs.Prelude.{is_some}
 use Rattle.std.specs.Option.{option_map_or}
@@ -18,7 +18,7 @@ use Rattle.far_scopes.proofs.RecencyLaws.{has-cons_same, has-cons_other}
 use Rattle.far_scopes.proofs.MovementLaws.{Others, clean-one, list-one, each-one}
 use Rattle.far_scopes.proofs.MovementTransitions.{some-one}
 
--- a new object, whatever tickets mean
+-- the invariant of a new object
 pub tracked-new : {X K : Type 0} (meaning : List ℕ → List X) (content : K → List ℕ) (spelled : List X → List ℕ → Type 0) (max_writes leavings : ℕ) (at : At) (name : Name) (list : List X)
     → 0 < length list → IsTracked meaning content spelled max_writes leavings (Local at true true false) (Some list) (new_record name (length list))
 tracked-new meaning content spelled max_writes leavings at name list some =
@@ -26,7 +26,7 @@ tracked-new meaning content spelled max_writes leavings at name list some =
 
 module _ {X K : Type 0} (meaning : List ℕ → List X) (content : K → List ℕ) (spelled : List X → List ℕ → Type 0) (m : Movement X K) (tracked : AreTracked meaning content spelled m) (memory : Memory X) (at : At) (name : Name) (list : List X)
     (words : memory.words ≡ m.memory.words ++ Local at true true false ∷ []) (change : ChangesList (list_in m.memory) (list_in memory) (length m.memory.words) (Some list)) where
-  -- the objects after this one is made
+  -- the objects after this one is created
   abbrev with_one : Movement X K
   with_one = record m { memory = memory; records = m.records ++ new_record name (length list) ∷ []; order = length m.records ∷ m.order }
 

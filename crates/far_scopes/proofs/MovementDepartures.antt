@@ -1,4 +1,4 @@
--- What is true of all objects after one goes away.
+-- The invariant of all objects after one is evicted.
 use Rattle.std.proofs.Common.{◌≡◌, ◌≢◌, ℕ, ◌+◌, ◌<◌, get_or, inl, inr, List, length, Option, Some, None, IsSome, refl, sym, ap, subst, ◌∙◌, arith}
 use Rattle.std.specs.Prelude.{slice_get, slice_set, All, IsSomeAnd, IfSome}
 use Rattle.std.specs.Option.{option_map_or}
@@ -28,13 +28,13 @@ pub some-with : {A : Type 0} (P : A → Type 0) (o : Option A) → IsSomeAnd o P
 some-with P None h = absurd h
 some-with P (Some x) h = (x, refl, h)
 
--- bytes that spell a list mean it
+-- bytes that spell a list decode to it
 pub reads-spelled : {X : Type 0} (meaning : List ℕ → List X) (in_range : X → Type 0) (has_spelling : List X → Type 0) (spelling : List X → List ℕ) → ((list : List X) → All in_range list → has_spelling list → meaning (spelling list) ≡ list)
     → (bytes : List ℕ) (list : List X) → IsSpelled in_range has_spelling spelling list bytes → meaning bytes ≡ list
 reads-spelled meaning in_range has_spelling spelling reads_back bytes list is = ap meaning is.is ∙ reads_back list is.range is.has
 
 module _ {X K : Type 0} (meaning : List ℕ → List X) (content : K → List ℕ) (spelled : List X → List ℕ → Type 0) (m : Movement X K) (tracked : AreTracked meaning content spelled m) (o : ℕ) where
-  -- an object that is local with a list that this ticket spells goes away
+  -- a local object whose list is spelled by this ticket's content is evicted
   module _ (object_record : ObjectRecord K) (read : object_record ≡ get_or m.records o object_record) (ticket : K) (reads : (list : List X) → spelled list (content ticket) → meaning (content ticket) ≡ list) (copied : IsSomeAnd (list_in m.memory o) (λ list. spelled list (content ticket))) where
     found : (list : List X) × (list_in m.memory o ≡ Some list) × spelled list (content ticket)
     found = some-with (λ list. spelled list (content ticket)) (list_in m.memory o) copied
@@ -58,7 +58,7 @@ module _ {X K : Type 0} (meaning : List ℕ → List X) (content : K → List �
     left-behind = record object_record { leavings = object_record.leavings + 1; ticket = Some ticket }
 
     module _ (memory : Memory X) (words : memory.words ≡ slice_set m.memory.words o Remote) (change : ChangesList (list_in m.memory) (list_in memory) o None) where
-      -- the objects after it went away
+      -- the objects after the eviction
       abbrev gone : Movement X K
       gone = record m { memory = memory; records = slice_set m.records o left-behind; order = without m.order o }
 

@@ -15,7 +15,7 @@ use Rattle.far_scopes.specs.Movement.{Movement, ChangesObject, AreHere, AreTrack
 use Rattle.far_scopes.proofs.MemoryPlaces.{cases_option}
 use Rattle.far_scopes.proofs.MemoryWordPlaces.{slice_get-set_other, slice_get-set_same}
 
--- one record of a list changes
+-- a change of one record changes no other record
 pub object_record-with_other : {K : Type 0} (records : List (ObjectRecord K)) (o : ℕ) (change : ObjectRecord K → ObjectRecord K) (p : ℕ) → p ≢ o → slice_get (with_record records o change) p ≡ slice_get records p
 object_record-with_other records o change p ne = elim (cases_option (slice_get records o)) [
   | inl none ↦ rw none refl
@@ -41,7 +41,7 @@ module _ {X K : Type 0} where
     pub here-unchanged : (old new : Movement X K) (o : ℕ) → ChangesObject old new o → ticket_of new o ≡ ticket_of old o → AreHere is_of id old → AreHere is_of id new
     here-unchanged old new o others same here = here-one old new o others here (rw same (here o))
 
--- a record that is changed keeps its ticket if the change does
+-- a changed record keeps its ticket if the change keeps tickets
 pub ticket-with : {K : Type 0} (records : List (ObjectRecord K)) (o : ℕ) (change : ObjectRecord K → ObjectRecord K) → ((e : ObjectRecord K) → (change e).ticket ≡ e.ticket) → option_and_then (λ (e : ObjectRecord K). e.ticket) (slice_get (with_record records o change) o) ≡ option_and_then (λ (e : ObjectRecord K). e.ticket) (slice_get records o)
 ticket-with {K = K} records o change same = elim (cases_option (slice_get records o)) [
   | inl none ↦ rw none (ap (option_and_then (λ (e : ObjectRecord K). e.ticket)) none)

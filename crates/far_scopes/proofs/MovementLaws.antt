@@ -1,4 +1,4 @@
--- What is true of all objects after one changes.
+-- The invariant of all objects after one changes.
 use Rattle.std.proofs.Common.{◌≡◌, ◌≢◌, ℕ, ◌<◌, arith, get_or, true, false, inl, inr, List, length, Option, Some, refl, sym, ap, subst, ◌∙◌}
 use Rattle.std.specs.Prelude.{option_map, IfSome}
 use Rattle.std.specs.Option.{option_map_or, option_and_then}
@@ -22,7 +22,7 @@ module _ {X K : Type 0} (meaning : List ℕ → List X) (content : K → List �
     list-other : (p : ℕ) → p ≢ o → list_of meaning content new p ≡ list_of meaning content old p
     list-other p ne = rw (others.lists p ne, others.records p ne) refl
 
-    -- the list of the object, if it is clean, is what its ticket means
+    -- each clean object's list is the list that its ticket's content encodes, if this holds for object o
     pub clean-one : AreClean meaning content old → (dirty new o ≡ false → list_of meaning content new o ≡ option_map (λ ticket. meaning (content ticket)) (ticket_of new o)) → AreClean meaning content new
     clean-one clean here p = elim (cases_eq p o) [
       | inl same ↦ subst (λ k. dirty new k ≡ false → list_of meaning content new k ≡ option_map (λ ticket. meaning (content ticket)) (ticket_of new k)) (sym same) here
@@ -39,7 +39,7 @@ module _ {X K : Type 0} (meaning : List ℕ → List X) (content : K → List �
     ]
 
     module _ (spelled : List X → List ℕ → Type 0) (tracked : AreTracked meaning content spelled old) where
-      -- what is true of each object, if it is true of the one that changed
+      -- the invariant of each object, if it holds for the object that changed
       pub each-one : new.max_writes ≡ old.max_writes → new.leavings ≡ old.leavings
           → ((word : Pointer) (object_record : ObjectRecord K) → word_of new o ≡ Some word → record_of new o ≡ Some object_record → IsTracked meaning content spelled new.max_writes new.leavings word (list_in new.memory o) object_record)
           → (p : ℕ) (word : Pointer) (object_record : ObjectRecord K) → word_of new p ≡ Some word → record_of new p ≡ Some object_record → IsTracked meaning content spelled new.max_writes new.leavings word (list_in new.memory p) object_record

@@ -94,7 +94,7 @@ module _ {X K : Type 0} (meaning : List ℕ → List X) (content : K → List �
     pub list-since : (before : Movement X K) → ((p : ℕ) → list_of meaning content m p ≡ list_of meaning content before p) → ChangesList (list_of meaning content before) (list_of meaning content (after_overwrite m o i ws)) o (Some now)
     list-since before lists = record { here = list-after_overwrite.here; others = λ p ne. list-after_overwrite.others p ne ∙ lists p }
 
--- the same for a range
+-- writing over a range of an object's elements
 module _ {X K : Type 0} (meaning : List ℕ → List X) (content : K → List ℕ) (spelled : List X → List ℕ → Type 0) (before m : Movement X K) (o from to : ℕ)
     (parts : (p : ℕ) → list_in m.memory p ≡ list_in before.memory p) (lists : (p : ℕ) → list_of meaning content m p ≡ list_of meaning content before p) where
   -- the list after a range of it changes

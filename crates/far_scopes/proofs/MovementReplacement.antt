@@ -1,4 +1,4 @@
--- What is true of all objects after the list of one is replaced.
+-- The invariant of all objects after the list of one is replaced.
 use Rattle.std.proofs.Common.{◌≡◌, ◌≢◌, ℕ, ◌+◌, ◌<◌, get_or, nat_lt, Bool, true, false, inl, inr, List, length, Some, None, refl, sym, ap, subst, ◌∙◌}
 use Rattle.std.specs.Prelude.{not, is_some, slice_set}
 use Rattle.std.specs.Option.{option_and_then}
@@ -115,7 +115,7 @@ module _ {X K : Type 0} (meaning : List ℕ → List X) (content : K → List �
   pub free-mid : write_refusal mid o ≡ None
   free-mid = two-none (absent mid o).0 (written_out mid o).0 (absent mid o).1 (written_out mid o).1 (ap not local-mid) (ap (λ v. not (nat_lt v m.max_writes)) version-mid ∙ (free-parts m o (length list) free).1)
 
-  -- the objects after it is marked
+  -- the objects after the object is marked as written
   module _ (new : Movement X K) (marks : new ≡ after_write mid o) where
     pub lists-new : ((p : ℕ) → list_of meaning content new p ≡ list_of meaning content mid p) → ChangesList (list_of meaning content m) (list_of meaning content new) o (Some list)
     lists-new same =

@@ -1,4 +1,4 @@
--- What is true of all objects after one is used or written.
+-- The invariant of all objects after one is used or written.
 use Rattle.std.proofs.Common.{◌≡◌, ℕ, ◌+◌, ◌<◌, Bool, true, false, inl, inr, List, length, Option, Some, None, refl, sym, ap, subst, ◌∙◌, arith}
 use Rattle.std.specs.Prelude.{is_some, slice_get, slice_set, IfSome}
 use Rattle.std.specs.Option.{option_map_or, option_and_then}
@@ -18,7 +18,7 @@ use Rattle.far_scopes.proofs.MemoryPlaces.{cases_option}
 use Rattle.far_scopes.proofs.MemoryWordPlaces.{slice_get-set_same}
 use Rattle.std.proofs.lemmas.Option.{slice_get_within}
 
--- a mark sends no object away, and makes no far copy
+-- a mark evicts no object, and makes no far copy
 remote-hot : (word : Pointer) → with_hot word true ≡ Remote → word ≡ Remote
 remote-hot (Local at dirty hot far) is = cc
 remote-hot Remote is = refl

@@ -1,4 +1,4 @@
--- What is true of all objects after one is pinned, used or written, goes away or is brought back.
+-- The invariant of all objects after one is pinned, used, written or evicted, or becomes local again.
 use Rattle.std.proofs.Common.{◌≡◌, ◌≢◌, ℕ, Bool, true, false, inl, inr, List, length, Option, Some, refl, sym, ap, subst, ◌∙◌}
 use Rattle.std.specs.Prelude.{not, is_some, slice_get, slice_set}
 use Rattle.std.specs.Option.{option_and_then}
@@ -72,7 +72,7 @@ module _ {X K : Type 0} (meaning : List ℕ → List X) (content : K → List �
   pub clean-recorded : now.ticket ≡ object_record.ticket → AreClean meaning content m → AreClean meaning content record m { records = entries' }
   clean-recorded same = clean-changed m.memory m.order (λ p ne. refl) (λ p. refl) same (λ c. c)
 
--- the same object with more pins or less, if it is local
+-- the invariant of an object with another number of pins, which is 0 if the object is away
 pub tracked-pins : {X K : Type 0} (meaning : List ℕ → List X) (content : K → List ℕ) (spelled : List X → List ℕ → Type 0) (max_writes leavings : ℕ) (word : Pointer) (list : Option (List X)) (object_record : ObjectRecord K) (pins : ℕ)
     → IsTracked meaning content spelled max_writes leavings word list object_record → (word ≡ Remote → pins ≡ 0) → IsTracked meaning content spelled max_writes leavings word list record object_record { pins = pins }
 tracked-pins meaning content spelled max_writes leavings word list object_record pins t away =

@@ -1,4 +1,4 @@
--- What is true of all objects after the last one is removed.
+-- The invariant of all objects after the last one is removed.
 use Rattle.std.proofs.Common.{zero, suc, take, ◌≡◌, ◌≢◌, ℕ, ◌+◌, ◌-◌, ◌≤◌, inl, inr, List, [], ◌∷◌, length, Option, Some, None, refl, sym, ap, subst, ◌∙◌, arith}
 use Rattle.std.specs.Prelude.{slice_get}
 use Rattle.std.proofs.lemmas.Bool.{cases_eq}
@@ -34,7 +34,7 @@ module _ {X : Type 0} where
 
 module _ {X K : Type 0} (meaning : List ℕ → List X) (content : K → List ℕ) (spelled : List X → List ℕ → Type 0) (m : Movement X K) (tracked : AreTracked meaning content spelled m) (memory : Memory X)
     (words : memory.words ≡ take (length m.memory.words - 1) m.memory.words) (change : ChangesList (list_in m.memory) (list_in memory) (length m.memory.words - 1) None) where
-  -- the objects after the last is removed
+  -- the objects after the last one is removed
   abbrev without_last : Movement X K
   without_last = record m { memory = memory; records = take (length m.records - 1) m.records; order = without m.order (length m.records - 1) }
 

@@ -8,7 +8,7 @@ use Rattle.far_scopes.specs.Movement.{Movement, is_local, AreTracked}
 use Rattle.far_scopes.proofs.RecencyLaws.{has-cons_same, has-cons_other, has-without_other, has-without_same, once-without}
 use Rattle.far_scopes.proofs.MemoryWordPlaces.{place-within, some-true}
 
--- an order without an object that is in it has one less
+-- removing an object that is in an order makes the order shorter by one
 length-without : (order : List ℕ) (o : ℕ) → has order o ≡ true → length order ≡ length (without order o) + 1
 length-without [] o there = cc
 length-without (q ∷ order) o there = elim (cases_eq o q) [
@@ -35,7 +35,7 @@ at-most (suc n) order once below = elim (cases_Bool (has order n)) [
       omega (arith, rest)
 ]
 
--- an order of that length has each of them
+-- an order of that length has each object below the bound
 each-there : (n : ℕ) (order : List ℕ) → Once order → ((p : ℕ) → has order p ≡ true → p < n) → length order ≡ n → (o : ℕ) → o < n → has order o ≡ true
 each-there n order once below full o within = elim (cases_Bool (has order o)) [
   | inl there ↦ there
@@ -47,7 +47,7 @@ each-there n order once below full o within = elim (cases_Bool (has order o)) [
       absurd (omega (arith, more, full))
 ]
 
--- an order that has each of them has at least that length
+-- an order that has each object below the bound is at least as long as the bound
 at-least : (n : ℕ) (order : List ℕ) → ((o : ℕ) → o < n → has order o ≡ true) → n ≤ length order
 at-least zero order each = omega arith
 at-least (suc n) order each =
@@ -59,7 +59,7 @@ module _ {X K : Type 0} (meaning : List ℕ → List X) (content : K → List �
   below : (o : ℕ) → has m.order o ≡ true → o < length m.records
   below o there = subst (λ n. o < n) (sym tracked.same_length) (place-within m.memory.words o (some-true (place_of m.memory.words o) (sym (tracked.ordered o) ∙ there)))
 
-  -- every object is local exactly if as many are in the order of use as there are
+  -- every object is local exactly if the order of use is as long as the list of records
   pub all-local : (length m.order ≡ length m.records) ↔ ((o : ℕ) → o < length m.records → is_local m o ≡ true)
   all-local = (each-local, as-many)
     where

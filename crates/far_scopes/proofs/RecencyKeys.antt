@@ -41,7 +41,7 @@ module _ {V : Type 0} (o : ℕ) where
   pub added_keys : (c : LruCache ℕ V) (v : V) → has (keys_of c.entries) o ≡ false → length c.entries ≤ c.cap - 1 → keys_of (put_entries nat_eq c o v) ≡ o ∷ keys_of c.entries
   added_keys c v h fits = rw (not_some _ (sym (has_entry c.entries) ∙ h)) (ap (λ es. o ∷ keys_of es) (take_all (c.cap - 1) c.entries fits))
 
--- an entry that is first already
+-- using the first entry again does not change the order
 pub first_keys : {V : Type 0} (es : List (ℕ × V)) (o : ℕ) (e : ℕ × V) → slice_get es 0 ≡ Some e → e.0 ≡ o → after_use (keys_of es) o ≡ keys_of es
 first_keys [] o e first is = cc
 first_keys (d ∷ es) o e first is =

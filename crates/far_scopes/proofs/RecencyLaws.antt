@@ -67,6 +67,6 @@ once-after_use order o once = elim (cases_Bool (has order o)) [
 pub without-cons : (order : List ℕ) (o : ℕ) → without (o ∷ order) o ≡ order
 without-cons order o = rw (eq-eqb o o refl) refl
 
--- an object that is first already
+-- using the first object again does not change the order
 pub after_use-first : (order : List ℕ) (o : ℕ) → after_use (o ∷ order) o ≡ o ∷ order
 after_use-first order o = rw (eq-eqb o o refl) refl

@@ -18,7 +18,7 @@ use Rattle.far_scopes.specs.Replacing.{no_space_for_all}
 use Rattle.far_scopes.proofs.MemoryWordPlaces.{some-true}
 use Rattle.far_scopes.proofs.EnteringRefusals.{first-local}
 
--- if not any passes, none does
+-- if `list_any` is false, no element passes
 pub none-listed : {A : Type 0} (p : A → Bool) (xs : List A) → list_any p xs ≡ false → All (λ x. p x ≡ false) xs
 none-listed p xs none k d lt = elim (cases_Bool (p (slice_index_or xs k d))) [
   | inl passes ↦ absurd (let never = sym (list_any_at p xs k d lt passes) ∙ none in cc)
@@ -36,7 +36,7 @@ module _ {X K : Type 0} (m : Movement X K) where
   pub all-placed : (rs : List (Replacement X)) → first_absent m (map (λ r. r.object) rs) ≡ None → All (λ r. IsSome (place_of m.memory.words r.object)) rs
   all-placed rs free k d lt = some-true _ (all-local rs free k d lt)
 
--- what follows from a refusal that is passed on
+-- a property of a refusal holds for the result that passes it on
 pub err-handed : {A : Type 0} (r : Result A Refusal) (given : Refusal) (P : Refusal → Type 0) → P given → IsErrAnd r (λ e. e ≡ given) → IfErr r P
 err-handed (Ok x) given P known h = absurd h
 err-handed (Err e) given P known h = subst P (sym h) known

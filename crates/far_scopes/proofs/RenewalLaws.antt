@@ -70,7 +70,7 @@ module _ {K L : Type 0} (content : K → List ℕ) (content' : L → List ℕ) w
   if-some P (Some k) (Some t) is h = let same : Some (content' t) ≡ Some (content k) = is in subst P (let e : content k ≡ content' t = cc in e) h
 
 module _ {X K L : Type 0} (meaning : List ℕ → List X) (content : K → List ℕ) (content' : L → List ℕ) (spelled : List X → List ℕ → Type 0) where
-  -- what is true of one object
+  -- the invariant of one object
   one-renewed : (max_writes leavings : ℕ) (word : Pointer) (list : Option (List X)) (object_record : ObjectRecord K) (ticket : Option L) → IsTracked meaning content spelled max_writes leavings word list object_record
       → option_map content' ticket ≡ cond (is_some (at_of word)) None (option_map content object_record.ticket) → IsTracked meaning content' spelled max_writes leavings (renewed_word word) list (renewed_record object_record ticket)
   one-renewed max_writes leavings (Local at dirty hot far) list object_record None t is = record { version = t.version; left = t.left; some = t.some; long = t.long; away = λ remote. cc; copy = refl; far = tt }

@@ -19,7 +19,7 @@ module _ {K L : Type 0} (content : K → List ℕ) (content' : L → List ℕ) w
   away-none false ticket is = ap (option_map content) is
 
   module _ {X : Type 0} (m : Movement X K) where
-    -- an object's new ticket is right
+    -- an object's new ticket has the content of its old ticket, or there is none if the object is local
     abbrev pub Renewed : List (Option L) → ℕ → Type 0
     Renewed tickets p = option_map content' (ticket_in tickets p) ≡ cond (is_local m p) None (option_map content (ticket_of m p))
 

@@ -32,7 +32,7 @@ list-placed words state is o there =
     let (at, at-is) = some_of (place_of words o) there in
     rw at-is (is.own.placed o at at-is)
 
--- the words in the loop: those before the i-th are renewed
+-- the words during the loop: the first i words are renewed
 module _ (words : List Pointer) where
   abbrev pub renewed_before : ℕ → List Pointer
   renewed_before i = map renewed_word (take i words) ++ drop i words

@@ -25,6 +25,6 @@ module _ {X : Type 0} (state : RegionState X) (list : List X) (ns : List ℕ) wh
     | inr (i, is) ↦ fits-placed i is
   ]
 
--- the others lack space if all of them do
+-- if the first list fits, all lists lack space exactly if the others lack it after the first is placed
 pub no_space-next : {X : Type 0} (state between : RegionState X) (r : Replacement X) (rs lists : List (Replacement X)) → lists ≡ r ∷ rs → between ≡ with_new state r.list.items → (fits_in state (length r.list.items) ≡ false → ⊥) → no_space_for_all state lists ≡ no_space_for_all between rs
 no_space-next state between r rs lists is placed fits = rw (is, placed, fits-next state r.list.items (map (λ s. length s.list.items) rs) (not-false (fits_in state (length r.list.items)) fits)) refl

@@ -1,4 +1,4 @@
--- What is true of all objects after the lists of several are replaced, and before they count as written.
+-- The invariant of all objects after the lists of several are replaced, and before they count as written.
 use Rattle.std.proofs.Common.{◌≡◌, ℕ, ◌<◌, ◌⊎◌, true, false, inl, inr, List, [], ◌∷◌, length, map, Option, Some, None, refl, sym, ap, subst, ◌∙◌}
 use Rattle.std.specs.Prelude.{not, nat_lt, is_some, slice_index_or, All, slice_get, option_map}
 use Rattle.std.specs.Option.{option_map_or, option_and_then}
@@ -35,7 +35,7 @@ module _ {X K : Type 0} (meaning : List ℕ → List X) (content : K → List �
     far = t.far;
   }
 
--- for words and records that exist
+-- the old word and the old record, if the new ones exist
 word-behind : (old new : Option Pointer) (now : Pointer) → BothMoved old new → new ≡ Some now → (word : Pointer) × (old ≡ Some word) × IsMoved word now
 word-behind old new now (inl (none, none')) is = absurd (let never = sym none' ∙ is in cc)
 word-behind old new now (inr (word, other, was, here, moved)) is =
@@ -66,7 +66,7 @@ module _ {X K : Type 0} (meaning : List ℕ → List X) (content : K → List �
   local-mid : (p : ℕ) → is_local mid p ≡ is_local m p
   local-mid p = both-local (word_of m p) (word_of mid p) (words-mid p)
 
-  -- what follows for a listed object
+  -- the facts about a listed object
   abbrev Has : ℕ → List X → Type 0
   Has p list = (list_in memory p ≡ Some list) × (0 < length list) × (is_local m p ≡ true)
 

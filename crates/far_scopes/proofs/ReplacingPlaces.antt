@@ -63,7 +63,7 @@ module _ {X : Type 0} where
         let o = All-head (λ (s : Replacement X). s.object < length words) r rs within in
         rw (without-push state rs (All-tail (λ (s : Replacement X). s.object < length words) r rs within), place-push_other words word r.object (λ e. omega (arith, o, e))) refl
 
-  -- the first of several lists is placed as the list of an extra object; the others are placed and taken over, and then it is
+  -- the first of several lists is placed as the list of an extra object; the other lists are placed and taken over before it
   module _ (words : List Pointer) (state : RegionState X) (r : Replacement X) (rs : List (Replacement X)) (within : All (λ s. s.object < length words) rs) where
     abbrev n : ℕ
     n = length r.list.items

@@ -44,7 +44,7 @@ moved-remote old new (inl same) gone = sym same ∙ gone
 moved-remote (Local at d h f) new (inr (to, is)) gone = absurd (let no = sym is ∙ gone in cc)
 moved-remote Remote new (inr (to, is)) gone = refl
 
--- the same for words that may not exist
+-- two words are missing, or are the same, or differ only in their location
 abbrev pub BothMoved : Option Pointer → Option Pointer → Type 0
 BothMoved old new = ((old ≡ None) × (new ≡ None)) ⊎ ((word : Pointer) × (now : Pointer) × (old ≡ Some word) × (new ≡ Some now) × IsMoved word now)
 

@@ -27,7 +27,7 @@ module _ (words : List Pointer) (segment : ℕ) (hot : Bool) where
   more-sound : (n : ℕ) (found : SegmentObject) → Sound n found → Sound (n + 1) found
   more-sound n found h = (omega (arith, h.0), h.1)
 
-  -- the next object is none of these
+  -- the next object is not in the segment, or has another hot bit
   pub objects-past : (n : ℕ) (found : List SegmentObject) → AreObjects words segment hot n found → offset_of words segment hot n ≡ None → AreObjects words segment hot (n + 1) found
   objects-past n found h none = record {
     sound = All-weaker (Sound n) (Sound (n + 1)) (more-sound n) found h.sound;
@@ -38,7 +38,7 @@ module _ (words : List Pointer) (segment : ℕ) (hot : Bool) where
     once = h.once;
   }
 
-  -- the next object is one of these
+  -- the next object is in the segment and has this hot bit
   pub objects-push : (n offset : ℕ) (found : List SegmentObject) → AreObjects words segment hot n found → offset_of words segment hot n ≡ Some offset → AreObjects words segment hot (n + 1) (found ++ record { object = n; offset = offset } ∷ [])
   objects-push n offset found h some =
       let next : SegmentObject = record { object = n; offset = offset } in

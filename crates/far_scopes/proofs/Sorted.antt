@@ -50,7 +50,7 @@ module _ {X : Type 0} where
   in-read (z ∷ zs) zero d lt = in-head z zs
   in-read (z ∷ zs) (suc k) d lt = in-tail z (get_or zs k d) zs (in-read zs k d (omega (arith, lt)))
 
-  -- two lists without repetitions that share nothing
+  -- a relation holds for all pairs of two joined lists, if it holds within each list and across them
   pub pairs-append : (R : X → X → Type 0) (xs ys : List X) → AllPairs R xs → AllPairs R ys → ((x y : X) → Contains xs x → Contains ys y → R x y) → AllPairs R (xs ++ ys)
   pairs-append R [] ys one two across = two
   pairs-append R (x ∷ xs) ys one two across =
@@ -73,7 +73,7 @@ module _ {X Y : Type 0} (f : X → Y) where
     | inr later ↦ let w = from-map xs y later in (w.0, in-tail x w.0 xs w.1, w.2)
   ]
 
--- numbers that ascend from a number on
+-- the numbers ascend, and none is less than `from`
 abbrev pub Rises : ℕ → List ℕ → Type 0
 Rises from [] = Unit {0}
 Rises from (x ∷ xs) = (from ≤ x) × Rises (x + 1) xs

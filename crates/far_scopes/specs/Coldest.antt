@@ -13,7 +13,7 @@ module _ {X K : Type 0} (m : Movement X K) where
   abbrev pub is_cold : ℕ → Bool
   is_cold o = is_unpinned o && not (hot m o)
 
-  -- the eviction victim: the least recently used object that is neither pinned nor hot; if there is none, the least recently used of all
+  -- the eviction victim: the least recently used object that is neither pinned nor hot; if there is none, the least recently used object
   -- without pins
   abbrev pub coldest : Option ℕ
   coldest = option_or (find is_cold (reverse m.order)) (find is_unpinned (reverse m.order))

@@ -23,20 +23,23 @@ module _ {X : Type 0} where
   abbrev pub offsets_in : RegionState X → ℕ → List ℕ
   offsets_in state segment = map (λ p. p.offset) (segment_of state segment).parts
 
-  -- the order of a compaction: the offsets of hot objects' parts, then those of the others, each ascending
+  -- the order of a compaction: the offsets of the parts of hot objects, then the offsets of the other parts, each group ascending
   abbrev pub hot_first : Memory X → ℕ → List ℕ
   hot_first memory segment =
-      let hot : ℕ → Bool = λ offset. hot_at memory.words record { segment = segment; offset = offset }
+      let hot : ℕ → Bool =
+      λ offset. hot_at memory.words record { segment = segment; offset = offset }
       in filter hot (offsets_in memory.state segment)
       ++ filter (λ offset. not (hot offset)) (offsets_in memory.state segment)
 
-  -- the new offset of the part that was at this offset: after all parts that come before it in the order
+  -- the new offset of the part that was at this offset: the total length of the parts before it in the order
   abbrev pub offset_after : List (Part X) → List ℕ → ℕ → ℕ
   offset_after parts [] offset = 0
-  offset_after parts (o ∷ order) offset = if o == offset then 0 else length (list_or_none parts o) +
-      offset_after parts order offset
+  offset_after parts (o ∷ order) offset =
+      if o == offset then 0
+      else length (list_or_none parts o) + offset_after parts order offset
 
-  -- the word of an object after the parts of segment `from` moved to segment `to` in this order: it has the new location, and is not hot
+  -- the word of an object after the parts of segment `from` moved to segment `to` in this order: an object that was in `from` has its new
+  -- location and is not hot, and any other word is unchanged
   abbrev pub moved_word : List (Part X) → List ℕ → ℕ → ℕ → Pointer → Pointer
   moved_word parts order from to (Local at dirty hot far) =
       if at.segment == from
@@ -54,7 +57,7 @@ module _ {X : Type 0} where
         state = compacted memory.state from to order;
       }
 
-  -- new is old with segment `from` compacted into the lowest other segment without parts
+  -- new is old with segment `from` compacted into the lowest other segment that has no parts
   pub record IsCompacted (old new : Memory X) (from : ℕ) : Type 0 where
     pub to : ℕ
     pub target : IsEmptyOther old.state from to

@@ -15,7 +15,7 @@ cool_of Remote = 0
 abbrev pub cool_in : List Pointer → ℕ
 cool_in words = sum_by cool_of words
 
--- the words and the region of a local memory, and how many of its objects are local and not hot
+-- the words and the region are a local memory, and `cool` is how many of its objects are local and not hot
 pub record IsCounted {X : Type 0} (words : List Pointer) (state : RegionState X)
     (cool : ℕ) : Type 0 where
   pub memory : IsMemory words state

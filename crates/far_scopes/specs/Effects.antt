@@ -14,14 +14,14 @@ abbrev pub new_record : {K : Type 0} → Name → ℕ → ObjectRecord K
 new_record name len = record
     { name = name; len = len; version = 0; leavings = 0; pins = 0; ticket = None }
 
--- the records, where the record of object o is changed by a function
+-- the records with the record of object o changed by a function
 abbrev pub with_record : {K : Type 0} → List (ObjectRecord K) → ℕ
     → (ObjectRecord K → ObjectRecord K) → List (ObjectRecord K)
 with_record records o change = option_map_or
     (λ object_record. slice_set records o (change object_record)) (slice_get records o) records
 
 module _ {X K : Type 0} where
-  -- the objects and a new one: local, dirty, hot and the most recently used, never written, away or pinned, without a far copy
+  -- the objects and a new one, which is local, dirty, hot and the most recently used, without writes, evictions, pins or a far copy
   abbrev pub after_create : Movement X K → Name → List X → Movement X K
   after_create m name list = record m {
     memory = with_object m.memory list;
@@ -41,7 +41,7 @@ module _ {X K : Type 0} where
   abbrev pub after_touch : Movement X K → ℕ → Movement X K
   after_touch m o = record m { memory = after_heat m.memory o; order = after_use m.order o }
 
-  -- object o, which is local, counts as written: it is dirty, hot and the most recently used, and its version is one more
+  -- object o, which is local, counts as written: it is dirty, hot and the most recently used, and its version is greater by one
   abbrev pub after_write : Movement X K → ℕ → Movement X K
   after_write m o = record m {
     memory = after_mark m.memory o;
@@ -50,15 +50,16 @@ module _ {X K : Type 0} where
     order = after_use m.order o;
   }
 
-  -- ws is written over the elements of object o from the i-th on
+  -- ws is written over the elements of object o from index i on
   abbrev pub after_overwrite : Movement X K → ℕ → ℕ → List X → Movement X K
   after_overwrite m o i ws = record m { memory = after_overwrite_in m.memory o i ws }
 
-  -- object o has this list
+  -- object o, which is local, has this new list and counts as written
   abbrev pub after_replace : Movement X K → ℕ → List X → Movement X K
   after_replace m o list = after_write (record m {
     memory = replaced_in m.memory o list;
-    records = with_record m.records o (λ object_record. record object_record { len = length list });
+    records = with_record m.records o
+        (λ object_record. record object_record { len = length list });
   }) o
 
   -- the record of each listed object has the length of its new list
@@ -72,7 +73,7 @@ module _ {X K : Type 0} where
   after_write_all m [] = m
   after_write_all m (r ∷ rs) = after_write_all (after_write m r.object) rs
 
-  -- each listed object has its new list
+  -- each listed object has its new list and counts as written
   abbrev pub after_replace_all : Movement X K → List (Replacement X) → Movement X K
   after_replace_all m lists = after_write_all
       (record m { memory = replaced_all_in m.memory lists; records = with_lens m.records lists })
@@ -85,14 +86,14 @@ module _ {X K : Type 0} where
         (λ object_record. record object_record { pins = object_record.pins + 1 });
   }
 
-  -- object o has one pin less
+  -- object o has one pin fewer
   abbrev pub after_unpin : Movement X K → ℕ → Movement X K
   after_unpin m o = record m {
     records = with_record m.records o
         (λ object_record. record object_record { pins = object_record.pins - 1 });
   }
 
-  -- object o goes away; its newest far copy has this ticket
+  -- object o is evicted; its newest far copy has this ticket
   abbrev pub after_leave : Movement X K → ℕ → K → Movement X K
   after_leave m o ticket = record m {
     memory = after_send_away m.memory o;

@@ -19,11 +19,11 @@ module _ {X K : Type 0} where
   pins_overflow m (o ∷ objects) = if pins_of m o == 65535 then Some refusal.EditsUsedUp else
       pins_overflow (after_pin m o) objects
 
-  -- why `enter` is refused for these objects
+  -- the refusal of `enter` for these objects, if there is one, apart from `NoMemory`
   abbrev pub enter_refusal : Movement X K → List ℕ → Option Refusal
   enter_refusal m objects = option_or (first_absent m objects) (pins_overflow m objects)
 
-  -- the objects after a scope's pins are removed, one for each listing if the object has one, and the number of pins removed
+  -- the objects after a scope's pins are removed, one for each listing if the object has a pin, and the number of pins removed
   abbrev pub after_close : Movement X K → List ℕ → Movement X K × ℕ
   after_close m [] = (m, 0)
   after_close m (o ∷ objects) =

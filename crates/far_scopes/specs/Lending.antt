@@ -7,6 +7,6 @@ use Rattle.far_scopes.specs.Placing.{after_overwrite}
 use Rattle.far_scopes.specs.contracts.memory.LocalMemory.{the_row}
 
 module _ (T : RattleType) (s : MutBor (Memory T.Denot)) where
-  -- what the borrow r ends with is written over the elements of object o from the i-th on
+  -- the final list of the borrow r is written over the elements of object o from index i on
   abbrev pub lends_part : ℕ → ℕ → MutBor (List T.Denot) → Fml
   lends_part o i r = Lends (the_row T) (Array T 0) s r (after_overwrite s.now o i)

@@ -1,4 +1,4 @@
--- The local memory of objects: the pointer word of each, and the region with the lists of the local ones.
+-- The local memory of objects: the pointer word of each object, and the region that holds the lists of local objects.
 use Rattle.std.specs.Prelude.{◌≡◌, ◌≢◌, ℕ, List, Option, None, Some, IsSome, slice_get}
 use Rattle.std.specs.Option.{option_and_then}
 use Rattle.far_pointer.specs.declared.pointer.At.{At}
@@ -6,12 +6,12 @@ use Rattle.far_pointer.specs.declared.pointer.Pointer.{Pointer}
 use Rattle.far_pointer.specs.declared.pointer.Pointer.TheVariants.{Local, Remote}
 use Rattle.far_log.specs.RegionState.{RegionState, part_of, IsRegion}
 
--- the pointer words of objects, and the region with the lists of the local ones
+-- the pointer word of each object, and the region that holds the lists of local objects
 pub record Memory (X : Type 0) : Type 0 where
   pub words : List Pointer
   pub state : RegionState X
 
--- the location of a local object's list
+-- the location in a word, if the word's object is local
 abbrev pub at_of : Pointer → Option At
 at_of (Local at dirty hot far) = Some at
 at_of Remote = None
@@ -24,14 +24,14 @@ place_of words o = option_and_then at_of (slice_get words o)
 abbrev pub list_in : {X : Type 0} → Memory X → ℕ → Option (List X)
 list_in memory o = option_and_then (part_of memory.state) (place_of memory.words o)
 
--- only the list of object o changes: it is `now` afterwards, which may be none
+-- only the list of object o changes: afterwards it is `now`, or there is none if `now` is `None`
 pub record ChangesList {X : Type 0} (old new : ℕ → Option (List X)) (o : ℕ)
     (now : Option (List X)) : Type 0 where
   pub here : new o ≡ now
   pub others : (p : ℕ) → p ≢ o → new p ≡ old p
 
--- `place` maps objects to locations, and `part` maps locations to lists. No two objects have the same location, each location of an object
--- has a list, and no other location has one
+-- `place` maps objects to locations, and `part` maps locations to lists. Each location of an object has a list, no two objects share a
+-- location, and each list belongs to an object
 pub record OwnPlaces {X : Type 0} (place : ℕ → Option At)
     (part : At → Option (List X)) : Type 0 where
   pub placed : (o : ℕ) (at : At) → place o ≡ Some at → IsSome (part at)

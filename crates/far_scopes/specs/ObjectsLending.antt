@@ -9,7 +9,7 @@ use Rattle.far_scopes.specs.contracts.objects.Objects.{the_row}
 
 module _ (T S K : RattleType) (kind : elem.Ghosts T.Denot) (store : far.Ghosts S.Denot K.Denot)
     (s : MutBor (Movement T.Denot K.Denot)) where
-  -- object o counts as written, and what the borrow r ends with is written over its elements from the i-th on
+  -- object o counts as written, and the final list of the borrow r is written over its elements from index i on
   abbrev pub lends_written : ℕ → ℕ → MutBor (List T.Denot) → Fml
   lends_written o i r = Lends (the_row T S K kind store) (Array T 0) s r
       (after_overwrite (after_write s.now o) o i)

@@ -16,7 +16,7 @@ module _ {X : Type 0} where
       let segment : ℕ = unwrap_or (target_of state n) 0
       in record { segment = segment; offset = fill_of (segment_of state segment) }
 
-  -- the region with one more part, of this list
+  -- the region with one more part, which has this list
   abbrev pub with_new : RegionState X → List X → RegionState X
   with_new state list =
       let segment : ℕ = unwrap_or (target_of state (length list)) 0
@@ -28,7 +28,7 @@ module _ {X : Type 0} where
   without_at state (Some at) = with_segment state at.segment
       (without_part (segment_of state at.segment) at.offset)
 
-  -- the memory with one more object, which has this list: dirty and hot, and without a far copy
+  -- the memory with one more object, which is local with this list, dirty and hot, and has no far copy
   abbrev pub with_object : Memory X → List X → Memory X
   with_object memory list = record {
     words = memory.words ++ Local (spot memory.state (length list)) true true false ∷ [];
@@ -44,18 +44,18 @@ module _ {X : Type 0} where
         state = without_at memory.state (place_of memory.words last);
       }
 
-  -- the memory, where the word of object o is changed by a function
+  -- the memory with the word of object o changed by a function
   abbrev pub with_word : Memory X → ℕ → (Pointer → Pointer) → Memory X
   with_word memory o change = record memory {
     words = option_map_or
         (λ word. slice_set memory.words o (change word)) (slice_get memory.words o) memory.words;
   }
 
-  -- object o is written: dirty and hot
+  -- object o is dirty and hot, if it is local
   abbrev pub after_mark : Memory X → ℕ → Memory X
   after_mark memory o = with_word memory o (λ word. with_hot (with_dirty word) true)
 
-  -- object o is hot
+  -- object o is hot, if it is local
   abbrev pub after_heat : Memory X → ℕ → Memory X
   after_heat memory o = with_word memory o (λ word. with_hot word true)
 
@@ -66,14 +66,14 @@ module _ {X : Type 0} where
     state = without_at memory.state (place_of memory.words o);
   }
 
-  -- object o, which was away, is local with this list: clean and hot
+  -- object o, which was away, is local with this list, clean and hot
   abbrev pub after_bring : Memory X → ℕ → List X → Memory X
   after_bring memory o list = record {
     words = slice_set memory.words o (Local (spot memory.state (length list)) false true true);
     state = with_new memory.state list;
   }
 
-  -- ws is written over the elements of object o from the i-th on
+  -- ws is written over the elements of object o from index i on
   abbrev pub after_overwrite : Memory X → ℕ → ℕ → List X → Memory X
   after_overwrite memory o i ws = record memory {
     state = option_map_or (λ at. after_write_at memory.state at i ws) (place_of memory.words o)

@@ -11,7 +11,7 @@ abbrev pub without : List ℕ → ℕ → List ℕ
 without [] o = []
 without (p ∷ order) o = if o == p then order else p ∷ without order o
 
--- an order of use after an object in it is used again: that object comes first
+-- an order of use after an object is used again: the object is first, if it is in the order
 abbrev pub after_use : List ℕ → ℕ → List ℕ
 after_use order o = if has order o then o ∷ without order o else order
 

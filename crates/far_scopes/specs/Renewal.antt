@@ -8,7 +8,7 @@ use Rattle.far_scopes.specs.declared.object_record.ObjectRecord.{ObjectRecord}
 use Rattle.far_scopes.specs.Memory.{Memory}
 use Rattle.far_scopes.specs.Movement.{Movement, is_local, ticket_of}
 
--- the word of an object after a renewal: a local one has no far copy, so it is dirty
+-- the word of an object after a renewal: a local object has no far copy, so it is dirty
 abbrev pub renewed_word : Pointer → Pointer
 renewed_word (Local at dirty hot far) = Local at true hot false
 renewed_word Remote = Remote
@@ -18,7 +18,7 @@ abbrev pub renewed_memory : {X : Type 0} → Memory X → Memory X
 renewed_memory memory = record memory { words = map renewed_word memory.words }
 
 module _ {K L : Type 0} where
-  -- the record of an object with another ticket, or without one
+  -- the record of an object with this ticket, or without a ticket
   abbrev pub renewed_record : ObjectRecord K → Option L → ObjectRecord L
   renewed_record object_record ticket = record {
     name = object_record.name;
@@ -45,7 +45,7 @@ module _ {K L : Type 0} where
 abbrev pub ticket_in : {L : Type 0} → List (Option L) → ℕ → Option L
 ticket_in tickets o = option_and_then (λ ticket. ticket) (slice_get tickets o)
 
--- these tickets renew the objects: each object that is away has a ticket with the content of its old one, and a local one has none
+-- these tickets renew the objects: the ticket of an object that is away has its old ticket's content, and a local object has no ticket
 pub record Renews {X K L : Type 0} (content : K → List ℕ) (new_content : L → List ℕ)
     (m : Movement X K) (tickets : List (Option L)) : Type 0 where
   pub same_length : length tickets ≡ length m.records
@@ -54,5 +54,7 @@ pub record Renews {X K L : Type 0} (content : K → List ℕ) (new_content : L �
       ≡ (if is_local m o then None else option_map content (ticket_of m o))
 
 -- each of these tickets is of the store with this id
-abbrev pub AreTicketsHere : {L : Type 0} → (L → List ℕ → Type 0) → List ℕ → List (Option L) → Type 0
-AreTicketsHere is_of id tickets = (o : ℕ) → IfSome (ticket_in tickets o) (λ ticket. is_of ticket id)
+abbrev pub AreTicketsHere : {L : Type 0} → (L → List ℕ → Type 0) → List ℕ
+    → List (Option L) → Type 0
+AreTicketsHere is_of id tickets = (o : ℕ)
+    → IfSome (ticket_in tickets o) (λ ticket. is_of ticket id)

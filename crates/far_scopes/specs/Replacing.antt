@@ -12,7 +12,7 @@ use Rattle.far_scopes.specs.Memory.{Memory, place_of}
 use Rattle.far_scopes.specs.Placing.{spot, with_new, without_at}
 use Rattle.far_scopes.specs.Movement.{Movement, dirty, ticket_of, meant, list_of}
 
--- the words, with another location in the word of object o
+-- the words with this location in the word of object o, if it is local
 abbrev pub with_place : List Pointer → ℕ → At → List Pointer
 with_place words o at = option_map_or (λ word. slice_set words o (with_at word at))
     (slice_get words o) words
@@ -32,7 +32,7 @@ module _ {X : Type 0} where
     pub here : All (λ r. new r.object ≡ Some r.list.items) lists
     pub others : (p : ℕ) → IsUnlisted lists p → new p ≡ old p
 
-  -- the new lists, placed one after another, do not fit
+  -- whether the new lists, placed one after another, do not fit, and the refusal
   abbrev pub no_space_for_all : RegionState X → List (Replacement X) → Bool × Refusal
   no_space_for_all state lists = (
     not
@@ -50,19 +50,19 @@ module _ {X : Type 0} where
   with_all state [] = state
   with_all state (r ∷ rs) = with_all (with_new state r.list.items) rs
 
-  -- the region without the parts of these objects
+  -- the region without the parts of the listed objects
   abbrev pub without_all : RegionState X → List Pointer → List (Replacement X) → RegionState X
   without_all state words [] = state
   without_all state words (r ∷ rs) = without_at (without_all state words rs)
       (place_of words r.object)
 
-  -- the words, with the locations of the new lists in the words of these objects
+  -- the words with the locations of the new lists in the words of the listed objects
   abbrev pub moved_all : RegionState X → List Pointer → List (Replacement X) → List Pointer
   moved_all state words [] = words
   moved_all state words (r ∷ rs) = with_place (moved_all (with_new state r.list.items) words rs)
       r.object (spot state (length r.list.items))
 
-  -- each of these objects, which are local, has its new list; all new lists were placed before an old one was dropped
+  -- each listed object, which is local, has its new list; all new lists were placed before an old list was dropped
   abbrev pub replaced_all : Memory X → List (Replacement X) → Memory X
   replaced_all memory lists = record {
     words = moved_all memory.state memory.words lists;
@@ -79,8 +79,9 @@ module _ {X : Type 0} where
         state = without_at memory.state (place_of memory.words o);
       }
 
-  -- the list of each object that is clean and not listed is what its ticket means
-  abbrev pub AreCleanElsewhere : {K : Type 0} → (List ℕ → List X) → (K → List ℕ) → Movement X K
-      → List (Replacement X) → Type 0
-  AreCleanElsewhere meaning content m lists = (o : ℕ) → IsUnlisted lists o → dirty m o ≡ false
+  -- the list of each clean object that is not listed is the list that its ticket's content encodes
+  abbrev pub AreCleanElsewhere : {K : Type 0} → (List ℕ → List X) → (K → List ℕ)
+      → Movement X K → List (Replacement X) → Type 0
+  AreCleanElsewhere meaning content m lists = (o : ℕ)
+      → IsUnlisted lists o → dirty m o ≡ false
       → list_of meaning content m o ≡ option_map (meant meaning content) (ticket_of m o)

@@ -21,7 +21,7 @@ use far_types::Refusal;
 use std::alloc::Global;
 use std::marker::Model;
 
-/// The pointer words of objects, and the region with the lists of the local ones.
+/// The pointer word of each object, and the region that holds the lists of local objects.
 #[derive(Drop)]
 pub(crate) struct LocalMemory<T> {
     words: Vec<Word>,
@@ -43,7 +43,7 @@ impl<T> Model for LocalMemory<T> {
 }
 
 impl<T: Elem> LocalMemory<T> {
-    /// Makes memory without objects. Allocates all memory for elements.
+    /// Creates a local memory without objects, and allocates all memory for elements.
     pub fn new(alloc: Global, segments: u32, size: u32) -> Result<LocalMemory<T>, Refusal>
         requires { segments ≤ 65536 }
         ensures empty { IfOk result (λ m. m
@@ -69,7 +69,7 @@ impl<T: Elem> LocalMemory<T> {
         word
     }
 
-    /// For the proof: shows that each local object owns one part of the region, and that there is no other part.
+    /// Does nothing at run time. Tells the prover that each local object owns one part of the region, and that no other part exists.
     #[inline(always)]
     pub fn each_owns_its_part(&self)
         ensures { IsMemory self.now.words self.now.state }
@@ -84,7 +84,7 @@ impl<T: Elem> LocalMemory<T> {
         self.cool
     }
 
-    /// Borrows the list of an object that is local, which has `len` elements.
+    /// Borrows the list of a local object. The list has `len` elements.
     pub fn lend(&self, o: usize, len: usize) -> &[T]
         requires local { IsSome (place_of self.now.words o) }
         requires long { IfSome (list_in self.now o) (λ list. length list ≡ len) }
@@ -93,7 +93,7 @@ impl<T: Elem> LocalMemory<T> {
         self.region.part_long(at_of(self.words[o]), len)
     }
 
-    /// Adds an object with this list: dirty and hot. A refused call changes nothing.
+    /// Adds a local object with this list. The object is dirty and hot. A refused call changes nothing.
     pub fn add(&mut self, items: &[T]) -> Result<(), Refusal>
         requires some { 0 < length items.now }
         ensures ok { OnOk result (self.new ≡ with_object self.old items.now) }
@@ -102,7 +102,8 @@ impl<T: Elem> LocalMemory<T> {
         ensures undone { OnOk result (after_remove_last self.new ≡ self.old) }
         ensures full { IsErrOf result Refusal.RegionFull
             ↔ (fits_in self.old.state (length items.now) ≡ false) }
-        ensures refused { IfErr result (λ e. (e ≡ Refusal.RegionFull) ⊎ (e ≡ Refusal.NoMemory)) }
+        ensures refused { IfErr result
+            (λ e. (e ≡ Refusal.RegionFull) ⊎ (e ≡ Refusal.NoMemory)) }
         ensures err { OnErr result (self.new ≡ self.old) }
     {
         if !self.region.fits(items.len()) {
@@ -114,7 +115,7 @@ impl<T: Elem> LocalMemory<T> {
         Ok(())
     }
 
-    /// Sends object `o` away, and drops its part.
+    /// Evicts object `o`, which is local: makes its word remote and drops its part.
     pub fn send_away(&mut self, o: usize)
         requires { IsSome (place_of self.old.words o) }
         ensures away { self.new ≡ after_send_away self.old o }
@@ -141,7 +142,7 @@ impl<T: Elem> LocalMemory<T> {
         self.region.drop_at(at_of(word));
     }
 
-    /// Makes object `o`, which is away, local with this list: clean and hot. A refused call changes nothing.
+    /// Makes object `o`, which is away, local with this list. The object is clean and hot. A refused call changes nothing.
     pub fn bring(&mut self, o: usize, items: &[T]) -> Result<(), Refusal>
         requires some { 0 < length items.now }
         requires away { slice_get self.old.words o ≡ Some Pointer.Remote }
@@ -150,7 +151,8 @@ impl<T: Elem> LocalMemory<T> {
             (ChangesList (list_in self.old) (list_in self.new) o (Some items.now)) }
         ensures full { IsErrOf result Refusal.RegionFull
             ↔ (fits_in self.old.state (length items.now) ≡ false) }
-        ensures refused { IfErr result (λ e. (e ≡ Refusal.RegionFull) ⊎ (e ≡ Refusal.NoMemory)) }
+        ensures refused { IfErr result
+            (λ e. (e ≡ Refusal.RegionFull) ⊎ (e ≡ Refusal.NoMemory)) }
         ensures err { OnErr result (self.new ≡ self.old) }
     {
         let at = self.region.place(items)?;
@@ -169,7 +171,8 @@ impl<T: Elem> LocalMemory<T> {
             (ChangesList (list_in self.old) (list_in self.new) o (Some items.now)) }
         ensures full { IsErrOf result Refusal.RegionFull
             ↔ (fits_in self.old.state (length items.now) ≡ false) }
-        ensures refused { IfErr result (λ e. (e ≡ Refusal.RegionFull) ⊎ (e ≡ Refusal.NoMemory)) }
+        ensures refused { IfErr result
+            (λ e. (e ≡ Refusal.RegionFull) ⊎ (e ≡ Refusal.NoMemory)) }
         ensures err { OnErr result (self.new ≡ self.old) }
     {
         let word = self.words[o];
@@ -246,7 +249,7 @@ fn at_of(word: Word) -> At
     at
 }
 
-// Returns whether a word is dirty and hot, as the word of an object that is written repeatedly is.
+// Returns whether a word is already dirty and hot, so that `mark` has nothing to do. This is usual for repeated writes.
 fn is_marked(word: Word) -> bool
     ensures { IsTrue result → with_hot (with_dirty word) true ≡ word }
 {
@@ -265,7 +268,7 @@ fn cool_of(word: Word) -> usize
     }
 }
 
-// Returns the word of a local object that is hot: dirty and without a far copy, or clean and with one.
+// Returns the word of a local, hot object: dirty without a far copy, or clean with one.
 fn local_word(at: At, dirty: bool) -> Word
     ensures { result ≡ Pointer.Local at dirty true (not dirty) }
 {

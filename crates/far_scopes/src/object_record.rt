@@ -1,4 +1,4 @@
-// Object records: what is known of an object besides its word and its list.
+// Object records: the data of an object besides its pointer word and its list.
 ghost use Rattle.std.specs.Prelude.{◌≡◌};
 ghost use Rattle.far_scopes.specs.Renewal.{renewed_record};
 
@@ -13,16 +13,16 @@ pub struct ObjectRecord<K> {
     pub(crate) len: usize,
     /// How often it was written.
     pub(crate) version: u64,
-    /// How often it went away.
+    /// How often it was evicted.
     pub(crate) leavings: u64,
     /// How often it is pinned.
     pub(crate) pins: u16,
-    /// Its newest far copy. If the object was written since, this copy is out of date.
+    /// The ticket of its newest far copy. If the object was written since, this copy is out of date.
     pub(crate) ticket: Option<K>,
 }
 
 impl<K: Drop> ObjectRecord<K> {
-    // Returns the record with a ticket of another store, or with none.
+    // Returns the record with this ticket of another store, or without a ticket.
     pub(crate) fn renewed<L>(self, ticket: Option<L>) -> ObjectRecord<L>
         ensures { result ≡ renewed_record self ticket }
     {

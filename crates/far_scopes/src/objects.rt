@@ -29,7 +29,7 @@ use far_types::Refusal;
 use std::alloc::Global;
 use std::marker::Model;
 
-/// Objects, each a list of elements, that move between local memory and the far store of `S`.
+/// Objects, each a list of elements, that move between local memory and a far store of type `S`.
 #[derive(Drop)]
 pub struct Objects<T: Elem, S: FarTickets> {
     number: u32,
@@ -69,8 +69,7 @@ impl<T: Elem, S: FarTickets> Model for Objects<T, S> {
 }
 
 impl<T: Elem, S: FarTickets> Objects<T, S> {
-    /// Makes an empty collection of objects. It keeps the frame's number, which distinguishes the jobs of one frame from those of
-    /// another.
+    /// Creates an empty collection of objects. It stores the frame's number, which distinguishes the jobs of different frames.
     ///
     /// Allocates all memory for elements. Refused only with `NoMemory` (1).
     pub fn new(alloc: Global, number: u32, limits: ObjectLimits) -> Result<Objects<T, S>, Refusal>
@@ -88,10 +87,10 @@ impl<T: Elem, S: FarTickets> Objects<T, S> {
         })
     }
 
-    /// Returns the number that was given to `new`. Allocates nothing.
+    /// Returns the frame's number, which was passed to `new`. Allocates nothing.
     ///
-    /// For the proof: shows what is true of all objects (`tracked`), that each local object owns one part of the region, and that there
-    /// is no other part (`own`).
+    /// For the proof, it shows the invariant of all objects (`tracked`). It also shows that each local object owns one part of the
+    /// region, and that there is no other part (`own`).
     pub fn number(&self) -> u32
         ensures number { result ≡ self.now.number }
         ensures tracked { AreTracked T.meaning S.content
@@ -119,7 +118,7 @@ impl<T: Elem, S: FarTickets> Objects<T, S> {
         self.records[o as usize].version
     }
 
-    /// Returns how often an object went away. Allocates nothing.
+    /// Returns how often an object was evicted. Allocates nothing.
     pub fn leavings(&self, o: u32) -> u64
         requires { o < length self.now.records }
         ensures { result ≡ leavings_of self.now o }

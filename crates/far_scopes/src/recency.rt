@@ -8,7 +8,7 @@ use lru::{Iter, LruCache};
 use std::alloc::Global;
 use std::marker::Model;
 
-/// An order of use, kept by an LRU cache that never evicts. Contracts see the object numbers, the most recently used first.
+/// An order of use, stored in an LRU cache that never evicts. In contracts it is the list of object numbers, the most recent first.
 #[derive(Drop)]
 pub(crate) struct Recency {
     cache: LruCache<u32, ()>,
@@ -26,7 +26,7 @@ impl Model for Recency {
 }
 
 impl Recency {
-    /// Makes an order of use without objects.
+    /// Creates an empty order of use.
     pub fn new(alloc: Global) -> Result<Recency, Refusal>
         ensures empty { IfOk result (λ r. r ≡ []) }
         ensures memory { IfErr result (λ e. e ≡ Refusal.NoMemory) }
@@ -43,7 +43,7 @@ impl Recency {
         self.cache.len()
     }
 
-    /// Adds an object that is not in the order, as the first.
+    /// Adds an object, which is not in the order, as the most recently used.
     pub fn add(&mut self, o: u32) -> Result<(), Refusal>
         requires { has self.old o ≡ false }
         ensures ok { OnOk result (self.new ≡ o ∷ self.old) }
@@ -63,7 +63,7 @@ impl Recency {
         self.cache.pop(&o);
     }
 
-    /// Moves an object that is in the order to the beginning. Allocates nothing. It is inlined, since mostly nothing moves.
+    /// Moves an object that is in the order to the beginning. Allocates nothing. It is inlined, since usually nothing moves.
     #[inline(always)]
     pub fn touch(&mut self, o: u32)
         ensures { self.new ≡ after_use self.old o }
@@ -73,8 +73,8 @@ impl Recency {
         }
     }
 
-    // Moves an object that is anywhere in the order to the beginning. It is not inlined, so that a call of `touch` saves no registers for
-    // it.
+    // Moves an object from any position in the order to the beginning. It is not inlined, so that callers of `touch` save no registers
+    // for it.
     #[inline(never)]
     fn promote(&mut self, o: u32)
         ensures { self.new ≡ after_use self.old o }
@@ -82,8 +82,8 @@ impl Recency {
         self.cache.promote(&o);
     }
 
-    // Returns whether an object is the most recently used. Another use of it then leaves the order as it is. This is so for most objects
-    // that are used again.
+    // Returns whether an object is the most recently used. If it is, another use of it does not change the order. This is the usual
+    // case when an object is used again.
     fn is_first(&self, o: u32) -> bool
         ensures { IsTrue result → after_use self.now o ≡ self.now }
     {

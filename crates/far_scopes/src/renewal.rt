@@ -3,14 +3,14 @@ use super::object_record::ObjectRecord;
 use far_store::FarTickets;
 use std::marker::Model;
 
-/// The far copies that `Objects::renewal` put into another store. Contracts see, by object number, the ticket of each
-/// object that was away, and `None` for each that was local.
+/// The far copies that `Objects::renewal` put into another store. In contracts it is a list indexed by object number: the ticket of an
+/// object that was away, and `None` for a local object.
 ///
-/// It has the space for the objects' records too, so `Objects::renew` allocates nothing.
+/// It also has the memory for the objects' records, so `Objects::renew` allocates nothing.
 #[derive(Drop)]
 pub struct Renewal<N: FarTickets> {
     pub(crate) tickets: Vec<Option<N::Ticket>>,
-    /// The space: no record, and capacity for one record for each ticket.
+    /// No record yet, but capacity for one record for each ticket.
     pub(crate) records: Vec<ObjectRecord<N::Ticket>>,
 }
 

@@ -1,4 +1,4 @@
-// A new list for an object.
+// New lists for objects.
 
 /// A new list for an object. `Objects::replace_all` takes several.
 #[derive(Drop)]

@@ -1,10 +1,10 @@
 // Scopes: objects that are pinned together.
 use std::marker::Model;
 
-/// The pins that one `enter` took, one for each listing of an object. Contracts see the object numbers in the order
-/// in which they were listed.
+/// The pins that one call of `Objects::enter` added, one for each listing of an object. In contracts it is the list of object numbers,
+/// in the order in which they were listed.
 ///
-/// A scope must be spent by `Objects::close`: dropping one does not compile.
+/// `Objects::close` must consume each scope: code that drops a scope does not compile.
 pub struct Scope {
     pub(crate) objects: Vec<u32>,
 }

@@ -14,7 +14,7 @@ use far_pointer::{At, Pointer, Word};
 use far_types::Refusal;
 use std::alloc::Global;
 
-/// An object with its part in the segment that is compacted.
+/// An object whose part is in the segment that is compacted.
 #[derive(Clone, Copy, Drop)]
 pub(crate) struct SegmentObject {
     /// The number of the object.
@@ -24,16 +24,18 @@ pub(crate) struct SegmentObject {
 }
 
 impl<T: Elem> LocalMemory<T> {
-    /// Moves the parts of a segment into the lowest other segment without parts, hot objects' parts first. Clears the hot bit of each
-    /// object moved. A refused call changes nothing.
+    /// Moves the parts of a segment into the lowest other segment that has no parts, with the parts of hot objects first. Clears the
+    /// hot bit of each moved object. A refused call changes nothing.
     pub fn compact(&mut self, alloc: Global, segment: u32) -> Result<(), Refusal>
         ensures ok { OnOk result (IsCompacted self.old self.new segment) }
         ensures lists { (p : ℕ) → list_in self.new p ≡ list_in self.old p }
-        ensures missing { IsErrOf result Refusal.OutOfRange ↔ (length self.old.state ≤ segment) }
+        ensures missing { IsErrOf result Refusal.OutOfRange
+            ↔ (length self.old.state ≤ segment) }
         ensures full { IsErrOf result Refusal.RegionFull
             ↔ ((segment < length self.old.state) × HasNoEmptyOther self.old.state segment) }
         ensures refused { IfErr result
-            (λ e. (e ≡ Refusal.OutOfRange) ⊎ ((e ≡ Refusal.RegionFull) ⊎ (e ≡ Refusal.NoMemory))) }
+            (λ e. (e ≡ Refusal.OutOfRange)
+            ⊎ ((e ≡ Refusal.RegionFull) ⊎ (e ≡ Refusal.NoMemory))) }
         ensures err { OnErr result (self.new ≡ self.old) }
     {
         self.region.may_compact(segment)?;
@@ -45,7 +47,7 @@ impl<T: Elem> LocalMemory<T> {
     }
 }
 
-// Returns the objects with parts in a segment: the hot ones, then the others, each by ascending offset.
+// Returns the objects with parts in a segment: first the hot objects, then the others, each group by ascending offset.
 fn hot_first(alloc: Global, words: &[Word], segment: u32) -> Result<Vec<SegmentObject>, Refusal>
     ensures found { IfOk result (λ found. AreHotFirst words.now segment found.items) }
     ensures memory { IfErr result (λ e. e ≡ Refusal.NoMemory) }
@@ -55,7 +57,7 @@ fn hot_first(alloc: Global, words: &[Word], segment: u32) -> Result<Vec<SegmentO
     Ok(found)
 }
 
-// Returns the objects with parts in a segment and with this hot bit, by ascending offset.
+// Returns the objects whose part is in a segment and whose hot bit is `hot`, by ascending offset.
 fn sorted(
     alloc: Global,
     words: &[Word],
@@ -70,7 +72,7 @@ fn sorted(
     Ok(found)
 }
 
-// Returns the objects with parts in a segment and with this hot bit, by ascending number.
+// Returns the objects whose part is in a segment and whose hot bit is `hot`, by ascending number.
 fn objects_in(
     alloc: Global,
     words: &[Word],
@@ -90,7 +92,7 @@ fn objects_in(
     Ok(found)
 }
 
-// Returns the offset of an object's part, if it is in this segment and the object has this hot bit.
+// Returns the offset of an object's part, if the part is in this segment and the object's hot bit is `hot`.
 fn offset_if(word: Word, segment: u32, hot: bool) -> Option<u32>
     ensures { result ≡ offset_if segment hot word }
 {
@@ -115,7 +117,7 @@ fn offsets_of(alloc: Global, objects: &[SegmentObject]) -> Result<Vec<u32>, Refu
     Ok(offsets)
 }
 
-// Updates the words of objects after their parts moved: sets the new locations and clears the hot bits. Returns how many were hot.
+// Updates the words of objects after their parts moved: sets the new locations and clears the hot bits. Returns how many objects were hot.
 fn settle(words: &mut [Word], objects: &[SegmentObject], moved: &Moved) -> usize
     requires within { All (λ found. found.object < length words.old) objects.now }
     requires once { AllPairs (λ o p. o ≢ p) (map (λ found. found.object) objects.now) }

@@ -24,7 +24,7 @@ impl<T: Elem> LocalMemory<T> {
         region.part_long_mut(at, len)
     }
 
-    /// Mutably borrows the elements `from` to `to` of object `o`, which is local.
+    /// Mutably borrows the elements `from..to` of object `o`, which is local.
     pub fn lend_range_mut(&mut self, o: usize, from: usize, to: usize) -> &mut [T]
         requires ordered { from ≤ to }
         requires within { IsSomeAnd (list_in self.old o) (λ list. to ≤ length list) }

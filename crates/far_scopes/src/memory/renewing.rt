@@ -1,4 +1,4 @@
-// The words of objects after their far copies moved to another store.
+// Updates the words of objects whose far copies moved to another store.
 ghost use Rattle.std.specs.Prelude.{◌≡◌, ℕ, IsSome};
 ghost use Rattle.far_scopes.specs.Memory.{place_of, list_in};
 ghost use Rattle.far_scopes.specs.Renewal.{renewed_word, renewed_memory};
@@ -8,7 +8,7 @@ use far_codec::Elem;
 use far_pointer::{Pointer, Word};
 
 impl<T: Elem> LocalMemory<T> {
-    /// Clears the far-copy bit of each local object, which makes each dirty.
+    /// Marks each local object as dirty and without a far copy.
     pub fn forget_copies(&mut self)
         ensures renewed { self.new ≡ renewed_memory self.old }
         ensures lists { (p : ℕ) → list_in self.new p ≡ list_in self.old p }
@@ -21,7 +21,7 @@ impl<T: Elem> LocalMemory<T> {
     }
 }
 
-// Returns the word of the same object, without a far copy if it is local.
+// Returns the word of a local object as dirty and without a far copy. Returns the word of an object that is away unchanged.
 fn without_copy(word: Word) -> Word
     ensures { result ≡ renewed_word word }
 {

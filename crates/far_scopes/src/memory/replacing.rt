@@ -12,10 +12,10 @@ use far_codec::Elem;
 use far_types::Refusal;
 
 impl<T: Elem> LocalMemory<T> {
-    /// Replaces the lists of the listed objects, which are local: places all new lists, in order, before it drops an
-    /// old one. If they fit, it returns `checked`. A refused call changes nothing.
+    /// Replaces the lists of the listed objects, which are local. It places all new lists, in order, before it drops an old one. If
+    /// all new lists are placed, the result is `checked`. A refused call changes nothing.
     ///
-    /// While it places them, each new list is the list of an extra object at the end.
+    /// Until the old lists are dropped, each new list is the list of an extra object at the end.
     pub fn replace_all(
         &mut self,
         lists: &[Replacement<T>],
@@ -49,8 +49,7 @@ impl<T: Elem> LocalMemory<T> {
         Ok(())
     }
 
-    // Moves the part of the last object to object `o`, which is local. Drops the old part of `o`, and removes the
-    // last object.
+    // Transfers the part of the last object to object `o`, which is local. Drops the old part of `o`, and removes the last object.
     fn take_over(&mut self, o: usize)
         requires other { o < length self.old.words - 1 }
         requires local { IsSome (place_of self.old.words o) }

@@ -9,11 +9,11 @@ use far_codec::Elem;
 use far_store::FarTickets;
 
 impl<T: Elem, S: FarTickets> Objects<T, S> {
-    /// Returns the eviction victim: the least recently used object that is neither pinned nor hot. If there is none, it is the least
-    /// recently used of all without pins. Returns `None` exactly if every local object has a pin.
+    /// Returns the eviction victim: the least recently used object that is neither pinned nor hot. If there is none, the victim is the
+    /// least recently used object without pins. Returns `None` exactly if every local object has a pin.
     ///
-    /// Allocates nothing. It walks the order of use from its end. If every local object is hot, it stops at the first object without pins.
-    /// Else it stops at the first that is neither pinned nor hot, or at the order's beginning if there is none.
+    /// Allocates nothing. Walks the order of use, the least recently used object first. If every local object is hot, it stops at the
+    /// first object without pins. Otherwise it stops at the first object that is neither pinned nor hot, or else walks the whole order.
     pub fn coldest(&self) -> Option<u32>
         ensures coldest { result ≡ coldest self.now }
         ensures local { IfSome result (λ o. is_local self.now o ≡ true) }
@@ -40,7 +40,7 @@ impl<T: Elem, S: FarTickets> Objects<T, S> {
         None
     }
 
-    // Returns the least recently used object that is neither pinned nor hot. If there is none, the least recently used of all without pins.
+    // Returns the least recently used object that is neither pinned nor hot, or else the least recently used object without pins.
     fn first_cold(&self) -> Option<u32>
         ensures { result ≡ coldest self.now }
     {

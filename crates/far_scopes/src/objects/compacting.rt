@@ -11,11 +11,10 @@ use far_types::Refusal;
 use std::alloc::Global;
 
 impl<T: Elem, S: FarTickets> Objects<T, S> {
-    /// Compacts a segment: moves its parts into the lowest other segment without parts, without gaps. Parts of hot objects come
-    /// first, then the others, each in the order of their old offsets.
+    /// Compacts a segment: moves its parts, without gaps, into the lowest other segment that has no parts. Places the parts of hot
+    /// objects first, then the other parts, each group in the order of the old offsets.
     ///
-    /// It clears the hot bits of these objects. It changes no list, and neither which objects are local, dirty or away, nor the
-    /// order of use.
+    /// Clears the hot bits of the moved objects. Lists, the order of use, and which objects are local, dirty or away do not change.
     ///
     /// A refused call changes nothing. Refused with:
     /// - `OutOfRange` (14) exactly if there is no such segment;
@@ -28,14 +27,16 @@ impl<T: Elem, S: FarTickets> Objects<T, S> {
             → list_of T.meaning S.content self.new p ≡ list_of T.meaning S.content self.old p }
         ensures clean { AreClean T.meaning S.content self.old
             → AreClean T.meaning S.content self.new }
-        ensures store { (id : List ℕ) → AreHere S.is_of id self.old → AreHere S.is_of id self.new }
+        ensures store { (id : List ℕ) → AreHere S.is_of id self.old
+            → AreHere S.is_of id self.new }
         ensures missing { IsErrOf result Refusal.OutOfRange
             ↔ (length self.old.memory.state ≤ segment) }
         ensures full { IsErrOf result Refusal.RegionFull
             ↔ ((segment < length self.old.memory.state)
             × HasNoEmptyOther self.old.memory.state segment) }
         ensures refused { IfErr result
-            (λ e. (e ≡ Refusal.OutOfRange) ⊎ ((e ≡ Refusal.RegionFull) ⊎ (e ≡ Refusal.NoMemory))) }
+            (λ e. (e ≡ Refusal.OutOfRange)
+            ⊎ ((e ≡ Refusal.RegionFull) ⊎ (e ≡ Refusal.NoMemory))) }
         ensures err { OnErr result (self.new ≡ self.old) }
     {
         self.memory.compact(alloc, segment)?;

@@ -11,12 +11,11 @@ use far_store::FarTickets;
 use far_types::{Name, Refusal};
 
 impl<T: Elem, S: FarTickets> Objects<T, S> {
-    /// Makes an object of this list. Returns its number, which is the next.
+    /// Creates an object with this list. Returns its number, which is the count of objects before the call.
     ///
-    /// - The object is local, dirty, hot and the most recently used, and was never written, away or
-    ///   pinned.
+    /// - The object is local, dirty, hot and the most recently used. Its counts of writes, evictions and pins are 0.
     /// - `uncreate` undoes the call (`undone`).
-    /// - Lists of further lengths that fitted in order after this one still fit (`next`).
+    /// - Further lists fit in order exactly if this list, followed by them, fitted before the call (`next`).
     ///
     /// A refused call changes nothing. Refused with:
     /// - `RegionFull` (17) exactly if no segment has the space;
@@ -37,10 +36,12 @@ impl<T: Elem, S: FarTickets> Objects<T, S> {
         ensures clean { AreClean T.meaning S.content self.old
             → AreClean T.meaning S.content self.new }
         ensures others { OnOk result (ChangesObject self.old self.new (length self.old.records)) }
-        ensures store { (id : List ℕ) → AreHere S.is_of id self.old → AreHere S.is_of id self.new }
+        ensures store { (id : List ℕ) → AreHere S.is_of id self.old
+            → AreHere S.is_of id self.new }
         ensures full { IsErrOf result Refusal.RegionFull
             ↔ (fits_in self.old.memory.state (length items.now) ≡ false) }
-        ensures refused { IfErr result (λ e. (e ≡ Refusal.RegionFull) ⊎ (e ≡ Refusal.NoMemory)) }
+        ensures refused { IfErr result
+            (λ e. (e ≡ Refusal.RegionFull) ⊎ (e ≡ Refusal.NoMemory)) }
         ensures err { OnErr result (self.new ≡ self.old) }
     {
         if !self.memory.fits(items.len()) {
@@ -74,7 +75,8 @@ impl<T: Elem, S: FarTickets> Objects<T, S> {
         ensures clean { AreClean T.meaning S.content self.old
             → AreClean T.meaning S.content self.new }
         ensures others { ChangesObject self.old self.new (length self.old.records - 1) }
-        ensures store { (id : List ℕ) → AreHere S.is_of id self.old → AreHere S.is_of id self.new }
+        ensures store { (id : List ℕ) → AreHere S.is_of id self.old
+            → AreHere S.is_of id self.new }
     {
         self.memory.remove_last();
         self.records.pop();

@@ -1,4 +1,4 @@
-// Borrows of lists in place.
+// Borrows lists in place.
 ghost use Rattle.std.specs.Prelude.{◌≡◌, ℕ, ◌-◌, ◌<◌, ◌≤◌, ◌++◌, List, length, take, drop, slice_range, true, Some, None, IfOk, IsSomeAnd};
 ghost use Rattle.std.specs.Borrow.{sem};
 ghost use Rattle.far_scopes.specs.Memory.{list_in, ChangesList};
@@ -27,7 +27,7 @@ impl<T: Elem, S: FarTickets> Objects<T, S> {
         Ok(self.memory.lend(o as usize, self.records[o as usize].len))
     }
 
-    /// Checks that an object is local. Reads only its pointer word, and allocates nothing.
+    /// Checks that an object is local. If it is, only its pointer word is read. Allocates nothing.
     ///
     /// Refused with `Absent` (16) exactly if the object is away, as `lend` is.
     pub fn here(&self, o: u32) -> Result<(), Refusal>
@@ -58,8 +58,8 @@ impl<T: Elem, S: FarTickets> Objects<T, S> {
 
     /// Mutably borrows the list of an object that may be written, in place. Allocates nothing.
     ///
-    /// The object counts as written before it is borrowed: it is dirty, hot and the most recently used, and its version is one more.
-    /// The borrow changes this object's list, and no other list (`alone`).
+    /// The object counts as written before it is borrowed: it becomes dirty, hot and the most recently used, and its version increases
+    /// by one. The borrow changes only this object's list (`alone`).
     pub fn lend_mut(&mut self, o: u32) -> &mut [T]
         requires within { o < length self.old.records }
         requires free { write_refusal self.old o ≡ None }
@@ -84,7 +84,7 @@ impl<T: Elem, S: FarTickets> Objects<T, S> {
         memory.lend_mut(o as usize, len)
     }
 
-    /// Mutably borrows the elements `from` to `to` of an object that may be written, in place. Allocates nothing.
+    /// Mutably borrows the elements `from..to` of an object that may be written, in place. Allocates nothing.
     ///
     /// The object counts as written, as with `lend_mut`.
     pub fn lend_range_mut(&mut self, o: u32, from: usize, to: usize) -> &mut [T]
@@ -103,7 +103,8 @@ impl<T: Elem, S: FarTickets> Objects<T, S> {
             (Some (take from list ++ (range ++ drop to list)))) }
         ensures clean { (range : List T) → length range ≡ to - from
             → AreClean T.meaning S.content self.old
-            → AreClean T.meaning S.content (after_overwrite (after_write self.old o) o from range) }
+            → AreClean T.meaning S.content
+            (after_overwrite (after_write self.old o) o from range) }
         ensures others { (range : List T)
             → ChangesObject self.old (after_overwrite (after_write self.old o) o from range) o }
         ensures store { (range : List T) (id : List ℕ) → AreHere S.is_of id self.old
@@ -127,13 +128,13 @@ impl<T: Elem, S: FarTickets> Objects<T, S> {
         ensures clean { AreClean T.meaning S.content self.old
             → AreClean T.meaning S.content self.new }
     {
-        // The word comes last, so that the next borrow of the object finds it in cache.
+        // The word is written last, so that the next borrow of the object finds it in cache.
         self.order.touch(o);
         self.records[o as usize].version += 1;
         self.memory.mark(o as usize);
     }
 
-    /// Returns whether an object is local: its list is in local memory, and may be borrowed. Allocates nothing.
+    /// Returns whether an object is local: its list is in local memory and can be borrowed. Allocates nothing.
     pub fn is_local(&self, o: u32) -> bool
         requires { o < length self.now.records }
         ensures { result ≡ is_local self.now o }
@@ -152,7 +153,7 @@ impl<T: Elem, S: FarTickets> Objects<T, S> {
         !self.is_local(o)
     }
 
-    // Returns the refusal `Absent`, with this object's name.
+    // Returns the refusal `Absent` with this object's name.
     pub(super) fn absent(&self, o: u32) -> Refusal
         requires { o < length self.now.records }
         ensures { result ≡ (absent self.now o).1 }

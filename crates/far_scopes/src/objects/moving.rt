@@ -1,4 +1,4 @@
-// Objects that leave local memory and come back.
+// Evicts objects, and makes them local again.
 ghost use Rattle.std.specs.Prelude.{◌≡◌, ℕ, ◌<◌, ◌↔◌, ◌⊎◌, length, false, true, Some, None, OnOk, OnErr, IfErr, IfSome, IsSomeAnd, IsErrOf, List};
 ghost use Rattle.far_codec.specs.Spelling.{IsSpelled};
 ghost use Rattle.far_log.specs.RegionState.{fits_in};
@@ -13,8 +13,7 @@ use far_store::FarTickets;
 use far_types::Refusal;
 
 impl<T: Elem, S: FarTickets> Objects<T, S> {
-    /// Evicts an object whose list is encoded in this ticket's content. Drops its part and keeps its record. Allocates
-    /// nothing.
+    /// Evicts an object whose list is encoded in this ticket's content. Drops its part and keeps its record. Allocates nothing.
     pub fn leave(&mut self, store: &S, o: u32, ticket: &S::Ticket)
         requires here { S.is_of ticket.now (S.store_id store.now) }
         requires copied { IsSomeAnd (list_in self.old.memory o)
@@ -37,7 +36,7 @@ impl<T: Elem, S: FarTickets> Objects<T, S> {
         self.order.remove(o);
     }
 
-    /// Brings back an object that is away, with the list that its ticket means: the end of a fetch.
+    /// Makes an object that is away local again, with the list that its ticket's content encodes. This ends a fetch.
     ///
     /// A refused call changes nothing. Refused with:
     /// - `RegionFull` (17) exactly if no segment has the space;
@@ -52,10 +51,12 @@ impl<T: Elem, S: FarTickets> Objects<T, S> {
         ensures clean { AreClean T.meaning S.content self.old
             → AreClean T.meaning S.content self.new }
         ensures others { OnOk result (ChangesObject self.old self.new o) }
-        ensures store { (id : List ℕ) → AreHere S.is_of id self.old → AreHere S.is_of id self.new }
+        ensures store { (id : List ℕ) → AreHere S.is_of id self.old
+            → AreHere S.is_of id self.new }
         ensures full { IsErrOf result Refusal.RegionFull
             ↔ (fits_in self.old.memory.state (length items.now) ≡ false) }
-        ensures refused { IfErr result (λ e. (e ≡ Refusal.RegionFull) ⊎ (e ≡ Refusal.NoMemory)) }
+        ensures refused { IfErr result
+            (λ e. (e ≡ Refusal.RegionFull) ⊎ (e ≡ Refusal.NoMemory)) }
         ensures err { OnErr result (self.new ≡ self.old) }
     {
         if !self.memory.fits(items.len()) {

@@ -23,7 +23,8 @@ impl<T: Elem, S: FarTickets> Objects<T, S> {
         ensures clean { AreClean T.meaning S.content self.old
             → AreClean T.meaning S.content self.new }
         ensures others { OnOk result (ChangesObject self.old self.new o) }
-        ensures store { (id : List ℕ) → AreHere S.is_of id self.old → AreHere S.is_of id self.new }
+        ensures store { (id : List ℕ) → AreHere S.is_of id self.old
+            → AreHere S.is_of id self.new }
         ensures refused { refusal_in result ≡ pin_refusal self.old o }
         ensures err { OnErr result (self.new ≡ self.old) }
     {
@@ -49,7 +50,8 @@ impl<T: Elem, S: FarTickets> Objects<T, S> {
         ensures clean { AreClean T.meaning S.content self.old
             → AreClean T.meaning S.content self.new }
         ensures others { OnOk result (ChangesObject self.old self.new o) }
-        ensures store { (id : List ℕ) → AreHere S.is_of id self.old → AreHere S.is_of id self.new }
+        ensures store { (id : List ℕ) → AreHere S.is_of id self.old
+            → AreHere S.is_of id self.new }
         ensures refused { refusal_in result ≡ unpin_refusal self.old o }
         ensures err { OnErr result (self.new ≡ self.old) }
     {
@@ -61,7 +63,7 @@ impl<T: Elem, S: FarTickets> Objects<T, S> {
         Ok(())
     }
 
-    /// Marks an object as recently used, if it is local: hot and the most recently used. Allocates
+    /// Marks a local object as recently used: it becomes hot and the most recently used. Does nothing if the object is away. Allocates
     /// nothing.
     pub fn touch(&mut self, o: u32)
         requires { o < length self.old.records }
@@ -71,7 +73,8 @@ impl<T: Elem, S: FarTickets> Objects<T, S> {
         ensures clean { AreClean T.meaning S.content self.old
             → AreClean T.meaning S.content self.new }
         ensures others { ChangesObject self.old self.new o }
-        ensures store { (id : List ℕ) → AreHere S.is_of id self.old → AreHere S.is_of id self.new }
+        ensures store { (id : List ℕ) → AreHere S.is_of id self.old
+            → AreHere S.is_of id self.new }
     {
         self.memory.heat(o as usize);
         self.order.touch(o);

@@ -1,4 +1,4 @@
-// Readers of objects, and checks before they move.
+// Reads properties of objects and of local memory.
 ghost use Rattle.std.specs.Prelude.{◌≡◌, ℕ, ◌<◌, ◌≤◌, ◌↔◌, length, All, Some, IsTrue, true, option_map};
 ghost use Rattle.far_log.specs.RegionState.{fits_in, fit_in_order, spaces_of, space_of, capacity_of};
 ghost use Rattle.far_scopes.specs.Movement.{record_of, leavings_of, is_local};
@@ -9,15 +9,15 @@ use far_store::FarTickets;
 use far_types::Name;
 
 impl<T: Elem, S: FarTickets> Objects<T, S> {
-    /// Returns how many objects there are. Their numbers are those below. Allocates nothing.
+    /// Returns how many objects there are. The objects are numbered from 0 to one less than this. Allocates nothing.
     pub fn count(&self) -> u32
         ensures { result ≡ length self.now.records }
     {
         self.records.len() as u32
     }
 
-    /// Returns whether every object is local. Allocates nothing, and reads no object: it compares their count with the length of the
-    /// order of use.
+    /// Returns whether every object is local. Reads no object, since it compares the count of objects with the length of the order of
+    /// use. Allocates nothing.
     pub fn are_all_local(&self) -> bool
         ensures { IsTrue result
             ↔ ((o : ℕ) → o < length self.now.records → is_local self.now o ≡ true) }
@@ -27,7 +27,7 @@ impl<T: Elem, S: FarTickets> Objects<T, S> {
         local == all
     }
 
-    /// Returns the length of an object's list, local or away. Allocates nothing.
+    /// Returns how many elements an object's list has, whether the object is local or away. Allocates nothing.
     pub fn len(&self, o: u32) -> usize
         requires { o < length self.now.records }
         ensures { option_map (λ object_record. object_record.len) (record_of self.now o)
@@ -36,7 +36,7 @@ impl<T: Elem, S: FarTickets> Objects<T, S> {
         self.records[o as usize].len
     }
 
-    /// Returns the name of an object: the column and the row group that were given to `create`. Allocates nothing.
+    /// Returns the name of an object: the column and the row group that were passed to `create`. Allocates nothing.
     pub fn name(&self, o: u32) -> Name
         requires { o < length self.now.records }
         ensures { option_map (λ object_record. object_record.name) (record_of self.now o)
@@ -52,8 +52,8 @@ impl<T: Elem, S: FarTickets> Objects<T, S> {
         self.memory.fits(len)
     }
 
-    /// Returns whether at most 16 lists of these lengths, none of them empty, can be placed one after another. Each goes to the lowest
-    /// segment that has the space. Allocates nothing.
+    /// Returns whether lists of these lengths can be placed one after another, each in the lowest segment that has the space. There are
+    /// at most 16 lengths, and none is 0. Allocates nothing.
     pub fn fits_in_order(&self, lens: &[usize]) -> bool
         requires few { length lens.now ≤ 16 }
         requires some { All (λ len. 0 < len) lens.now }
@@ -64,7 +64,7 @@ impl<T: Elem, S: FarTickets> Objects<T, S> {
 
     /// Returns the total space of the segments, in elements. Allocates nothing.
     ///
-    /// A list needs its space in one segment. So a list may not fit although it is no longer than this.
+    /// A list needs all its space in one segment. So a list may not fit although it is no longer than the total space.
     pub fn space(&self) -> usize
         ensures { result ≡ space_of self.now.memory.state }
     {
@@ -78,7 +78,7 @@ impl<T: Elem, S: FarTickets> Objects<T, S> {
         self.memory.capacity()
     }
 
-    /// Returns whether an object may go away again: each may do so as often as the limits given to `new` allow. Allocates nothing.
+    /// Returns whether the limits passed to `new` allow an object to be evicted once more. Allocates nothing.
     pub fn may_leave(&self, o: u32) -> bool
         requires { o < length self.now.records }
         ensures { IsTrue result ↔ (leavings_of self.now o < self.now.leavings) }

@@ -12,10 +12,10 @@ use far_types::Refusal;
 use std::alloc::Global;
 
 impl<T: Elem, S: FarRead> Objects<T, S> {
-    /// Puts the content of each object that is away into another store, by ascending object number. Allocates all memory that `renew`
-    /// needs. It does not change the objects.
+    /// Copies the content of each object that is away into another store, by ascending object number. Allocates all memory that `renew`
+    /// needs. Does not change the objects.
     ///
-    /// It stops at the first refusal. The new store keeps what was put before. Refused with:
+    /// Stops at the first refusal. The new store keeps the contents that were copied before. Refused with:
     /// - `FarFault` (21) if one of the stores fails;
     /// - `FarFull` (22) if the new store gives out no more numbers;
     /// - `NoMemory` (1).
@@ -56,12 +56,11 @@ impl<T: Elem, S: FarRead> Objects<T, S> {
 }
 
 impl<T: Elem, S: FarTickets> Objects<T, S> {
-    /// Returns the same objects, whose far copies are from now on those of the renewal. Allocates nothing.
+    /// Returns the same objects, with the far copies of the renewal. Allocates nothing.
     ///
     /// - Objects that are away have the renewal's tickets.
     /// - Local objects are dirty, since the new store has no copy of them.
-    /// - All else is unchanged: every list, which objects are local, hot or pinned, versions, leavings, the order of use and the
-    ///   region.
+    /// - Nothing else changes: lists; which objects are local, hot or pinned; versions; leavings; the order of use; the region.
     pub fn renew<N: FarTickets>(self, renewal: Renewal<N>) -> Objects<T, N>
         requires { Renews S.content N.content self renewal }
         ensures renewed { result ≡ after_renew self renewal }
@@ -90,7 +89,7 @@ impl<T: Elem, S: FarTickets> Objects<T, S> {
         }
     }
 
-    // Returns the ticket of an object that is away; none for a local one.
+    // Returns the ticket of an object that is away, and `None` for a local object.
     fn away_ticket(&self, o: u32) -> Option<&S::Ticket>
         requires { o < length self.now.records }
         ensures { option_map (λ ticket. ticket.now) result
@@ -104,7 +103,7 @@ impl<T: Elem, S: FarTickets> Objects<T, S> {
     }
 }
 
-// Puts the content of a ticket into another store. Reuses the buffer's memory.
+// Copies a ticket's content into another store. Reuses the buffer's memory.
 fn put_again<S: FarRead, N: FarStore>(
     alloc: Global,
     store: &S,

@@ -15,8 +15,8 @@ use far_store::FarTickets;
 use far_types::Refusal;
 
 impl<T: Elem, S: FarTickets> Objects<T, S> {
-    /// Replaces the list of an object: places the new part before it drops the old one. The object counts as written: it is dirty, hot and
-    /// the most recently used, and its version is one more. Its ticket stays.
+    /// Replaces the list of an object: places the new part before it drops the old one. The object counts as written: it becomes dirty,
+    /// hot and the most recently used, and its version increases by one. It keeps its ticket.
     ///
     /// A refused call changes nothing. Refused with:
     /// - `Absent` (16) exactly if the object is away;
@@ -32,11 +32,13 @@ impl<T: Elem, S: FarTickets> Objects<T, S> {
         ensures clean { AreClean T.meaning S.content self.old
             → AreClean T.meaning S.content self.new }
         ensures others { OnOk result (ChangesObject self.old self.new o) }
-        ensures store { (id : List ℕ) → AreHere S.is_of id self.old → AreHere S.is_of id self.new }
+        ensures store { (id : List ℕ) → AreHere S.is_of id self.old
+            → AreHere S.is_of id self.new }
         ensures free { OnOk result (replace_refusal self.old o (length items.now) ≡ None) }
         ensures refused { IfErr result (λ e. (replace_refusal self.old o (length items.now)
             ≡ Some e)
-            ⊎ ((replace_refusal self.old o (length items.now) ≡ None) × (e ≡ Refusal.NoMemory))) }
+            ⊎ ((replace_refusal self.old o (length items.now) ≡ None)
+            × (e ≡ Refusal.NoMemory))) }
         ensures err { OnErr result (self.new ≡ self.old) }
     {
         self.may_write_if_placed(o, items.len())?;
@@ -46,7 +48,7 @@ impl<T: Elem, S: FarTickets> Objects<T, S> {
         Ok(())
     }
 
-    // Like `may_replace`, but does not look for space if the object may be written: `place` will do it.
+    // Like `may_replace`, but does not look for space if the object may be written, since `place` does so later.
     fn may_write_if_placed(&self, o: u32, len: usize) -> Result<(), Refusal>
         requires { o < length self.now.records }
         ensures free { OnOk result (write_refusal self.now o ≡ None) }
@@ -85,12 +87,12 @@ impl<T: Elem, S: FarTickets> Objects<T, S> {
 
     /// Replaces the lists of several objects, all or none: places all new parts, in the given order, before it drops an old one.
     ///
-    /// The objects count as written in that order: each is dirty and hot, and its version is one more. The last listed is then the most
-    /// recently used. Their tickets stay.
+    /// The objects count as written in that order: each becomes dirty and hot, and its version increases by one. The last listed object
+    /// is then the most recently used. The objects keep their tickets.
     ///
     /// A refused call changes nothing. Refused with:
     /// - `Absent` (16), which names the first such object, exactly if a listed object is away;
-    /// - else `RegionFull` (17) if the new parts, placed one after another, do not fit while all old ones are still there;
+    /// - else `RegionFull` (17) if the new parts, placed one after another, do not fit while all old parts are still in the region;
     /// - else `EditsUsedUp` (24) if some listed object was written as often as the limits allow;
     /// - `NoMemory` (1) if an allocation failed. This may happen before the call finds that 17 or 24 applies, but only if the first new
     ///   part has space.
@@ -104,7 +106,8 @@ impl<T: Elem, S: FarTickets> Objects<T, S> {
         ensures count { length self.new.records ≡ length self.old.records }
         ensures clean { AreClean T.meaning S.content self.old
             → AreClean T.meaning S.content self.new }
-        ensures store { (id : List ℕ) → AreHere S.is_of id self.old → AreHere S.is_of id self.new }
+        ensures store { (id : List ℕ) → AreHere S.is_of id self.old
+            → AreHere S.is_of id self.new }
         ensures free { OnOk result (replace_all_refusal self.old lists.now ≡ None) }
         ensures refused { IfErr result (λ e. (replace_all_refusal self.old lists.now ≡ Some e)
             ⊎ ((first_absent self.old (map (λ r. r.object) lists.now) ≡ None)
@@ -135,7 +138,7 @@ impl<T: Elem, S: FarTickets> Objects<T, S> {
         Ok(())
     }
 
-    // Checks that listed objects may be written again.
+    // Checks that each listed object may be written once more.
     fn all_writable(&self, lists: &[Replacement<T>]) -> Result<(), Refusal>
         requires { All (λ r. r.object < length self.now.records) lists.now }
         ensures { refusal_in result ≡ first_of (any_written_out self.now lists.now ∷ []) }

@@ -13,7 +13,7 @@ use far_types::Refusal;
 use std::alloc::Global;
 
 impl<T: Elem, S: FarTickets> Objects<T, S> {
-    /// Pins objects together, one pin for each listing, all or none. The scope must be spent by `close`.
+    /// Pins objects together, one pin for each listing, all or none. `close` must consume the scope.
     ///
     /// A refused call changes nothing. Refused with:
     /// - `Absent` (16), which names the first such object, exactly if a listed object is away;
@@ -28,7 +28,8 @@ impl<T: Elem, S: FarTickets> Objects<T, S> {
             → list_of T.meaning S.content self.new p ≡ list_of T.meaning S.content self.old p }
         ensures clean { AreClean T.meaning S.content self.old
             → AreClean T.meaning S.content self.new }
-        ensures store { (id : List ℕ) → AreHere S.is_of id self.old → AreHere S.is_of id self.new }
+        ensures store { (id : List ℕ) → AreHere S.is_of id self.old
+            → AreHere S.is_of id self.new }
         ensures free { OnOk result (enter_refusal self.old objects.now ≡ None) }
         ensures refused { IfErr result (λ e. (enter_refusal self.old objects.now ≡ Some e)
             ⊎ ((enter_refusal self.old objects.now ≡ None) × (e ≡ Refusal.NoMemory))) }
@@ -103,8 +104,8 @@ impl<T: Elem, S: FarTickets> Objects<T, S> {
         self.unpin(o).is_ok()
     }
 
-    /// Removes one pin for each listing of an object in a scope, if the object has one. Returns how many it removed. Allocates
-    /// nothing.
+    /// Removes the pins of a scope: one for each listing of an object, if the object has a pin. Returns how many pins it removed.
+    /// Allocates nothing.
     pub fn close(&mut self, scope: Scope) -> u32
         requires { All (λ o. o < length self.old.records) scope }
         ensures closed { self.new ≡ (after_close self.old scope).0 }
@@ -113,7 +114,8 @@ impl<T: Elem, S: FarTickets> Objects<T, S> {
             → list_of T.meaning S.content self.new p ≡ list_of T.meaning S.content self.old p }
         ensures clean { AreClean T.meaning S.content self.old
             → AreClean T.meaning S.content self.new }
-        ensures store { (id : List ℕ) → AreHere S.is_of id self.old → AreHere S.is_of id self.new }
+        ensures store { (id : List ℕ) → AreHere S.is_of id self.old
+            → AreHere S.is_of id self.new }
     {
         let Scope { objects } = scope;
         let mut taken = 0;

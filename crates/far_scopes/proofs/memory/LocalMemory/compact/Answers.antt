@@ -43,7 +43,7 @@ overflow_add-self g c =
     let cooled : cool_in c.settle.new.words ≡ cool_in c.self.inside.words.items + c.settle.result = rw (← c.deref_mut.ensures.value) c.settle.ensures.cooled in
     omega (arith, cooled, settled.long, cool-le-length c.settle.new.words, c.self.invariant.count, c.self.inside.words.ok.0, c.self.inside.words.ok.1, c.self.inside.words.small)
 
--- what follows at the end for the new words and the new region
+-- the facts about the new words and the new region at the end
 done : (g : given.Over) (c : goal.After-drop-moving-2 g) → (take c.self.inside.words.len (c.settle.new.words ++ drop (length c.settle.new.words) c.self.inside.words.items) ≡ c.settle.new.words) × Done c.self.inside.words.items c.settle.new.words c.self.inside.region c.compact.new.self c.args.segment
 done g c =
     let there = not-missing c.in_ok-may_compact.field-0 OutOfRange (length c.self.inside.region) c.args.segment c.in_ok-may_compact.ensures.missing in
