@@ -32,7 +32,7 @@ module _ {X : Type 0} where
         let rest = length-places size objects (λ k d within. whole (suc k) d (omega arith)) in
         omega (arith, length-append (list_at lists o) (places lists objects), here, rest)
 
-    -- all places: those of the objects before object o, then its own, then those of the objects after it
+    -- all places: of the objects before object o, of o itself, and of the objects after it
     pub places-split : (objects : List ℕ) (g o : ℕ) → slice_get objects g ≡ Some o → places lists objects ≡ places lists (take g objects) ++ (list_at lists o ++ places lists (drop (suc g) objects))
     places-split [] g o is = cc
     places-split (p ∷ objects) zero o is = let same : p ≡ o = cc in rw same refl

@@ -43,7 +43,7 @@ module _ {X K : Type 0} (meaning : List ℕ → List X) (content : K → List �
     pub clean : AreClean meaning content old → AreClean meaning content new
 
   module _ (is_of : K → List ℕ → Type 0) (old new : Movement X K) where
-    -- a call keeps what is known of the copies of objects in a store
+    -- a call keeps both facts about the copies of objects in a store
     pub record KeepsCopies : Type 0 where
       -- if each clean object's list was what its ticket means, it still is
       pub clean : AreClean meaning content old → AreClean meaning content new

@@ -36,7 +36,7 @@ impl Alive {
         self.flags.len()
     }
 
-    /// Returns whether a place is alive; `None` if there is no such place. Allocates nothing.
+    /// Returns whether a place is alive, or `None` if there is no such place. Allocates nothing.
     pub fn get(&self, place: usize) -> Option<bool>
         ensures { result ≡ slice_get self.now place }
     {

@@ -5,8 +5,7 @@ ghost use Rattle.far_columns.specs.Vectors.{AreVectors, ChangesVector};
 
 use far_codec::Elem;
 
-/// A law: several vectors store their elements in the same `Objects`, and no two have an object in common. Each clause says
-/// when this remains true:
+/// A law: several vectors share `Objects`, and no two have an object in common. Each clause says when this remains true:
 ///
 /// - `none`, `more`: the vectors are added one after another, each without an object.
 /// - `after`, `others`: a call changes one of them, as its clauses `is` and `disjoint` say. The others keep their elements.

@@ -66,8 +66,8 @@ impl<'a, T: Elem, S: FarTickets> Pieces<'a, T, S> {
 
     /// Returns the next piece, or `None` at the end. Allocates nothing.
     ///
-    /// `Pieces` does not implement `Iterator`: the prover cannot prove a method of that trait that calls a function whose
-    /// elements must be such that threads may share them.
+    /// `Pieces` does not implement `Iterator`: the prover cannot prove a method of that trait if it calls a function that
+    /// requires elements that threads may share.
     pub fn next(&mut self) -> Option<&'a [T]>
         ensures first { IfSome result (λ piece. self.old ≡ piece.now ∷ self.new) }
         ensures none { IfNone result ((self.old ≡ []) × (self.new ≡ [])) }

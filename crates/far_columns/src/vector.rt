@@ -67,8 +67,7 @@ impl<T: Elem> Model for FarVector<T> {
 impl<T: Elem> FarVector<T> {
     /// Makes the empty vector of a column. A row group has `size` places; the unused ones have `default_value`.
     ///
-    /// Allocates a list of `size` elements. No later call allocates memory for elements outside the objects. Refused only with
-    /// `NoMemory` (1).
+    /// Allocates a list of `size` elements. Later calls allocate elements only in the objects. Refused only with `NoMemory` (1).
     pub fn new(
         alloc: Global,
         column: u32,

@@ -5,8 +5,8 @@ ghost use Rattle.far_texts.specs.Texts.{Texts, Lists, HasGroups, IsTextColumn, t
 ghost use Rattle.far_texts.specs.Effects.{group_with, group_with_next};
 ghost use Rattle.far_texts.specs.Columns.{AreTextColumns, ChangesColumn};
 
-/// A law: several columns of texts store their texts in the same `Objects`, and no two have an object in common. Each clause
-/// says when this remains true:
+/// A law: several columns of texts share `Objects`, and no two have an object in common. Each clause says when this remains
+/// true:
 ///
 /// - `none`, `more`: the columns are added one after another, each without an object.
 /// - `after`, `others`: a call changes one of them, as its clause `changes` says. The others keep their texts.

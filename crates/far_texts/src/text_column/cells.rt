@@ -80,8 +80,8 @@ impl<'a, S: FarTickets> TextCells<'a, S> {
 
     /// Returns the next text with its flag, or `None` at the end. Allocates nothing.
     ///
-    /// `TextCells` does not implement `Iterator`: the prover cannot prove a method of that trait that calls a function whose
-    /// objects must be such that threads may share them.
+    /// `TextCells` does not implement `Iterator`: the prover cannot prove a method of that trait if it calls a function that
+    /// requires objects that threads may share.
     pub fn next(&mut self) -> Option<TextCell<'a>>
         ensures first { IfSome result (λ cell.
             self.old ≡ (option_copied cell.text, cell.alive) ∷ self.new) }
