@@ -13,7 +13,7 @@ use Rattle.far_columns.proofs.VectorWrites.{take-after, drop-after}
 use Rattle.far_columns.proofs.VectorDisjointness.{vector-unchanged, elements-unchanged, untouched}
 
 module _ {X : Type 0} (v : Vector X) (o : ℕ) where
-  -- a vector with one more row group, which has its first element and object o
+  -- a vector with one more row group, which has one element and object o
   abbrev pub begun : Vector X
   begun = record v { objects = v.objects ++ o ∷ []; len = v.len + 1 }
 
@@ -35,7 +35,7 @@ module _ {X : Type 0} (v : Vector X) (o : ℕ) where
       let g : v.len / v.size ≡ length v.objects = ap (λ n. n / v.size) whole ∙ div-mul-add (length v.objects) v.size 0 shaped.some in
       ap (λ n. get_or (v.objects ++ o ∷ []) n 0) g ∙ get_or_at v.objects o [] 0 (length v.objects) refl
 
--- the list in which a row group is laid out, with its first element
+-- the list from which a row group is made, with the row group's first element
 pub layout-first : {X : Type 0} (next : List X) (x default_value : X) (size : ℕ) → 0 < size → length next ≡ size → drop 1 next ≡ replicate (size - 1) default_value → set next 0 x ≡ x ∷ replicate (size - 1) default_value
 layout-first [] x default_value size some long rest = absurd (omega (arith, some, long))
 layout-first (y ∷ next) x default_value size some long rest = ap (λ l. x ∷ l) rest
@@ -74,7 +74,7 @@ module _ {X : Type 0} (old new : ℕ → Option (List X)) (v : Vector X) (shaped
         disjoint = All-push (λ q. All (λ p. q ≢ p) w.objects) v.objects o disjoint (λ k d within e. omega (arith, below-w k d within, e));
       }
 
--- the last row group is removed, of which one element was used
+-- the last row group, which has one element, is removed
 module _ {X : Type 0} (old new : ℕ → Option (List X)) (v : Vector X) (shaped : IsShaped v) (is : IsVector old v) (alone : v.len ≡ (length v.objects - 1) * v.size + 1) (o : ℕ) (last : slice_get v.objects (length v.objects - 1) ≡ Some o) (others : KeepsOthers old new o) where
   abbrev others_of : List ℕ
   others_of = take (length v.objects - 1) v.objects

@@ -2,7 +2,7 @@
 use Rattle.std.proofs.Common.{◌≡◌, ℕ, zero, suc, ◌+◌, ◌-◌, ◌*◌, ◌/◌, ◌<◌, ◌≤◌, sym, ap, subst, ◌∙◌, arith}
 use Rattle.std.proofs.lemmas.Nat.{div-mul-add}
 
--- the last of n row groups is the row group of a place that is in one of them and in none before the last
+-- a place that is in one of n row groups, and in none before the last, is in the last
 pub last-group : (n size i : ℕ) → i < n * size → (n - 1) * size ≤ i → i / size ≡ n - 1
 last-group zero size i there from = absurd (omega (arith, there))
 last-group (suc m) size i there from =
@@ -11,7 +11,7 @@ last-group (suc m) size i there from =
     let is : i ≡ m * size + (i - m * size) = omega (arith, begin) in
     ap (λ k. k / size) is ∙ div-mul-add m size (i - m * size) (omega (arith, there, begin)) ∙ sym e
 
--- so is the row group of the place after the last element, if it has been begun
+-- the place after the last element is in the last row group, if this has an unused place
 pub next-group : (n size len : ℕ) → len < n * size → n * size < len + size → len / size ≡ n - 1
 next-group zero size len there needed = absurd (omega (arith, there))
 next-group (suc m) size len there needed =
@@ -19,7 +19,7 @@ next-group (suc m) size len there needed =
     let begin : m * size ≤ len = omega (arith, needed) in
     last-group (suc m) size len there (subst (λ k. k * size ≤ len) (sym e) begin)
 
--- a place has a row group
+-- if there is a place, there is a row group
 pub some-group : (n size i : ℕ) → i < n * size → 0 < n
 some-group zero size i there = absurd (omega (arith, there))
 some-group (suc m) size i there = omega arith

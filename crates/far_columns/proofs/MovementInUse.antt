@@ -24,7 +24,7 @@ climbs : (objects : List ℕ) → AllPairs (λ o p. o < p) objects → (k : ℕ)
 climbs objects sorted zero within = omega arith
 climbs objects sorted (suc k) within = omega (arith, climbs objects sorted k (omega arith), sorted k (suc k) 0 (omega arith) within)
 
--- so there are at most as many as their bound
+-- so there are at most n ascending numbers below n
 pub bounded-sorted : (objects : List ℕ) (n : ℕ) → AllPairs (λ o p. o < p) objects → All (λ o. o < n) objects → length objects ≤ n
 bounded-sorted objects n sorted below = elim (cases_lt 0 (length objects)) [
   | inl some ↦ (let last = below (length objects - 1) 0 (omega arith) in omega (arith, last, climbs objects sorted (length objects - 1) (omega arith)))

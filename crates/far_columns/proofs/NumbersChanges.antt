@@ -1,4 +1,4 @@
--- A number is appended to each of several columns, which all begin row groups, or none of which does.
+-- A number is appended to each of several columns: all of them begin row groups, or none does.
 use Rattle.std.proofs.Common.{◌≡◌, ℕ, ℤ, ◌+◌, Bool, true, false, not, cond, List, [], ◌∷◌, ◌++◌, length, map, Option, None, refl, sym, ap, ◌∙◌, arith}
 use Rattle.std.specs.Prelude.{All}
 use Rattle.std.proofs.lemmas.List.Elements.{All-head, All-tail}

@@ -16,7 +16,7 @@ pub length-with_flags : (pieces : List Numbers) (flags : List Bool) → length (
 length-with_flags [] flags = refl
 length-with_flags (piece ∷ pieces) flags = ap suc (length-with_flags pieces (drop (length piece) flags))
 
--- the numbers of the flagged pieces are those of the pieces
+-- the flagged pieces have the numbers of the pieces
 pub values-with_flags : (pieces : List Numbers) (flags : List Bool) → map (λ (lent : Numbers × List Bool). lent.0) (with_flags pieces flags) ≡ pieces
 values-with_flags [] flags = refl
 values-with_flags (piece ∷ pieces) flags = ap (λ rest. piece ∷ rest) (values-with_flags pieces (drop (length piece) flags))
@@ -25,7 +25,7 @@ pub joined-values : (pieces : List Numbers) (flags : List Bool) → flat_map (λ
 joined-values [] flags = refl
 joined-values (piece ∷ pieces) flags = ap (λ rest. piece ++ rest) (joined-values pieces (drop (length piece) flags))
 
--- the flags of the pieces, joined, are all flags, if there are as many as places
+-- the flags of the pieces, joined, are all flags, if there are as many flags as places
 module _ (piece : List (Option ℤ)) (pieces : List Numbers) (flags : List Bool) (same_length : length flags ≡ length (flat_map (λ piece. piece) (piece ∷ pieces))) where
   both : length flags ≡ length piece + length (flat_map (λ piece. piece) pieces)
   both = same_length ∙ length-append piece (flat_map (λ piece. piece) pieces)
@@ -50,7 +50,7 @@ same_length-flags (piece ∷ pieces) flags same_length = All-cons (λ (lent : Nu
     (length-take-le (length piece) flags (within piece pieces flags same_length))
     (same_length-flags pieces (drop (length piece) flags) (rest piece pieces flags same_length))
 
--- a range is as long as its bounds are apart
+-- the length of a range is the difference of its bounds
 pub length-range : {A : Type 0} (xs : List A) (from to : ℕ) → from ≤ to → to ≤ length xs → length (slice_range xs from to) ≡ to - from
 length-range xs from to low within = length-take-le (to - from) (drop from xs) (omega (arith, length-drop from xs, low, within))
 

@@ -29,7 +29,7 @@ pairs-head R x xs pairs k d below = pairs 0 (suc k) d (omega arith) (omega (arit
 pub pairs-tail : {X : Type 0} (R : X → X → Type 0) (x : X) (xs : List X) → AllPairs R (x ∷ xs) → AllPairs R xs
 pairs-tail R x xs pairs i j d below within = pairs (suc i) (suc j) d (omega (arith, below)) (omega (arith, within))
 
--- two columns of one length and one size of row groups both begin a row group, or neither does
+-- two columns with the same length and the same size of row groups both begin a row group, or neither does
 pub both-begin : (c d : Vector (Option ℤ)) → IsShaped c → IsShaped d → c.size ≡ d.size → c.len ≡ d.len → is_full c ≡ true → is_full d ≡ true
 both-begin c d has other size len begins =
     let full : c.len ≡ length c.objects * c.size = eqb-true c.len (length c.objects * c.size) begins in
@@ -53,7 +53,7 @@ push-free m v begun free = ap (λ (b : Bool). cond b (first_of (no_space m (leng
 pub free-push : {K : Type 0} (m : Movement (Option ℤ) K) (v : Vector (Option ℤ)) → is_full v ≡ false → push_refusal m v ≡ None → write_refusal m (object_at v v.len) ≡ None
 free-push m v begun free = sym (ap (λ (b : Bool). cond b (first_of (no_space m (length m.records) v.size ∷ [])) (write_refusal m (object_at v v.len))) begun) ∙ free
 
--- that is the refusal before other objects change
+-- whether an object may be written depends only on its word, its record and the limit, so not on other objects
 abbrev writing : {K : Type 0} → Option Pointer → Option (ObjectRecord K) → ℕ → Option Refusal
 writing word object_record changes = first_of (
     (not (is_some (option_and_then at_of word)), option_map_or (λ e. refusal.Absent e.name.column e.name.group) object_record refusal.StaleJob)
@@ -73,7 +73,7 @@ changes-same m v x = elim (cases_Bool (is_full v)) [ inl full ↦ rw full refl |
 pub count-same : {K : Type 0} (m : Movement (Option ℤ) K) (v : Vector (Option ℤ)) (x : Option ℤ) → is_full v ≡ false → length (objects_after_push m v x).records ≡ length m.records
 count-same m v x begun = rw begun (length-with m.records (object_at v v.len) (λ object_record. record object_record { version = object_record.version + 1 }))
 
--- disjoint in either order
+-- two columns are disjoint in either order
 pub disjoint-turned : (v w : Vector (Option ℤ)) → AreDisjoint v w → AreDisjoint w v
 disjoint-turned v w disjoint k d within j e inside same = disjoint j e inside k d within (sym same)
 
@@ -112,7 +112,7 @@ module _ (lists : NumberLists) (columns : NumberColumns) (are : AreNumberColumns
   pub none-begin : all_begin columns ≡ false → All (λ (c : Vector (Option ℤ)). is_full c ≡ false) columns
   none-begin = none-pass is_full IsShaped (λ c d. (c.size ≡ d.size) × (c.len ≡ d.len)) (λ c d same_length. (sym same_length.0, sym same_length.1)) alike columns shaped are.same_length
 
--- with one more number each they still have one length and one size
+-- with one more number each, the columns still have the same length and the same size of row groups
 pub pushed-size : (c : Vector (Option ℤ)) (n : ℕ) → (after_push c n).size ≡ c.size
 pushed-size c n = elim (cases_Bool (is_full c)) [ inl full ↦ rw full refl | inr begun ↦ rw begun refl ]
 
@@ -134,13 +134,13 @@ same_length-pushed n (c ∷ rest) same_length =
     (same_length-all_disjoint c n (n + 1) rest (pairs-head (λ c d. (c.size ≡ d.size) × (c.len ≡ d.len)) c rest same_length))
     (same_length-pushed (n + 1) rest (pairs-tail (λ c d. (c.size ≡ d.size) × (c.len ≡ d.len)) c rest same_length))
 
--- the refusals if row groups have been begun
+-- which refusal applies if the row groups have been begun
 pub due-begun : {K : Type 0} (m : Movement (Option ℤ) K) (columns : NumberColumns) → all_begin columns ≡ false → push_numbers_refusal m columns ≡ option_or (first_of (absents m columns)) (first_of (some_written_out m columns ∷ []))
 due-begun m columns begun =
     ap (λ (b : Bool). first_of (cond b (no_space_for_groups m columns ∷ []) (absents m columns ++ some_written_out m columns ∷ []))) begun
     ∙ first-append (absents m columns) (some_written_out m columns ∷ [])
 
--- if no number is refused and the row groups have been begun, no push is
+-- if `push_numbers` is not refused and the row groups have been begun, no push to a single column is refused
 or-none : (a b : Option Refusal) → option_or a b ≡ None → (None ≡ a) × (None ≡ b)
 or-none (Some e) b is = absurd cc
 or-none None b is = (refl, sym is)

@@ -68,7 +68,7 @@ module _ (old mid : NumberLists) (c c' : Vector (Option ℤ)) (rest : NumberColu
         ∙ ap (λ l. (elements old c ++ x ∷ []) ∷ l) (others ∙ numbers-with-same old mid rest numbers (λ k d below. (untouched k d below).elements))
 
 module _ {K : Type 0} (m mid : Movement (Option ℤ) K) (c : Vector (Option ℤ)) (x : Option ℤ) (rest : NumberColumns) (written : mid ≡ objects_after_push m c x) (others : ChangesObject m mid (object_at c c.len)) where
-  -- the others may still be written
+  -- the other columns may still be written
   pub free-rest : (lists : NumberLists) → AreVectors lists (c ∷ rest) → All IsShaped (c ∷ rest) → All (λ d. is_full d ≡ false) (c ∷ rest) → All (λ d. push_refusal m d ≡ None) (c ∷ rest) → All (λ d. push_refusal mid d ≡ None) rest
   free-rest lists all_disjoint shaped begun free k d below =
       let w = get_or rest k d in

@@ -35,7 +35,7 @@ module _ {K : Type 0} (m mid : Movement (Option ℤ) K) (c c' : Vector (Option �
       let groups : length c'.objects - 1 ≡ length c.objects = let more = ap (λ (v : Vector (Option ℤ)). length v.objects) longer ∙ length_push c.objects (length m.records) in omega (arith, more) in
       ap (λ (v : Vector (Option ℤ)). v.len) longer ∙ ap (λ n. n + 1) places ∙ ap (λ n. n * c.size + 1) (sym groups) ∙ ap (λ s. (length c'.objects - 1) * s + 1) (sym (ap (λ (v : Vector (Option ℤ)). v.size) longer))
 
-  -- its object is the last
+  -- the row group's object is the last one
   pub last : slice_get c'.objects (length c'.objects - 1) ≡ Some (length mid.records - 1)
   last =
       let groups : length c'.objects - 1 ≡ length c.objects = let more = ap (λ (v : Vector (Option ℤ)). length v.objects) longer ∙ length_push c.objects (length m.records) in omega (arith, more) in
@@ -58,7 +58,7 @@ module _ (columns : NumberColumns) (sizes : List ℕ) where
       let all : k ≡ length columns = omega (arith, past, within) in
       subst (λ n. All (λ size. 0 < size) (take n sizes)) all (subst (All (λ size. 0 < size)) (sym (so ∙ take_all k (map (λ c. c.size) columns) (omega (arith, past, length-map columns (λ c. c.size))))) (All-map (λ size. 0 < size) (λ c. c.size) columns (λ k d below. (shaped k d below).some)))
 
--- if the first list does not fit, not all fit
+-- if the first list does not fit, not all lists fit
 pub none-fits : (spaces : List ℕ) (n : ℕ) (ns : List ℕ) → is_some (lowest_for spaces n) ≡ false → fit_in_order spaces (n ∷ ns) ≡ false
 none-fits spaces n ns full = on-none (λ i. fit_in_order (slice_set spaces i (slice_index spaces i - n)) ns) (lowest_for spaces n) full
   where

@@ -1,4 +1,4 @@
--- Row groups that several columns of numbers begin at once, the first column's first, and undoing them, the first column's last.
+-- Several columns of numbers begin row groups at once, in the order of the columns, and undo them in the reverse order.
 use Rattle.std.proofs.Common.{◌≡◌, ℕ, zero, suc, ℤ, ◌+◌, ◌-◌, ◌*◌, ◌/◌, ◌<◌, true, List, [], ◌∷◌, length, get_or, map, take, Option, Some, refl, sym, ap, subst, ◌∙◌, arith}
 use Rattle.std.specs.Prelude.{All, AllPairs, is_some}
 use Rattle.std.specs.Option.{option_and_then, option_map_or}
@@ -45,7 +45,7 @@ module _ (old mid new : NumberLists) (c c' : Vector (Option ℤ)) (rest rest' : 
       disjoint = AllPairs-cons AreDisjoint c' rest' (λ k d below. (other k d below).disjoint) after.disjoint;
     }
 
-    -- the numbers of each column except the last
+    -- each column has its numbers without its last number
     pub numbers-undone : elements new c' ≡ take (c.len - 1) (elements mid c) → map (elements mid) rest' ≡ map (λ d. take (d.len - 1) (elements old d)) rest → map (elements new) (c' ∷ rest') ≡ map (λ d. take (d.len - 1) (elements old d)) (c ∷ rest)
     numbers-undone here others =
         ap (λ l. l ∷ map (elements new) rest') (here ∙ ap (take (c.len - 1)) (keeps.numbers c (All-head (IsVector old) c rest all_disjoint.each) disjoint-first))
@@ -61,7 +61,7 @@ module _ (old mid new : NumberLists) (c c' : Vector (Option ℤ)) (rest rest' : 
         first-of : (w : Vector (Option ℤ)) → IsVector old w → All (λ r. AreDisjoint r w) (c ∷ rest) → IsUntouched mid new c' w
         first-of w is disjoint = first.others w (keeps.is w is (All-tail (λ r. AreDisjoint r w) c rest disjoint)) (All-head (λ r. AreDisjoint r w) c rest disjoint)
 
--- with one number less each they still have one length and one size
+-- with one number less each, the columns still have the same length and the same size of row groups
 pub same_length-undone : (columns : NumberColumns) → AllPairs (λ c d. (c.size ≡ d.size) × (c.len ≡ d.len)) columns → AllPairs (λ c d. (c.size ≡ d.size) × (c.len ≡ d.len)) (map after_unpush columns)
 same_length-undone [] same_length = same_length
 same_length-undone (c ∷ rest) same_length =
@@ -91,7 +91,7 @@ module _ {K : Type 0} where
   begun-count m o [] is = omega (arith, is)
   begun-count m o (c ∷ columns) begun = omega (arith, begun-count m (o + 1) columns begun.1)
 
-  -- those begun from some object on have the last objects
+  -- columns whose row groups begin with object o and all objects after it have the last objects
   pub begun-last : (m : Movement (Option ℤ) K) (o : ℕ) (columns : NumberColumns) → AreBegunFrom m o columns → AreBegunLast m columns
   begun-last m o columns begun =
       let first : o ≡ length m.records - length columns = omega (arith, begun-count m o columns begun) in
@@ -102,7 +102,7 @@ module _ {K : Type 0} where
     pub rest-last : AreBegunLast m rest
     rest-last = begun-last m (length m.records - length (c ∷ rest) + 1) rest begun.1
 
-    -- after they are undone the first is the last one begun
+    -- after these are undone, the row group of the first column is the last one begun
     pub first-last : (mid : Movement (Option ℤ) K) → mid ≡ after_uncreate_all (length rest) m → KeepsBelow (length mid.records) m mid → IsNewGroup mid (length mid.records - 1) c
     first-last mid is keeps =
         let all = begun-count m (length m.records - length (c ∷ rest)) (c ∷ rest) begun in
@@ -131,14 +131,14 @@ module _ {K : Type 0} (m mid new : Movement (Option ℤ) K) (c c' : Vector (Opti
     records = λ p below. keeps.records p (omega (arith, below, more)) ∙ others.records p (λ e. omega (arith, e, object, below));
   }
 
-  -- the row group of the first is begun, then those of the others
+  -- the first column begins a row group, and then the others do
   pub begun-all : (rest' : NumberColumns) → is_local mid (length m.records) ≡ true → pins_of mid (length m.records) ≡ 0 → AreBegunFrom new (length mid.records) rest' → AreBegunFrom new (length m.records) (c' ∷ rest')
   begun-all rest' local unpinned begun =
       let number : length mid.records - 1 ≡ length m.records = omega (arith, more) in
       let first : IsNewGroup mid (length m.records) c' = record { alone = alone m mid c c' x full is written; last = last m mid c c' x full is written ∙ ap Some number; local = local; unpinned = unpinned } in
       (begun-unchanged (length mid.records) mid new keeps (length m.records) (omega (arith, more)) c' first, subst (λ o. AreBegunFrom new o rest') more begun)
 
-  -- undoing all restores what was there
+  -- undoing all restores the columns and the objects
   pub undone-all : (rest rest' : NumberColumns) → (after_unpush c' ≡ c) × (after_uncreate mid ≡ m) → (map after_unpush rest' ≡ rest) × (after_uncreate_all (length rest) new ≡ mid) → (map after_unpush (c' ∷ rest') ≡ c ∷ rest) × (after_uncreate_all (length (c ∷ rest)) new ≡ m)
   undone-all rest rest' first others = (
     ap (λ d. d ∷ map after_unpush rest') first.0 ∙ ap (λ l. c ∷ l) others.0,

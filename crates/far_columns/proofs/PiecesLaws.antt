@@ -10,7 +10,7 @@ use Rattle.std.proofs.lemmas.List.Edits.{between_none, length-between}
 use Rattle.std.proofs.Math.Seq.{take-add}
 use Rattle.far_columns.specs.Pieces.{first_overlapped, overlapped_count, overlapped_groups, piece, pieces_of}
 
--- a row group is the row group of its first place, and of its last
+-- place a of row group g is in row group g
 group-of : (size g a n : ℕ) → a < size → n ≡ g * size + a → n / size ≡ g
 group-of size g a n below is = ap (λ k. k / size) is ∙ div-mul-add g size a below
 
@@ -18,7 +18,7 @@ length-range : (a n : ℕ) → length (range_with_len a n) ≡ n
 length-range a zero = refl
 length-range a (suc n) = ap suc (length-range (a + 1) n)
 
--- a property of each number of a range
+-- functions that agree on the numbers of a range map it to equal lists
 map-range : {Y : Type 0} (f h : ℕ → Y) (a n : ℕ) → ((k : ℕ) → a ≤ k → f k ≡ h k) → map f (range_with_len a n) ≡ map h (range_with_len a n)
 map-range f h a zero same = refl
 map-range f h a (suc n) same = rw (same a (omega arith)) (ap (λ l. h a ∷ l) (map-range f h (a + 1) n (λ k above. same k (omega (arith, above)))))
@@ -67,7 +67,7 @@ module _ (size : ℕ) (some : 0 < size) (from to : ℕ) (more : from < to) where
   pub count-step : overlapped_count size from to ≡ suc rest
   count-step = count ∙ (let e : (to - 1) / size + 1 - g ≡ suc rest = omega (arith, g-low) in e)
 
-  -- the row groups of a part are its first and those of the rest
+  -- the row groups of a part are the first row group and the row groups of the rest
   pub overlapped-step : overlapped_groups size from to ≡ g ∷ range_with_len (g + 1) rest
   overlapped-step = rw count (let e : (to - 1) / size + 1 - g ≡ suc rest = omega (arith, g-low) in rw e refl)
 
@@ -114,11 +114,11 @@ module _ {X : Type 0} (xs : List X) (size : ℕ) (some : 0 < size) where
           rw (none, overlapped-last size some from to more same) (sym (none-pieces to)))
     ]
 
-    -- the pieces of a part are its first and those of the rest
+    -- the pieces of a part are the first piece and the pieces of the rest
     pub pieces-step : pieces_of xs size from to ≡ slice_range xs from (end size some from to more) ∷ pieces_of xs size (end size some from to more) to
     pieces-step = ap (map (piece xs size from to)) (overlapped-step size some from to more) ∙ ap (λ p. p ∷ map (piece xs size from to) (range_with_len (from / size + 1) (rest size some from to more))) head ∙ ap (λ l. slice_range xs from (end size some from to more) ∷ l) tail
 
-  -- a part is two parts, one after another
+  -- two adjacent parts, joined, are one part
   joined-two : (from mid to : ℕ) → from ≤ mid → mid ≤ to → slice_range xs from mid ++ slice_range xs mid to ≡ slice_range xs from to
   joined-two from mid to low high =
       let e : to - from ≡ mid - from + (to - mid) = omega (arith, low, high) in

@@ -66,7 +66,7 @@ module _ {X K : Type 0} (m : Movement X K) (v : Vector X) (from to : ℕ) (free 
         (and_right _ _ (not_from_true _ (eq-eqb (from / v.size) ((min to ((from / v.size + 1) * v.size) - 1) / v.size) (one-group v.size shaped.some from to more))))
         (and_right _ _ (not_from_true (is_local m (object_at v from)) both.0))
 
-    -- the rest after the first piece may be lent
+    -- the rest, after the first piece, may be lent
     pub next-free : pieces_refusal m v (min to ((from / v.size + 1) * v.size)) to ≡ None
     next-free =
         one-free (no_range v (min to ((from / v.size + 1) * v.size)) to).0 (no_range v from to).1 (first_absent m (take (overlapped_count v.size (min to ((from / v.size + 1) * v.size)) to) (drop (first_overlapped v.size (min to ((from / v.size + 1) * v.size))) v.objects)))

@@ -1,4 +1,4 @@
--- A vector changes, and no other.
+-- A call changes one vector, and no other.
 use Rattle.std.proofs.Common.{◌≡◌, ℕ, ◌+◌, ◌-◌, ◌*◌, ◌/◌, ◌<◌, ◌≤◌, Bool, true, false, List, [], ◌∷◌, ◌++◌, length, take, Option, None, Some, refl, ◌∙◌, arith, length-append}
 use Rattle.std.specs.Prelude.{All, slice_get}
 use Rattle.std.proofs.lemmas.List.{append-nil}
@@ -30,7 +30,7 @@ module _ {X : Type 0} (old new : ℕ → Option (List X)) (v : Vector X) (shaped
     others = λ w is-w disjoint. untouched old new v w is-w disjoint (object_at v v.len) others (v.len / v.size) (object-there v shaped v.len space) (record v { len = v.len + 1 }) disjoint;
   }
 
-  -- a row group is begun with an object that is newer than those of all vectors
+  -- a row group is begun with an object that is newer than all objects of the vectors
   pub changed-begun : v.len ≡ length v.objects * v.size → (o : ℕ) → KeepsOthers old new o → (x : X) → new o ≡ Some (next_group v x) → ((w : Vector X) → IsVector old w → All (λ p. p < o) w.objects) → ChangesVector old new v (begun v o)
   changed-begun full o others x has newer = record {
     is = vector-begun old new v shaped is full o others x has (newer v is);

@@ -1,4 +1,4 @@
--- A vector that shares no object with another is unchanged when that is written.
+-- A write to a vector changes no vector that shares no object with it.
 use Rattle.std.proofs.Common.{◌≡◌, ◌≢◌, ℕ, List, length, take, drop, Option, Some, sym, ap, subst, ◌∙◌}
 use Rattle.std.specs.Prelude.{All, IsSomeAnd, slice_get}
 use Rattle.std.proofs.lemmas.Option.{slice_get_within, get_or_from_slice_get}
@@ -16,7 +16,7 @@ module _ {X : Type 0} (old new : ℕ → Option (List X)) (w : Vector X) (same :
   elements-unchanged = ap (take w.len) (places-unchanged old new w.objects same)
 
 module _ {X : Type 0} (old new : ℕ → Option (List X)) (v w : Vector X) (is : IsVector old w) (disjoint : AreDisjoint v w) (o : ℕ) (others : KeepsOthers old new o) where
-  -- one object of v changes
+  -- a change of one of v's objects leaves w unchanged
   pub untouched : (g : ℕ) → slice_get v.objects g ≡ Some o → (v' : Vector X) → AreDisjoint v' w → IsUntouched old new v' w
   untouched g at v' disjoint' =
       let other : All (λ p. o ≢ p) w.objects = subst (λ q. All (λ p. q ≢ p) w.objects) (get_or_from_slice_get v.objects g o o at) (disjoint g o (slice_get_within v.objects g o at)) in

@@ -8,7 +8,7 @@ use Rattle.far_columns.specs.Vector.{Vector, IsShaped, IsVector, places, element
 use Rattle.far_columns.proofs.VectorPlaces.{list_at, some-at, places-split, length-own, length-before}
 use Rattle.far_columns.proofs.VectorLaws.{length-elements}
 
--- the first n elements of a list and a long enough tail: those of the list, then the rest of the tail
+-- the first elements of a list and of a long enough tail: the first elements of the list, then as many of the tail as are missing
 filled : {X : Type 0} (size n : ℕ) (xs : List X) (b : X) → size ≤ length xs + n → take size (xs ++ replicate n b) ≡ take size xs ++ replicate (size - length (take size xs)) b
 filled zero n xs b fits = refl
 filled (suc k) n [] b fits = take-replicate (suc k) n b (omega (arith, fits)) ∙ ap (λ m. replicate m b) (let e : suc k ≡ suc k - 0 = omega arith in e)

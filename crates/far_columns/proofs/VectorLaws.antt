@@ -68,11 +68,11 @@ module _ {X : Type 0} (lists : ℕ → Option (List X)) (v : Vector X) (shaped :
         ∙ drop-append-add front (own ++ back) (i % v.size)
         ∙ drop-append-le (i % v.size) own back (omega (arith, in-own))
 
-  -- an element is one of the list of its row group
+  -- an element of the vector is an element of its row group's list
   pub element-is : (i : ℕ) → i < v.len → (d : X) → get_or (elements lists v) i d ≡ get_or (list_at lists (object_at v i)) (i % v.size) d
   element-is i within d = get_or-take v.len (places lists v.objects) i d within ∙ place-in i (omega (arith, within, shaped.enough)) d
 
-  -- a part of one row group is a part of its list
+  -- a part within one row group is a part of the row group's list
   pub part-is : (from to : ℕ) → from < to → to ≤ v.len → from % v.size + (to - from) ≤ v.size → slice_range (elements lists v) from to ≡ take (to - from) (drop (from % v.size) (list_at lists (object_at v from)))
   part-is from to some within fits =
       let there : from < length v.objects * v.size = omega (arith, some, within, shaped.enough) in
@@ -84,7 +84,7 @@ module _ {X : Type 0} (lists : ℕ → Option (List X)) (v : Vector X) (shaped :
       ∙ ap (take (to - from)) (rest-in from there)
       ∙ take-append-le (to - from) (drop (from % v.size) (own from there)) (back from there) (omega (arith, long, left, fits))
 
--- a part that is not empty and ends in the row group in which it begins fits there
+-- a part that is not empty and ends in the row group in which it begins fits into that row group
 pub part-fits : (size from to : ℕ) → 0 < size → from < to → from / size ≡ (to - 1) / size → from % size + (to - from) ≤ size
 part-fits size from to some more same =
     let here = div-add-mod' from size in

@@ -32,7 +32,7 @@ module _ {X : Type 0} where
         let rest = length-places size objects (λ k d within. whole (suc k) d (omega arith)) in
         omega (arith, length-append (list_at lists o) (places lists objects), here, rest)
 
-    -- the places before an object's, its own, and those after it
+    -- all places: of the objects before object o, of o itself, and of the objects after it
     pub places-split : (objects : List ℕ) (g o : ℕ) → slice_get objects g ≡ Some o → places lists objects ≡ places lists (take g objects) ++ (list_at lists o ++ places lists (drop (suc g) objects))
     places-split [] g o is = cc
     places-split (p ∷ objects) zero o is = let same : p ≡ o = cc in rw same refl
@@ -47,7 +47,7 @@ module _ {X : Type 0} where
   places-unchanged old new [] same = refl
   places-unchanged old new (o ∷ objects) same = rw (same 0 o (omega arith)) (ap (λ l. list_at old o ++ l) (places-unchanged old new objects (λ k d within. same (suc k) d (omega arith))))
 
-  -- a range is written into the middle of three lists
+  -- writing a range into the second of three lists writes it into the joined list
   pub spliced : (before xs after range : List X) (a e i j : ℕ) → a ≤ length xs → e ≤ length xs → i ≡ length before + a → j ≡ length before + e → before ++ ((take a xs ++ (range ++ drop e xs)) ++ after) ≡ take i (before ++ (xs ++ after)) ++ (range ++ drop j (before ++ (xs ++ after)))
   spliced before xs after range a e i j within inside from to =
       let left : take i (before ++ (xs ++ after)) ≡ before ++ take a xs = rw from (take-append-add before (xs ++ after) a ∙ ap (λ l. before ++ l) (take-append-le a xs after within)) in
@@ -75,7 +75,7 @@ module _ (objects : List ℕ) (sorted : AllPairs (λ o p. o < p) objects) (g o :
       omega (arith, less, here, there, same)
 
 module _ {X : Type 0} (old new : ℕ → Option (List X)) (objects : List ℕ) (sorted : AllPairs (λ o p. o < p) objects) (g o : ℕ) (is : slice_get objects g ≡ Some o) (others : KeepsOthers old new o) where
-  -- one object's list changes: the places before and after its own do not
+  -- if the list of one object changes, the places of the other objects do not
   pub places-changed : places new objects ≡ places old (take g objects) ++ (list_at new o ++ places old (drop (suc g) objects))
   places-changed =
       places-split new objects g o is

@@ -28,7 +28,7 @@ module _ {A : Type 0} where
   found-unless (Ok x) o value P free is holds = subst (λ y. IsSomeAnd y P) (sym is) (holds (value x) is)
   found-unless (Err refusal) o value P free is holds = cc
 
--- two clauses about a call that is not refused, together
+-- two clauses about a call that is not refused imply a third
 pub both-ok : {A B P Q R : Type 0} (r : Result A B) → OnOk r P → OnOk r Q → (P → Q → R) → OnOk r R
 both-ok (Ok x) p q then = then p q
 both-ok (Err e) p q then = tt
@@ -55,11 +55,11 @@ module _ {X K : Type 0} (meaning : List ℕ → List X) (content : K → List �
       found-unless r (list_in m.memory o) value (λ list. length list ≡ size) (refused ∙ lent-written m o free) lent (λ list is. subst (λ l. IsSomeAnd l (λ xs. length xs ≡ size)) (list-local o list is) long)
 
   module _ (v : Vector X) where
-    -- what is true of an object and a row group's size
+    -- a property of an object and a size, if they are the object with place i and the size of the vector's row groups
     pub at-place : (P : ℕ → ℕ → Type 0) (i o size : ℕ) → o ≡ object_at v i → size ≡ v.size → P o size → P (object_at v i) v.size
     at-place P i o size object same holds = subst (λ n. P (object_at v i) n) same (subst (λ p. P p size) object holds)
 
-    -- a range that is borrowed is a part
+    -- a range that is borrowed is a part of the vector
     pub range-lent : IsShaped v → IsVector (list_of meaning content m) v → (from to : ℕ) → from < to → to ≤ v.len → from / v.size ≡ (to - 1) / v.size → (r : List X) → IsSomeAnd (list_in m.memory (object_at v from)) (λ list. r ≡ slice_range list (from % v.size) (from % v.size + (to - from))) → r ≡ slice_range (elements (list_of meaning content m) v) from to
     range-lent shaped is from to some within same r lent =
         let found = some-both (list_in m.memory (object_at v from)) (λ list. r ≡ slice_range list (from % v.size) (from % v.size + (to - from))) (λ list. r ≡ slice_range list (from % v.size) (from % v.size + (to - from))) lent lent in
@@ -72,7 +72,7 @@ module _ {X K : Type 0} (meaning : List ℕ → List X) (content : K → List �
     abbrev pub ChangesFrom : ℕ → ℕ → ℕ → Type 0
     ChangesFrom at o n = IsSomeAnd (list_in m.memory o) (λ list. (range : List X) → length range ≡ at + n - at → ChangesList (list_of meaning content m) (list_of meaning content (after_overwrite (after_write m o) o at range)) o (Some (take at list ++ (range ++ drop (at + n) list))))
 
-    -- and the vector from place i on
+    -- a mutable borrow of a range changes the vector from place i on
     abbrev pub Changes : ℕ → ℕ → ℕ → ℕ → Type 0
     Changes i o size n = ChangesFrom (i % size) o n
 

@@ -25,7 +25,7 @@ module _ {X : Type 0} where
     len-is : len ≡ i + length range + (len - (i + length range))
     len-is = omega (arith, within)
 
-    -- a range written over the first elements changes only them
+    -- a range that is written over some of the first `len` elements changes no others
     take-written : take len (take i all ++ (range ++ after)) ≡ take i (take len all) ++ (range ++ drop (i + length range) (take len all))
     take-written =
         let rest : drop (i + length range) (take len all) ≡ take (len - (i + length range)) after =

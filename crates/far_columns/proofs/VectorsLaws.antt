@@ -40,7 +40,7 @@ module _ {X : Type 0} where
         let all_disjoint = was-all_disjoint AreDisjoint disjoint-turned (IsVector old) (IsVector new) vectors are.each are.disjoint k v v' at change.is others-are j d ne within in
         ap (elements new) (other AreDisjoint disjoint-turned (IsVector old) (IsVector new) vectors are.each are.disjoint k v v' at change.is others-are j d ne) ∙ (change.others (slice_index_or vectors j d) (are.each j d within) all_disjoint).elements
 
-  -- lists that do not change
+  -- if no list changes, no vector changes
   pub vectors-stay : (old new : ℕ → Option (List X)) (vectors : List (Vector X)) → AreVectors old vectors → ((o : ℕ) → new o ≡ old o) → AreVectors new vectors
   vectors-stay old new vectors are same = record {
     each = λ k d within. vector-unchanged old new (slice_index_or vectors k d) (λ j e inside. same (slice_index_or (slice_index_or vectors k d).objects j e)) (are.each k d within);

@@ -10,19 +10,19 @@ use Rattle.far_columns.specs.Refusing.{push_refusal}
 
 -- the vector v' has just begun a row group, for its last element
 pub record BeginsGroup {X K : Type 0} (old new : Movement X K) (v v' : Vector X) : Type 0 where
-  -- `unpush` would undo it
+  -- `unpush` would undo the push
   pub unpushed : after_unpush v' ≡ v
   pub uncreated : after_uncreate new ≡ old
   -- the row group's object is local and has no pin
   pub local : is_local new (length old.records) ≡ true
   pub unpinned : pins_of new (length old.records) ≡ 0
-  -- it has the space that the first of several objects would get
+  -- further objects fit now exactly if all of them, with this one as the first, fitted before
   pub next : (lens : List ℕ)
       → fit_in_order (spaces_of old.memory.state) (v.size ∷ lens)
       ≡ fit_in_order (spaces_of new.memory.state) lens
 
 module _ {X K : Type 0} (meaning : List ℕ → List X) (content : K → List ℕ) where
-  -- an element was appended
+  -- the element x was appended to v, which is now v'
   pub record VectorPushed (old new : Movement X K) (v v' : Vector X) (x : X) : Type 0 where
     pub vector : v' ≡ after_push v (length old.records)
     pub objects : new ≡ objects_after_push old v x
@@ -43,14 +43,14 @@ module _ {X K : Type 0} (meaning : List ℕ → List X) (content : K → List �
     pub clean : AreClean meaning content old → AreClean meaning content new
 
   module _ (is_of : K → List ℕ → Type 0) (old new : Movement X K) where
-    -- a call keeps what is known of the copies of objects in a store
+    -- a call keeps both facts about the copies of objects in a store
     pub record KeepsCopies : Type 0 where
       -- if each clean object's list was what its ticket means, it still is
       pub clean : AreClean meaning content old → AreClean meaning content new
       -- tickets of a store remain tickets of that store
       pub store : (id : List ℕ) → AreHere is_of id old → AreHere is_of id new
 
-    -- what a call leaves alone that changes object o: the lists, the words and the records of all others
+    -- a call that changes object o leaves alone the lists, the words and the records of all others
     pub record ChangesOnly (o : ℕ) : Type 0 where
       pub lists : KeepsOthers (list_of meaning content old) (list_of meaning content new) o
       pub others : ChangesObject old new o

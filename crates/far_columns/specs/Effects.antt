@@ -29,7 +29,7 @@ module _ {X : Type 0} where
   after_unpush v = record v { objects = take (length v.objects - 1) v.objects; len = v.len - 1 }
 
   module _ {K : Type 0} where
-    -- the last row group of a vector has only one element, and object o, which is local and has no pin
+    -- the last row group of a vector has only one element; its object is o, which is local and has no pin
     pub record IsNewGroup (m : Movement X K) (o : ℕ) (v : Vector X) : Type 0 where
       pub alone : v.len ≡ (length v.objects - 1) * v.size + 1
       pub last : slice_get v.objects (length v.objects - 1) ≡ Some o

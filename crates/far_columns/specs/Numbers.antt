@@ -9,12 +9,13 @@ abbrev pub Numbers : Type 0
 Numbers = List (Option ℤ)
 
 -- the lists of objects whose elements are numbers
-abbrev pub number_lists : {K : Type 0} → (K → List ℕ) → Movement (Option ℤ) K → ℕ → Option Numbers
+abbrev pub number_lists : {K : Type 0} → (K → List ℕ) → Movement (Option ℤ) K → ℕ
+    → Option Numbers
 number_lists content m = list_of ints_meaning content m
 
 -- the numbers of a column
-abbrev pub numbers_in : {K : Type 0} → (K → List ℕ) → Movement (Option ℤ) K → Vector (Option ℤ)
-    → Numbers
+abbrev pub numbers_in : {K : Type 0} → (K → List ℕ) → Movement (Option ℤ) K
+    → Vector (Option ℤ) → Numbers
 numbers_in content m c = elements (number_lists content m) c
 
 -- each piece with the flags of its places; the pieces are of adjacent places

@@ -13,7 +13,7 @@ pub record BeginGroups {K : Type 0} (old new : Movement (Option ℤ) K)
     (columns becoming : NumberColumns) : Type 0 where
   -- their objects are the last ones
   pub last : AreBegunLast new becoming
-  -- `unpush_numbers` would undo it
+  -- `unpush_numbers` would undo the push
   pub unpushed : map after_unpush becoming ≡ columns
   pub uncreated : after_uncreate_all (length columns) new ≡ old
 
@@ -30,7 +30,7 @@ module _ {K : Type 0} (content : K → List ℕ) (old new : Movement (Option ℤ
     pub begun : all_begin was ≡ true → BeginGroups old new was becoming
     pub free : push_numbers_refusal old was ≡ None
 
-  -- what a call leaves alone that changes these columns: every column that is disjoint from them
+  -- a call that changes these columns leaves alone every column that is disjoint from them
   pub record ChangesNumbers (is_of : K → List ℕ → Type 0) : Type 0 where
     pub others : KeepsNumbers (number_lists content old) (number_lists content new) was becoming
     pub copies : KeepsCopies ints_meaning content is_of old new

@@ -20,7 +20,7 @@ NumberLists = ℕ → Option Numbers
 abbrev pub NumberColumns : Type 0
 NumberColumns = List (Vector (Option ℤ))
 
--- columns of one table: their numbers are in these lists, and they have one length and one size of row groups
+-- columns of one table: their numbers are in these lists, and all have the same length and the same size of row groups
 pub record AreNumberColumns (lists : NumberLists) (columns : NumberColumns) : Type 0 where
   pub all_disjoint : AreVectors lists columns
   pub same_length : AllPairs (λ c d. (c.size ≡ d.size) × (c.len ≡ d.len)) columns
@@ -41,14 +41,14 @@ all_numbers_with lists (c ∷ columns) [] = []
 all_numbers_with lists (c ∷ columns) (number ∷ numbers) =
     (elements lists c ++ number ∷ []) ∷ all_numbers_with lists columns numbers
 
--- every column that is disjoint from these remains a column, keeps its numbers, and is disjoint from what they become
+-- every column that is disjoint from these remains a column, keeps its numbers, and is disjoint from the changed columns
 pub record KeepsNumbers (old new : NumberLists) (columns becoming : NumberColumns) : Type 0 where
   pub is : (w : Vector (Option ℤ)) → IsVector old w → All (λ c. AreDisjoint c w) columns
       → IsVector new w
   pub numbers : (w : Vector (Option ℤ)) → IsVector old w → All (λ c. AreDisjoint c w) columns
       → elements new w ≡ elements old w
-  pub disjoint : (w : Vector (Option ℤ)) → IsVector old w → All (λ c. AreDisjoint c w) columns
-      → All (λ c. AreDisjoint c w) becoming
+  pub disjoint : (w : Vector (Option ℤ)) → IsVector old w
+      → All (λ c. AreDisjoint c w) columns → All (λ c. AreDisjoint c w) becoming
 
 module _ {K : Type 0} where
   -- the objects after a number was appended to each column, one column after another

@@ -23,11 +23,11 @@ module _ {X : Type 0} (v : Vector X) where
   abbrev pub past_end : ℕ → Bool × Refusal
   past_end i = (not (nat_lt i v.len), refusal.OutOfRange)
 
-  -- the range is no range of the vector
+  -- the range ends before it begins, or past the end of the vector
   abbrev pub no_range : ℕ → ℕ → Bool × Refusal
   no_range from to = (nat_lt to from || nat_lt v.len to, refusal.OutOfRange)
 
-  -- the range crosses row groups
+  -- the range is not empty and crosses row groups
   abbrev pub crosses : ℕ → ℕ → Bool × Refusal
   crosses from to =
       unless_empty from to (not (from / v.size == (to - 1) / v.size), refusal.OutOfRange)
@@ -55,14 +55,14 @@ module _ {X K : Type 0} (m : Movement X K) (v : Vector X) where
       ∷ unless_empty from to (absent m (object_at v from))
       ∷ unless_empty from to (written_out m (object_at v from)) ∷ [])
 
-  -- the refusal that names the first of the range's row groups whose object is away
+  -- why borrowing a range, row group by row group, is refused (`pieces`); it names the first object that is away
   abbrev pub pieces_refusal : ℕ → ℕ → Option Refusal
   pieces_refusal from to =
       option_or (first_of (no_range v from to ∷ []))
       (first_absent m (take (overlapped_count v.size from to)
       (drop (first_overlapped v.size from) v.objects)))
 
-  -- why a push is refused: a new row group needs space, any other an object that may be written
+  -- why a push is refused: a new row group needs space, a begun one needs an object that may be written
   abbrev pub push_refusal : Option Refusal
   push_refusal =
       if is_full v then first_of (no_space m (length m.records) v.size ∷ [])

@@ -32,7 +32,7 @@ module _ {X : Type 0} where
   abbrev pub object_at : Vector X → ℕ → ℕ
   object_at v i = slice_index v.objects (i / v.size)
 
-  -- the list of row group g's object: the elements of its places, then the values of unused places
+  -- the list of row group g's object: the elements of its places, then the default value for each unused place
   abbrev pub group_list : Vector X → List X → ℕ → List X
   group_list v elements g =
       let used : List X = in_group v.size g elements
@@ -42,8 +42,9 @@ module _ {X : Type 0} where
   abbrev pub AreDisjoint : Vector X → Vector X → Type 0
   AreDisjoint v w = All (λ o. All (λ p. o ≢ p) w.objects) v.objects
 
-  -- no list of an object changes, except that of object o
-  abbrev pub KeepsOthers : (ℕ → Option (List X)) → (ℕ → Option (List X)) → ℕ → Type 0
+  -- every object except o keeps its list
+  abbrev pub KeepsOthers : (ℕ → Option (List X)) → (ℕ → Option (List X)) → ℕ
+      → Type 0
   KeepsOthers old new o = (p : ℕ) → p ≢ o → new p ≡ old p
 
   module _ (lists : ℕ → Option (List X)) where
@@ -61,14 +62,15 @@ module _ {X : Type 0} where
       pub unused : drop v.len (places v.objects)
           ≡ replicate (length v.objects * v.size - v.len) v.default_value
 
-  -- a range is written over the places of a vector from the i-th on, and every object's list keeps its length
+  -- a range is written over the places of a vector from the i-th on, and each of its objects' lists has a row group's size
   pub record WritesPlaces (old new : ℕ → Option (List X)) (v : Vector X) (i : ℕ)
       (range : List X) : Type 0 where
     pub whole : All (λ o. IsSomeAnd (new o) (λ list. length list ≡ v.size)) v.objects
     pub places : places new v.objects
-        ≡ take i (places old v.objects) ++ (range ++ drop (i + length range) (places old v.objects))
+        ≡ take i (places old v.objects)
+        ++ (range ++ drop (i + length range) (places old v.objects))
 
-  -- the vector w, which shares no object with another, is unchanged after that other becomes v
+  -- after a call on another vector, which is now v, the vector w keeps its elements and shares no object with v
   pub record IsUntouched (old new : ℕ → Option (List X)) (v w : Vector X) : Type 0 where
     pub is : IsVector new w
     pub elements : elements new w ≡ elements old w

@@ -8,7 +8,7 @@ module _ {X : Type 0} where
     pub each : All (IsVector lists) vectors
     pub disjoint : AllPairs AreDisjoint vectors
 
-  -- a call changes v to v', and no vector that is disjoint from v
+  -- a call changes v to v', and changes no vector that is disjoint from v
   pub record ChangesVector (old new : ℕ → Option (List X)) (v v' : Vector X) : Type 0 where
     pub is : IsVector new v'
     pub others : (w : Vector X) → IsVector old w → AreDisjoint v w → IsUntouched old new v' w

@@ -5,7 +5,7 @@ use far_types::Refusal;
 use std::alloc::Global;
 use std::marker::Model;
 
-/// The alive flags of a table's places, by place number. Contracts see their list.
+/// The alive flags of a table's places, by place number. Contracts see them as a list.
 #[derive(Drop)]
 pub struct Alive {
     flags: Vec<bool>,
@@ -36,15 +36,14 @@ impl Alive {
         self.flags.len()
     }
 
-    /// Returns whether a place is alive; `None` if there is no such place. Allocates nothing.
+    /// Returns whether a place is alive, or `None` if there is no such place. Allocates nothing.
     pub fn get(&self, place: usize) -> Option<bool>
         ensures { result ≡ slice_get self.now place }
     {
         self.flags.get(place).copied()
     }
 
-    /// Appends a place, which is alive. Refused only with `NoMemory` (1). A refused call changes
-    /// nothing.
+    /// Appends a place that is alive. Refused only with `NoMemory` (1). A refused call changes nothing.
     pub fn push(&mut self) -> Result<(), Refusal>
         ensures ok { OnOk result (self.new ≡ self.old ++ true ∷ []) }
         ensures memory { IfErr result (λ e. e ≡ Refusal.NoMemory) }
@@ -62,7 +61,7 @@ impl Alive {
         self.flags.pop();
     }
 
-    /// Clears the flag of a place. Allocates nothing.
+    /// Clears the flag of a place, which is then no longer alive. Allocates nothing.
     pub fn clear(&mut self, place: usize)
         requires { place < length self.old }
         ensures { self.new ≡ slice_set self.old place false }

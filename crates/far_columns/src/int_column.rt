@@ -21,13 +21,13 @@ pub use together::{fill_numbers, may_push_numbers, push_numbers, unpush_numbers}
 /// S>` that each call takes.
 pub type IntColumn = FarVector<Option<i64>>;
 
-/// Borrows the numbers of the places `from` up to `to` of a column with their alive flags, as a piece for each row group that
-/// has some of them. Allocates nothing.
+/// Borrows the numbers of the places `from` up to `to` of a column, with their alive flags. Returns one piece for each row
+/// group that has some of these places. Allocates nothing.
 ///
 /// Refused with the first of these that applies:
 ///
 /// - `OutOfRange` (14): `from` is above `to`, or `to` is past the end.
-/// - `Absent` (16): the object of a row group with some of them is away. The refusal names the first such object.
+/// - `Absent` (16): the object of a row group with some of these places is away. The refusal names the first such object.
 pub fn lend_numbers<'a, S: FarTickets>(
     column: &'a IntColumn,
     objects: &'a Objects<Option<i64>, S>,

@@ -7,16 +7,15 @@ use crate::Pieces;
 use far_store::FarTickets;
 use std::marker::Model;
 
-/// The numbers of adjacent places of one row group, each of which may be missing, and the alive flag of each place. Both
-/// slices are borrowed.
+/// The borrowed numbers of adjacent places of one row group, and the alive flag of each place. A number may be missing.
 #[derive(Drop)]
 pub struct Lent<'a> {
     pub values: &'a [Option<i64>],
     pub alive: &'a [bool],
 }
 
-/// An iterator over a part of a column. It returns one piece for each row group that has some of the part, with the flags of
-/// its places. No piece is empty.
+/// An iterator over a part of a column. It returns one piece for each row group that has places of the part, with their alive
+/// flags. No piece is empty.
 #[derive(Drop)]
 pub struct Lents<'a, S: FarTickets> {
     pieces: Pieces<'a, Option<i64>, S>,

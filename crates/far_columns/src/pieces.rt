@@ -1,4 +1,4 @@
-// Parts of a vector, borrowed from several objects.
+// Parts of vectors, each borrowed from several objects.
 ghost use Rattle.std.specs.Prelude.{◌≡◌, [], ◌∷◌, length, None, IfSome, IfNone};
 ghost use Rattle.far_scopes.specs.Movement.{list_of};
 ghost use Rattle.far_columns.specs.Vector.{IsVector, elements};
@@ -11,8 +11,8 @@ use far_scopes::Objects;
 use far_store::FarTickets;
 use std::marker::Model;
 
-/// An iterator over a part of a vector. It returns one slice for each row group that has some of the part, borrowed from its
-/// object. No slice is empty.
+/// An iterator over a part of a vector. It returns one slice for each row group that has places of the part, borrowed from
+/// the row group's object. No slice is empty.
 #[derive(Drop)]
 pub struct Pieces<'a, T: Elem, S: FarTickets> {
     vector: &'a FarVector<T>,
@@ -66,8 +66,8 @@ impl<'a, T: Elem, S: FarTickets> Pieces<'a, T, S> {
 
     /// Returns the next piece, or `None` at the end. Allocates nothing.
     ///
-    /// This is no `Iterator`: the prover cannot prove a method of that trait if it calls something that requires elements
-    /// that threads may share.
+    /// `Pieces` does not implement `Iterator`: the prover cannot prove a method of that trait if it calls a function that
+    /// requires elements that threads may share.
     pub fn next(&mut self) -> Option<&'a [T]>
         ensures first { IfSome result (λ piece. self.old ≡ piece.now ∷ self.new) }
         ensures none { IfNone result ((self.old ≡ []) × (self.new ≡ [])) }

@@ -1,4 +1,4 @@
-// Vectors, one object for each row group.
+// Vectors over far objects, with one object for each row group.
 ghost use Rattle.std.specs.Prelude.{◌≡◌, ℕ, ◌-◌, ◌*◌, ◌/◌, ◌%◌, ◌<◌, List, [], length, replicate, Option, false, IfOk, IfErr, IsSomeAnd, slice_get};
 ghost use Rattle.far_scopes.specs.Movement.{list_of};
 ghost use Rattle.far_columns.specs.Vector.{IsShaped, IsVector, object_at};
@@ -15,7 +15,7 @@ use far_types::{Reciprocal, Refusal};
 use std::alloc::Global;
 use std::marker::Model;
 
-// A place of a list: its row group's object, and its index in that object's list.
+// A place of a vector: its row group's object, and its index in that object's list.
 #[derive(Clone, Copy, Debug)]
 struct Position {
     place: usize,
@@ -26,8 +26,8 @@ struct Position {
 /// A list of elements that is stored in objects, one object for each row group. Many vectors share the objects, which each
 /// call takes as an argument.
 ///
-/// Each object has as many elements as a row group. Unused places have the default value. The vector's column and the row
-/// group name each object.
+/// Each object has as many elements as a row group has places. Unused places have the default value. The name of an object is
+/// the vector's column and the row group.
 #[derive(Drop)]
 pub struct FarVector<T: Elem> {
     column: u32,
@@ -36,7 +36,7 @@ pub struct FarVector<T: Elem> {
     objects: Vec<u32>,
     len: usize,
     default_value: T,
-    // The list for the next row group: all but its first element have the default value.
+    // The list from which the next row group is made. All but its first element have the default value.
     next: Vec<T>,
 }
 
@@ -65,9 +65,9 @@ impl<T: Elem> Model for FarVector<T> {
 }
 
 impl<T: Elem> FarVector<T> {
-    /// Makes the empty vector of a column, in row groups of `size` elements. Unused places have `default_value`.
+    /// Makes the empty vector of a column. A row group has `size` places; the unused ones have `default_value`.
     ///
-    /// Allocates all memory for elements outside the objects. Refused only with `NoMemory` (1).
+    /// Allocates a list of `size` elements. Later calls allocate elements only in the objects. Refused only with `NoMemory` (1).
     pub fn new(
         alloc: Global,
         column: u32,
@@ -113,7 +113,7 @@ impl<T: Elem> FarVector<T> {
         self.size
     }
 
-    /// Returns the number of a row group's object, and `None` exactly if there is no such row group. Allocates nothing.
+    /// Returns the number of a row group's object, or `None` exactly if there is no such row group. Allocates nothing.
     pub fn object(&self, group: u32) -> Option<u32>
         ensures { result ≡ slice_get self.now.objects group }
     {
@@ -146,7 +146,7 @@ impl<T: Elem> FarVector<T> {
         self.position_in(objects, group, i)
     }
 
-    // Returns the position of the next element, which is in the last row group. That must have been begun.
+    // Returns the position of the next element. The last row group must have an unused place for it.
     #[inline(always)]
     fn next_position<S: FarTickets>(&self, objects: &Objects<T, S>) -> Position
         requires is { IsVector (list_of T.meaning S.content objects.now) self.now }
@@ -162,7 +162,7 @@ impl<T: Elem> FarVector<T> {
         self.position_in(objects, self.objects.len() - 1, self.len)
     }
 
-    // Returns the position of a place in a row group. For the proof: by the contract of `number`, its object is in use.
+    // Returns the position of a place in a row group that has been begun. The caller passes the row group.
     #[inline(always)]
     fn position_in<S: FarTickets>(
         &self,
@@ -182,7 +182,7 @@ impl<T: Elem> FarVector<T> {
             (λ list. length list ≡ self.now.size) }
         ensures shaped { IsShaped self.now }
     {
-        // For the proof: shows that an object with a list is in use.
+        // For the proof: the contract of `number` shows that an object with a list is in use.
         let _ = objects.number();
         Position {
             place: i,

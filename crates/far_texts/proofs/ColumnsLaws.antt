@@ -44,7 +44,7 @@ module _ (old new : Lists) (columns : List Texts) (are : AreTextColumns old colu
       let all_disjoint = was-all_disjoint AreDisjoint disjoint-turned (IsTextColumn old) (IsTextColumn new) columns are.each are.disjoint k c c' at change.is others-are j d ne within in
       ap (texts_in new) (other AreDisjoint disjoint-turned (IsTextColumn old) (IsTextColumn new) columns are.each are.disjoint k c c' at change.is others-are j d ne) ∙ change.others.texts (slice_index_or columns j d) (are.each j d within) all_disjoint
 
--- lists that do not change
+-- if no list changes, no column changes
 pub columns-stay : (old new : Lists) (columns : List Texts) → AreTextColumns old columns → ((o : ℕ) → new o ≡ old o) → AreTextColumns new columns
 columns-stay old new columns are same = record {
   each = λ k d within. column-unchanged old new (slice_index_or columns k d) (λ j below. same (get_or (slice_index_or columns k d).objects j 0)) (are.each k d within);
@@ -54,7 +54,7 @@ columns-stay old new columns are same = record {
 pub texts-stay : (old new : Lists) (c : Texts) → ((o : ℕ) → new o ≡ old o) → texts_in new c ≡ texts_in old c
 texts-stay old new c same = texts-in-unchanged old new c (λ j below. same (get_or c.objects j 0))
 
--- no column has the object of a row group that was just begun, since it had no list
+-- no other column has the object of a row group that was just begun, since this object had no list before
 begun-disjoint : (lists : Lists) (c d : Texts) (o : ℕ) → lists o ≡ None → IsTextColumn lists d → AreDisjoint c d → AreDisjoint (column-begun c o) d
 begun-disjoint lists c d o fresh is disjoint group other p here there =
     let at : get_or (c.objects ++ o ∷ []) group 0 ≡ p = get_or_from_slice_get (c.objects ++ o ∷ []) group p 0 here in

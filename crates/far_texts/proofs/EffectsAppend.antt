@@ -27,7 +27,7 @@ use Rattle.far_texts.proofs.TextsSpace.{not-full, some-group}
 use Rattle.far_texts.proofs.TextsChanges.{some-and, column-changed, group-texts, group-others, keeps-others, texts-in-unchanged}
 use Rattle.far_texts.proofs.EffectsSet.{none-due}
 
--- a column has at most as many objects as there are
+-- a column has at most as many objects as there are objects
 pub few-objects : (lists : Lists) (c : Texts) (count : ℕ) → IsTextColumn lists c → ((k : ℕ) → k < length c.objects → get_or c.objects k 0 < count) → length c.objects ≤ count
 few-objects lists c count is used =
     length-le_from_distinct_below c.objects count (IsDistinct-from_AllPairs Decides-eqb c.objects is.once) (λ q here.
@@ -35,7 +35,7 @@ few-objects lists c count is used =
     let at : q ≡ get_or c.objects found.0 0 = eqb-true q found.1 found.4 ∙ sym found.3 ∙ get_or_default c.objects found.0 found.1 0 found.2 in
     subst (λ o. o < count) (sym at) (used found.0 found.2))
 
--- one more row group
+-- a column with one more row group still has its sizes within the limits
 pub has-more : (c : Texts) (o : ℕ) → HasGroups c → begins_group c ≡ true → length c.objects < 2 ^ 28 → HasGroups record { column = c.column; size = c.size; limit = c.limit; objects = c.objects ++ o ∷ []; len = c.len + 1 }
 has-more c o has begins few =
     let count = length_push c.objects o in
@@ -49,7 +49,7 @@ has-more c o has begins few =
       begun = subst (λ n. n * c.size < c.len + 1 + c.size) (sym count) (omega (arith, full, has.some));
     }
 
--- a form has the bytes of its texts
+-- a form is the only form of its texts
 pub form-is : (bytes : List ℕ) (texts : List (Option (List ℕ))) → IsTextsForm bytes → texts_meaning bytes ≡ texts → bytes ≡ texts_form texts
 form-is bytes texts form means = form.is ∙ ap texts_form means
 

@@ -22,7 +22,7 @@ use Rattle.far_texts.proofs.Joined.{joined-set}
 use Rattle.far_texts.proofs.TextsGroups.{group-form, place-begun, place-inside, before-full}
 use Rattle.far_texts.proofs.TextsChanges.{column-changed, group-texts, group-others, keeps-others, keeps-same}
 
--- no refusal applies if none of the tests is true
+-- if no refusal applies, each of the tests is false
 pub none-due : (cases : List (Bool × Refusal)) (k : ℕ) (test : Bool × Refusal) → None ≡ first_of cases → slice_get cases k ≡ Some test → test.0 ≡ false
 none-due [] k test none at = absurd cc
 none-due ((true, e) ∷ cases) k test none at = absurd cc

@@ -1,4 +1,4 @@
--- Joined lists, all but the last of one length.
+-- Joined lists. All but the last have one length.
 use Rattle.std.proofs.Common.{◌≡◌, ◌≢◌, ℕ, zero, suc, ◌+◌, ◌-◌, ◌*◌, ◌<◌, ◌≤◌, List, [], ◌∷◌, ◌++◌, length, get_or, set, take, drop, refl, sym, ap, ◌∙◌, arith, append_assoc}
 use Rattle.std.specs.List.{flat_map}
 use Rattle.std.proofs.lemmas.List.{length-append, append-nil, set-append_left, set-append_right, drop_all}
@@ -20,7 +20,7 @@ module _ {X : Type 0} where
       let front : length (flat_map f (take g os)) ≡ g * size = length-before f os size g (omega arith) full in
       ap (λ n. get_or (flat_map f os) (n + i) d) (sym front) ∙ get_or-flat_map f os g i 0 d within inside
 
-  -- joining lists that are the same
+  -- joining equal lists
   pub joined-same : (f h : ℕ → List X) (os : List ℕ) → ((k : ℕ) → k < length os → h (get_or os k 0) ≡ f (get_or os k 0)) → flat_map h os ≡ flat_map f os
   joined-same f h [] same = refl
   joined-same f h (o ∷ os) same =

@@ -19,12 +19,12 @@ use Rattle.far_texts.specs.Lending.{IsCursor}
 use Rattle.far_texts.proofs.TextsGroups.{text-lent}
 
 module _ {K X : Type 0} where
-  -- a list paired with an empty one
+  -- a list paired with an empty list is empty
   pub zip-none : (xs : List X) (ys : List K) → ys ≡ [] → zip xs ys ≡ []
   zip-none [] ys none = refl
   zip-none (x ∷ xs) ys none = rw none refl
 
-  -- a list paired with the flags of its first elements
+  -- pairing a list with few flags pairs only its first elements
   pub zip-front : (n : ℕ) (xs : List X) (ys : List K) → length ys ≤ n → zip xs ys ≡ zip (take n xs) ys
   zip-front zero xs [] few = zip-none xs [] refl
   zip-front zero xs (y ∷ ys) few = absurd (omega arith)
@@ -32,19 +32,19 @@ module _ {K X : Type 0} where
   zip-front (suc n) (x ∷ xs) [] few = refl
   zip-front (suc n) (x ∷ xs) (y ∷ ys) few = ap (λ l. (x, y) ∷ l) (zip-front n xs ys (omega arith))
 
-  -- the next pair
+  -- the first pair of a list of pairs, and the rest
   pub zip-next : (xs : List X) (place : ℕ) (x : X) (y : K) (ys : List K) → slice_get xs place ≡ Some x → zip (drop place xs) (y ∷ ys) ≡ (x, y) ∷ zip (drop (place + 1) xs) ys
   zip-next xs place x y ys here =
       ap (λ l. zip l (y ∷ ys)) (drop_more xs place x (slice_get_within xs place x here))
       ∙ ap (λ z. (z, y) ∷ zip (drop (place + 1) xs) ys) (get_or_from_slice_get xs place x x here)
 
--- the next number of a range
+-- the first number of a range, and the rest
 pub range-next : (xs : List ℕ) (from to : ℕ) → from < to → to ≤ length xs → slice_range xs from to ≡ get_or xs from 0 ∷ slice_range xs (from + 1) to
 range-next xs from to below within =
     let more : to - from ≡ suc (to - (from + 1)) = omega arith in
     ap (take (to - from)) (drop_more xs from 0 (omega arith)) ∙ ap (λ n. take n (get_or xs from 0 ∷ drop (from + 1) xs)) more
 
--- depending on whether an object is local
+-- which refusal applies, by whether an object is local
 away-by : (local : Bool) (name e : Refusal) (rest : Option Refusal) → Some e ≡ cond (not local) (Some name) None → cond local rest (Some name) ≡ Some e
 away-by true name e rest due = absurd cc
 away-by false name e rest due = sym due
@@ -98,11 +98,11 @@ module _ {K : Type 0} (m : Movement ℕ K) where
 pub few-texts : (c : Texts) → HasGroups c → c.len ≤ 2 ^ 44
 few-texts c has = omega (arith, has.held, mul-le-mul_right {m = length c.objects} {n = 2 ^ 28} c.size has.few, has.small)
 
--- a part of a list paired with an equally long part of another
+-- the rest of a list, paired with a part of another, is paired only in that part
 pub zip-part : {K X : Type 0} (xs : List X) (ys : List K) (from to : ℕ) → zip (drop from xs) (slice_range ys from to) ≡ zip (slice_range xs from to) (slice_range ys from to)
 zip-part xs ys from to = zip-front (to - from) (drop from xs) (slice_range ys from to) (omega (arith, length-take (to - from) (drop from ys)))
 
--- the row group and index of a place at a distance from the beginning of a row group
+-- the row group and index of a place that is `index` places after the beginning of a row group
 pub split-place : (place group index size : ℕ) → index < size → place ≡ group * size + index → (group ≡ place / size) × (index ≡ place % size)
 split-place place group index size inside at =
     let some : 0 < size = omega (arith, inside) in
@@ -112,7 +112,7 @@ split-place place group index size inside at =
     let whole : place / size * size + place % size ≡ place = div-add-mod' place size in
     (same, omega (arith, whole, at, ap (λ n. n * size) same))
 
--- depending on whether a place exists and its object is local
+-- if reading a place is not refused, the place exists
 of-free : (below local : Bool) (first name : Refusal) → cond (not below) (Some first) (cond (not local) (Some name) None) ≡ None → (below ≡ true) × (cond (not local) (Some name) None ≡ None)
 of-free true local first name free = (refl, free)
 of-free false local first name free = absurd cc
@@ -124,7 +124,7 @@ module _ {K : Type 0} (content : K → List ℕ) (m : Movement ℕ K) (c : Texts
       let both = of-free (ltb place c.len) (is_local m (object_at c place)) NoRow (absent m (object_at c place)).1 free in
       (ltb-true place c.len both.0, both.1)
 
-  -- so is the object of its row group
+  -- the object of the row group that contains such a place is local
   pub group-here : (place group index : ℕ) → HasGroups c → index < c.size → place ≡ group * c.size + index → text_refusal content m c place ≡ None → (group < length c.objects) × (lend_refusal m (get_or c.objects group 0) ≡ None)
   group-here place group index has inside at free =
       let here = lent-here place free in

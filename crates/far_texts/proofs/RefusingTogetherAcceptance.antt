@@ -17,7 +17,7 @@ use Rattle.far_texts.specs.Together.{AreColumns, all_begin}
 use Rattle.far_texts.specs.RefusingTogether.{any_too_long, any_full, absents, first_tests, last_tests, push_texts_refusal}
 use Rattle.far_texts.proofs.TogetherChecks.{none-begin, here-begun, here-longer}
 
--- no case of two lists applies
+-- if no case of two joined lists applies, none of either does
 both-free : (cases more : List (Bool × Refusal)) → first_of (cases ++ more) ≡ None → (first_of cases ≡ None) × (first_of more ≡ None)
 both-free [] more free = (refl, free)
 both-free ((true, e) ∷ cases) more free = absurd cc
@@ -42,7 +42,7 @@ module _ {K : Type 0} (content : K → List ℕ) (m : Movement ℕ K) (columns :
     pub none-full : first_of (full ∷ []) ≡ None
     none-full = parts.1
 
-    -- no form is to be made of an object that is away
+    -- no new form has to be made from an object that is away
     pub all-here : AreColumns (lists_of content m) columns → All HasGroups columns → All (λ (c : Texts). next_length_refusal content m c ≡ None) columns
     all-here are groups = elim (cases_Bool (all_begin columns)) [
       | inl begin ↦ λ k d below. here-begun m content (slice_index_or columns k d) (AllPass-from_list_all begins_group columns begin k d below)

@@ -1,4 +1,4 @@
--- Whether the new form of some of several columns would be too long.
+-- Whether the new form of one of several columns would be too long.
 use Rattle.std.proofs.Common.{◌≡◌, ℕ, zero, suc, ◌+◌, ◌<◌, ◌≤◌, Bool, true, false, ltb, List, [], ◌∷◌, length, get_or, drop, Option, None, Some, refl, ap, subst, ◌∙◌}
 use Rattle.std.specs.Prelude.{◌||◌, slice_get}
 use Rattle.std.proofs.lemmas.Bool.{le-ltb, lt-ltb, ltb-false}

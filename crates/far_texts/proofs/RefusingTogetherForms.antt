@@ -29,7 +29,7 @@ module _ (lists : Lists) where
   abbrev pub lens-from : ℕ → List Texts → List (Option (List ℕ)) → List ℕ
   lens-from n columns texts = map (λ (form : ℕ × List ℕ). length form.1) (next_forms lists n columns texts)
 
-  -- each column has a length
+  -- there are as many lengths as columns
   pub length-lens : (n : ℕ) (columns : List Texts) (texts : List (Option (List ℕ))) → length texts ≡ length columns → length (lens-from n columns texts) ≡ length columns
   length-lens n columns texts same_length = length-map (next_forms lists n columns texts) (λ (form : ℕ × List ℕ). length form.1) ∙ length-next lists n columns texts same_length
 
@@ -65,7 +65,7 @@ module _ (lists : Lists) where
         ∙ was
 
 module _ {K : Type 0} (m : Movement ℕ K) where
-  -- if the row groups have been begun, the objects that get another form are the last ones
+  -- if the row groups have been begun, the objects that get new forms are the last objects of the columns
   pub any-out : (lists : Lists) (n : ℕ) (columns : List Texts) (texts : List (Option (List ℕ))) → length texts ≡ length columns → All (λ (c : Texts). begins_group c ≡ false) columns
       → list_any (λ (c : Texts). (written_out m (last_object c)).0) columns ≡ (some_written_out m (next_forms lists n columns texts)).0
   any-out lists n [] texts same_length begun = refl
@@ -80,7 +80,7 @@ module _ {K : Type 0} (m : Movement ℕ K) where
   pub last-here : (content : K → List ℕ) (c : Texts) → begins_group c ≡ false → next_length_refusal content m c ≡ None → None ≡ first_of (absent m (last_object c) ∷ [])
   last-here content c begun free = sym (sym (ap (λ (b : Bool). first_of (cond b [] (absent m (last_object c) ∷ []))) begun) ∙ free)
 
--- if the forms fit and the row groups have been begun, the remaining question is whether the objects may be written
+-- if the forms fit and the row groups have been begun, only the test whether the objects may be written remains
 pub space-longer : (used : Bool × Refusal) (fits begins : Bool) → fits ≡ true → begins ≡ false → first_of (used ∷ []) ≡ first_of ((not fits, RegionFull) ∷ cond begins [] (used ∷ []))
 space-longer used false begins space begun = absurd cc
 space-longer used true true space begun = absurd cc
@@ -102,21 +102,21 @@ module _ {K : Type 0} (content : K → List ℕ) (m : Movement ℕ K) (columns :
       ap (λ cases. first_of (any_too_long texts ∷ cases)) (append_assoc away (full ∷ []) (last_tests content m columns texts))
       ∙ first-append (any_too_long texts ∷ away) (full ∷ last_tests content m columns texts)
 
--- two tests, of which the first refuses nothing, or something
+-- two tests: the second decides if the first refuses nothing, and else the first does
 pub second-asked : (all first second : Option Refusal) → all ≡ option_or first second → None ≡ first → second ≡ all
 second-asked all first second is free = sym (is ∙ ap (λ r. option_or r second) (sym free))
 
 pub first-asked : (all first second : Option Refusal) (e : Refusal) → all ≡ option_or first second → Some e ≡ first → Some e ≡ all
 first-asked all first second e is due = sym (is ∙ ap (λ r. option_or r second) (sym due))
 
--- if no text is too long, the remaining question is whether an object is away
+-- if no text is too long, only the test whether an object is away remains
 pub away-asked : (short : Bool × Refusal) (away : List (Bool × Refusal)) (begins : Bool) → None ≡ first_of (short ∷ []) → begins ≡ false → first_of away ≡ first_of (short ∷ cond begins [] away)
 away-asked short away begins fits begun = sym (first-none short (cond begins [] away) fits ∙ ap (λ (b : Bool). first_of (cond b [] away)) begun)
 
 pub begun-asked : (short : Bool × Refusal) (away : List (Bool × Refusal)) (begins : Bool) → None ≡ first_of (short ∷ []) → begins ≡ true → None ≡ first_of (short ∷ cond begins [] away)
 begun-asked short away begins fits begin = sym (first-none short (cond begins [] away) fits ∙ ap (λ (b : Bool). first_of (cond b [] away)) begin)
 
--- what follows if nothing was refused
+-- after `Ok`, P is true if no refusal implies P
 pub ok-follows : {A : Type 0} (r : Result A Refusal) (due : Option Refusal) (P : Type 0) → refusal_in r ≡ due → (None ≡ due → P) → OnOk r P
 ok-follows (Ok x) due P is then = then is
 ok-follows (Err e) due P is then = tt

@@ -24,7 +24,7 @@ any-mapped p f [] = refl
 any-mapped p f (x ∷ xs) = ap (λ b. p (f x) || b) (any-mapped p f xs)
 
 module _ {K : Type 0} (content : K → List ℕ) (m : Movement ℕ K) (columns : List Texts) (texts : List (Option (List ℕ))) where
-  -- a refusal of the first tests is the first of all
+  -- a refusal of the first tests is the refusal of all tests
   pub due-first : (e : Refusal) → Some e ≡ first_of (first_tests content m columns texts) → push_texts_refusal content m columns texts ≡ Some e
   due-first e due = first-append (first_tests content m columns texts) (last_tests content m columns texts) ∙ ap (λ r. option_or r (first_of (last_tests content m columns texts))) (sym due)
 
@@ -35,7 +35,7 @@ module _ {K : Type 0} (content : K → List ℕ) (m : Movement ℕ K) (columns :
     lengths : map (λ (form : ℕ × List ℕ). length form.1) (next_forms (lists_of content m) (length m.records) columns texts) ≡ map (λ (r : Replacement ℕ). length r.list.items) forms
     lengths = ap (map (λ (form : ℕ × List ℕ). length form.1)) (sym is) ∙ map-map (λ (form : ℕ × List ℕ). length form.1) (λ (r : Replacement ℕ). (r.object, r.list.items)) forms
 
-    -- whether the forms fit, if row groups begin
+    -- if row groups begin, the only remaining test is whether the forms fit
     module _ (begins : all_begin columns ≡ true) where
       due-begun : push_texts_refusal content m columns texts ≡ first_of ((not (fit_in_order (spaces_of m.memory.state) (map (λ (r : Replacement ℕ). length r.list.items) forms)), RegionFull) ∷ [])
       due-begun = due-last
@@ -48,7 +48,7 @@ module _ {K : Type 0} (content : K → List ℕ) (m : Movement ℕ K) (columns :
       pub begun-full : fit_in_order (spaces_of m.memory.state) (map (λ (r : Replacement ℕ). length r.list.items) forms) ≡ false → push_texts_refusal content m columns texts ≡ Some RegionFull
       begun-full full = due-begun ∙ ap (λ b. first_of ((not b, RegionFull) ∷ [])) full
 
-    -- the refusal of the objects is the one that applies, if the row groups have been begun
+    -- if the row groups have been begun, the refusal of `replace_all` is the one that applies
     module _ (begins : all_begin columns ≡ false) (here : first_absent m (map (λ (r : Replacement ℕ). r.object) forms) ≡ None) where
       pub due-replaced : replace_all_refusal m forms ≡ push_texts_refusal content m columns texts
       due-replaced =
@@ -72,7 +72,7 @@ all-local {X = X} m (r ∷ rs) free =
     local-first false e rest free = absurd cc
 
 module _ {A : Type 0} (r : Result A Refusal) (due first : Option Refusal) (free : None ≡ first) where
-  -- the refusal if an object is made for each column
+  -- which refusal is returned if an object is made for each column
   pub refused-begun : (fits : Bool) → (fits ≡ false → due ≡ Some RegionFull) → IfErr r (λ e. ((e ≡ RegionFull) × (fits ≡ false)) ⊎ (e ≡ NoMemory)) → IfErr r (λ e. (due ≡ Some e) ⊎ ((first ≡ None) × (e ≡ NoMemory)))
   refused-begun fits full given = each r given
     where
@@ -81,7 +81,7 @@ module _ {A : Type 0} (r : Result A Refusal) (due first : Option Refusal) (free 
       each (Err e) (inl due) = inl (full due.1 ∙ ap Some (sym due.0))
       each (Err e) (inr is) = inr (sym free, is)
 
-  -- the refusal if the last object of each gets a new list
+  -- which refusal is returned if the last object of each column gets a new list
   pub refused-longer : (returned : Option Refusal) (here : Type 0) → returned ≡ due → IfErr r (λ e. (returned ≡ Some e) ⊎ (here × (e ≡ NoMemory))) → IfErr r (λ e. (due ≡ Some e) ⊎ ((first ≡ None) × (e ≡ NoMemory)))
   refused-longer returned here same given = each r given
     where

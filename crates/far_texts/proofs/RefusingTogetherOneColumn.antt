@@ -1,4 +1,4 @@
--- A single column is tested as it would be among several.
+-- For a single column, the tests of several columns are the column's own tests.
 use Rattle.std.proofs.Common.{◌≡◌, ℕ, Bool, true, false, cond, List, [], ◌∷◌, ◌++◌, length, get_or, Option, None, Some, refl, sym, ap, ◌∙◌, arith}
 use Rattle.std.specs.Prelude.{not, ◌||◌, ◌&&◌, is_some}
 use Rattle.std.specs.Option.{option_map_or}
@@ -22,7 +22,7 @@ or-false : (b : Bool) → (b || false) ≡ b
 or-false true = refl
 or-false false = refl
 
--- one list is placed if it fits
+-- a single list fits if some space is large enough
 one-fits : (spaces : List ℕ) (n : ℕ) → fit_in_order spaces (n ∷ []) ≡ is_some (lowest_for spaces n)
 one-fits spaces n = each (lowest_for spaces n)
   where
@@ -30,7 +30,7 @@ one-fits spaces n = each (lowest_for spaces n)
     each None = refl
     each (Some i) = refl
 
--- the tests of one column among several, and by itself
+-- for one column, the tests of several columns and the column's own tests find one refusal
 one-due : (begins short away full fits space used last : Bool) (e f g h i : Refusal) → fits ≡ space → (begins ≡ false → used ≡ last)
     → first_of ((short || false, e) ∷ ((cond (begins && true) [] ((away, f) ∷ []) ++ (full || false, g) ∷ []) ++ (not fits, h) ∷ cond (begins && true) [] ((used || false, i) ∷ [])))
     ≡ first_of (cond begins ((short, e) ∷ (full, g) ∷ (not space, h) ∷ []) ((short, e) ∷ (away, f) ∷ (full, g) ∷ (not space, h) ∷ (last, i) ∷ []))
@@ -55,7 +55,7 @@ module _ {K : Type 0} (content : K → List ℕ) (m : Movement ℕ K) where
       one-due (begins_group c) (text_too_long text).0 (absent m o).0 (chunk_full c texts).0 _ _ (written_out m (object_for c n)).0 (written_out m o).0
       refusal.TextTooLong (absent m o).1 refusal.ChunkFull refusal.RegionFull refusal.EditsUsedUp fits (λ begun. ap (λ p. (written_out m p).0) (object-longer c n begun))
 
-  -- a single column is tested by itself
+  -- a single column may be tested by `push_refusal`
   pub one-asked : (columns : List Texts) (texts : List (Option (List ℕ))) (c : Texts) (text : Option (List ℕ)) → length columns ≡ 1 → length texts ≡ length columns → c ≡ get_or columns 0 c → text ≡ get_or texts 0 text
       → push_refusal content m c text ≡ push_texts_refusal content m columns texts
   one-asked [] texts c text one same_length first given = absurd (omega arith)

@@ -29,19 +29,19 @@ module _ (old new : Lists) where
   pub texts-in-unchanged : (d : Texts) → ((k : ℕ) → k < length d.objects → new (get_or d.objects k 0) ≡ old (get_or d.objects k 0)) → texts_in new d ≡ texts_in old d
   texts-in-unchanged d same = joined-same (texts_at old) (texts_at new) d.objects (λ k below. texts-unchanged (get_or d.objects k 0) (same k below))
 
-  -- a column that does not have the object that changes keeps its lists
+  -- a column without the changed object keeps its lists
   module _ (o : ℕ) (now : Option (List ℕ)) (changes : ChangesList old new o now) where
     others-unchanged : (d : Texts) → ((k : ℕ) → slice_get d.objects k ≢ Some o) → (k : ℕ) → k < length d.objects → new (get_or d.objects k 0) ≡ old (get_or d.objects k 0)
     others-unchanged d disjoint k below = changes.others (get_or d.objects k 0) (λ e. disjoint k (slice_get-get_or d.objects k 0 below ∙ ap Some e))
 
-    -- if the object is one of the column's
+    -- if the changed object is one of column c's objects
     pub keeps-others : (c : Texts) (g : ℕ) → slice_get c.objects g ≡ Some o → KeepsOthers old new c
     keeps-others c g here = record {
       columns = λ d is disjoint. column-unchanged d (others-unchanged d (λ k. disjoint g k o here)) is;
       texts = λ d is disjoint. texts-in-unchanged d (others-unchanged d (λ k. disjoint g k o here));
     }
 
-    -- if the object is a new one
+    -- if the changed object is a new one
     pub keeps-others-new : (c : Texts) → old o ≡ None → KeepsOthers old new c
     keeps-others-new c none =
         let disjoint : (d : Texts) → IsTextColumn old d → (k : ℕ) → slice_get d.objects k ≢ Some o = λ d is k here. subst (λ list. IsSomeAnd list (IsGroupForm d k)) none (is.each k o here) in
@@ -54,7 +54,7 @@ pub keeps-same : (lists : Lists) (c : Texts) → KeepsOthers lists lists c
 keeps-same lists c = record { columns = λ d is _. is; texts = λ d is _. refl }
 
 module _ (old new : Lists) (c : Texts) (is : IsTextColumn old c) where
-  -- two row groups have two objects
+  -- different row groups have different objects
   pub two-objects : (g k : ℕ) → g < length c.objects → k < length c.objects → k ≢ g → get_or c.objects k 0 ≢ get_or c.objects g 0
   two-objects g k begun within disjoint same = elim (cases_lt k g) [
     | inl below ↦ is.once k g 0 below begun same

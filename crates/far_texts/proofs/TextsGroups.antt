@@ -14,7 +14,7 @@ use Rattle.far_codec.specs.TextForm.{texts_meaning}
 use Rattle.far_texts.specs.Texts.{Texts, Lists, HasGroups, IsTextColumn, IsGroupForm, texts_at, texts_in}
 use Rattle.far_texts.proofs.Joined.{length-before, joined-at}
 
--- a property of an object's list, if it has one
+-- a property of an object's list, if the object has one
 pub of-list : (list : Option (List ℕ)) (P : List ℕ → Type 0) → IsSomeAnd list P → P (unwrap_or list [])
 of-list None P here = absurd here
 of-list (Some bytes) P here = here
@@ -39,7 +39,7 @@ module _ (lists : Lists) (c : Texts) (is : IsTextColumn lists c) where
         let count = (group-form g (omega arith)).count in
         omega (arith, long, count, has.begun)
 
-    -- the texts of the last row group
+    -- how many texts the last row group has
     pub group-last : (g : ℕ) → suc g ≡ length c.objects → length (texts_at lists (get_or c.objects g 0)) + g * c.size ≡ c.len
     group-last g last =
         let count = (group-form g (omega arith)).count in
@@ -47,7 +47,7 @@ module _ (lists : Lists) (c : Texts) (is : IsTextColumn lists c) where
         let begun : suc g * c.size < c.len + c.size = subst (λ n. n * c.size < c.len + c.size) (sym last) has.begun in
         omega (arith, count, held, begun)
 
-    -- the row group and index of a place
+    -- the row group of a place has been begun and has the place's index, and the row groups before it are full
     pub place-begun : (place : ℕ) → place < c.len → place / c.size < length c.objects
     place-begun place below = div_below place c.size (length c.objects) has.some (omega (arith, has.held))
 
@@ -65,7 +65,7 @@ module _ (lists : Lists) (c : Texts) (is : IsTextColumn lists c) where
         ap (λ n. get_or (texts_in lists c) n d) (sym (div-add-mod' place c.size))
         ∙ joined-at (texts_at lists) c.objects c.size (place / c.size) (place % c.size) d (place-begun place below) (before-full place below) (place-inside place below)
 
--- how many elements joined lists have, all but the last of one length
+-- how many elements joined lists have if all but the last have one length
 length-joined : {X : Type 0} (f : ℕ → List X) (os : List ℕ) (size len : ℕ) → len ≤ length os * size → ((h : ℕ) → h + 1 < length os → length (f (get_or os h 0)) ≡ size) → ((h : ℕ) → suc h ≡ length os → length (f (get_or os h 0)) + h * size ≡ len) → length (flat_map f os) ≡ len
 length-joined f [] size len held full last = omega (arith, held)
 length-joined f (o ∷ os) size len held full last =
@@ -92,7 +92,7 @@ text-lent lists c is has place form text below lent returned =
     ∙ ap (λ l. Some (option_and_then (λ t. t) (slice_get l i))) same
     ∙ ap Some (sym returned)
 
--- a property of an object's list is one of the list that it lends
+-- the list that an object lends has each property of the object's list
 pub form-lent : (r : Result (Bor (List ℕ)) Refusal) (here rest : ℕ → Option (List ℕ)) (o p : ℕ) (P : List ℕ → Type 0) → o ≡ p → IfOk r (λ form. here o ≡ Some form.now) → P (unwrap_or (option_or (here p) (rest p)) []) → IfOk r (λ form. P form.now)
 form-lent (Ok form) here rest o p P same lent holds = subst P (ap (λ l. unwrap_or (option_or l (rest p)) []) (sym (ap here same) ∙ lent)) holds
 form-lent (Err refusal) here rest o p P same lent holds = tt

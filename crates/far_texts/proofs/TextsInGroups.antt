@@ -1,4 +1,4 @@
--- The texts of a row group are those that its object's list encodes.
+-- The texts of a row group are the texts that its object's list encodes.
 use Rattle.std.proofs.Common.{◌≡◌, ℕ, suc, inl, inr, ◌+◌, ◌*◌, ◌<◌, ◌≤◌, List, [], ◌∷◌, ◌++◌, length, get_or, take, drop, Option, Some, refl, sym, ap, subst, ◌∙◌, arith}
 use Rattle.std.specs.Prelude.{slice_get}
 use Rattle.std.specs.List.{flat_map}
@@ -21,7 +21,7 @@ use Rattle.far_texts.specs.Texts.{Texts, Lists, HasGroups, IsTextColumn, texts_a
 use Rattle.far_texts.proofs.Joined.{length-before, joined-changed}
 use Rattle.far_texts.proofs.TextsGroups.{group-form, group-full, place-begun, texts-length}
 
--- list g begins where g lists of one length end
+-- list g begins after g lists of one length
 cut-out : {X : Type 0} (f : ℕ → List X) (os : List ℕ) (size g : ℕ) → g < length os → ((h : ℕ) → h < g → length (f (get_or os h 0)) ≡ size) → drop (g * size) (flat_map f os) ≡ f (get_or os g 0) ++ flat_map f (drop (suc g) os)
 cut-out f os size g within full =
     let front = flat_map f (take g os) in
@@ -30,7 +30,7 @@ cut-out f os size g within full =
     ∙ ap (drop (length front)) (joined-changed f f os g within (λ k below disjoint. refl))
     ∙ drop-append_seam front (f (get_or os g 0) ++ flat_map f (drop (suc g) os))
 
--- the first n elements: a list that is no longer, followed by nothing, or a list of that length
+-- the first `size` elements are the first list, if it has that length, or if it is shorter and nothing follows
 taken-alone : {X : Type 0} (size : ℕ) (list back : List X) → length list ≤ size → back ≡ [] → take size (list ++ back) ≡ list
 taken-alone size list back short none = ap (λ l. take size (list ++ l)) none ∙ ap (take size) (append-nil list) ∙ take_all size list short
 

@@ -22,7 +22,7 @@ pub length-pushed : (n : ℕ) (columns : List Texts) → length (after_push_all 
 length-pushed n [] = refl
 length-pushed n (c ∷ columns) = ap suc (length-pushed (n + 1) columns)
 
--- the texts of each column
+-- each column has its texts, followed by its new one
 pub texts-all : (old new : Lists) (n : ℕ) (columns : List Texts) (texts : List (Option (List ℕ))) → length texts ≡ length columns
     → ((k : ℕ) (c : Texts) (text : Option (List ℕ)) → slice_get columns k ≡ Some c → slice_get texts k ≡ Some text → texts_in new (after_push c (n + k)) ≡ texts_in old c ++ text ∷ [])
     → map (texts_in new) (after_push_all n columns) ≡ all_texts_with old columns texts
@@ -53,7 +53,7 @@ module _ (old : Lists) (n : ℕ) (columns : List Texts) (are : AreColumns old co
     pub column-groups : HasGroups c
     column-groups = subst HasGroups is-at (groups k c within)
 
-    -- an object with a list that is not the column's is not the object of its next text
+    -- an object that has a list and is not one of the column's objects is not the object of the column's next text
     pub disjoint-from : (p : ℕ) (list : List ℕ) → old p ≡ Some list → ((g : ℕ) → slice_get c.objects g ≢ Some p) → p ≢ object_for c (n + k)
     disjoint-from p list has disjoint same = elim (cases_Bool (begins_group c)) [
       | inl begins ↦ none-some list (sym (fresh p (omega (arith, same ∙ object-begun c (n + k) begins))) ∙ has)
@@ -63,7 +63,7 @@ module _ (old : Lists) (n : ℕ) (columns : List Texts) (are : AreColumns old co
           disjoint last (slice_get-get_or c.objects last 0 (omega (arith, some)) ∙ ap Some (sym (same ∙ object-longer c (n + k) begins)))
     ]
 
-  -- two columns have no object in common
+  -- two of the columns have no object in common
   pub two-disjoint : (k j : ℕ) (c d : Texts) → slice_get columns k ≡ Some c → slice_get columns j ≡ Some d → k ≢ j → (g h o : ℕ) → slice_get c.objects g ≡ Some o → slice_get d.objects h ≢ Some o
   two-disjoint k j c d here there ne g h o at same = elim (cases_lt k j) [
     | inl below ↦

@@ -15,7 +15,7 @@ use Rattle.far_texts.specs.Effects.{begins_group, last_object}
 use Rattle.far_texts.specs.Refusing.{next_length_refusal}
 use Rattle.far_texts.specs.Together.{AreColumns, all_begin}
 
--- two columns of one length and one size of row groups both begin a row group, or neither does
+-- two columns with the same length and the same size of row groups both begin a row group, or neither does
 pub both-begin : (c d : Texts) → HasGroups c → HasGroups d → c.size ≡ d.size → c.len ≡ d.len → begins_group c ≡ true → begins_group d ≡ true
 both-begin c d has other size len begins =
     let full : c.len ≡ length c.objects * c.size = eqb-true c.len (length c.objects * c.size) begins in
@@ -43,7 +43,7 @@ module _ (lists : Lists) (columns : List Texts) (are : AreColumns lists columns)
   pub none-begin : all_begin columns ≡ false → All (λ (c : Texts). begins_group c ≡ false) columns
   none-begin = none-pass begins_group HasGroups (λ c d. (c.size ≡ d.size) × (c.len ≡ d.len)) (λ c d same_length. (sym same_length.0, sym same_length.1)) alike columns groups are.same_length
 
--- the tests before a form is made: a text too long, an object away, and a form too long
+-- the tests before a form is made: whether a text is too long, an object is away, or a form is too long
 module _ (short full : Bool × Refusal) (away : List (Bool × Refusal)) (fits : None ≡ first_of (short ∷ [])) where
   pub tests-away : (begins : Bool) (e : Refusal) → begins ≡ false → Some e ≡ first_of away → Some e ≡ first_of (short ∷ (cond begins [] away ++ full ∷ []))
   tests-away begins e not due =
@@ -65,7 +65,7 @@ away-begun begins away is = ap (λ (b : Bool). first_of (cond b [] away)) is
 pub away-longer : (begins : Bool) (away : List (Bool × Refusal)) → false ≡ begins → None ≡ first_of away → None ≡ first_of (cond begins [] away)
 away-longer begins away is free = free ∙ ap (λ (b : Bool). first_of (cond b [] away)) is
 
--- what follows if nothing is refused
+-- what is true after `Ok`
 pub where-ok : {A : Type 0} (r : Result A Refusal) (P : Type 0) → P → OnOk r P
 where-ok (Ok x) P p = p
 where-ok (Err e) P p = tt

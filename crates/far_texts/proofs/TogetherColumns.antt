@@ -10,7 +10,7 @@ use Rattle.far_texts.specs.Together.{AreColumns, next_forms, after_push_all, Cha
 use Rattle.far_texts.proofs.TextsGroups.{group-list}
 use Rattle.far_texts.proofs.TogetherAppends.{pushed-at, length-pushed, all-is, column-is}
 
--- an object of a column with one more text is one of its old ones, or the new one
+-- an object of a column with one more text is one of the column's old objects, or the new one
 pub object-of : (c : Texts) (o g q : ℕ) → slice_get (after_push c o).objects g ≡ Some q → (slice_get c.objects g ≡ Some q) ⊎ (q ≡ o)
 object-of c o g q here = elim (cases_Bool (begins_group c)) [
   | inl begins ↦
@@ -45,7 +45,7 @@ module _ (old : Lists) (n : ℕ) (columns : List Texts) (are : AreColumns old co
         absurd (none-some _ (sym (fresh q past) ∙ ap old (sym (get_or_from_slice_get c.objects g q 0 at)) ∙ list))
   ]
 
-  -- a column that has no object in common with these has none in common with what they become
+  -- a column that has no object in common with these columns has none in common with the columns after the call
   pub stays-disjoint : (d : Texts) → IsTextColumn old d → All (λ c. AreDisjoint c d) columns → All (λ c. AreDisjoint c d) (after_push_all n columns)
   stays-disjoint d is disjoint k e below =
       let inside : k < length columns = subst (λ m. k < m) (length-pushed n columns) below in

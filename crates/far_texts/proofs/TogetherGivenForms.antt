@@ -22,13 +22,13 @@ use Rattle.far_texts.proofs.TogetherNextForms.{next-at, length-next, all-at}
 use Rattle.far_texts.proofs.TogetherAppends.{column-is, column-groups, two-disjoint}
 use Rattle.far_texts.proofs.TogetherGrowth.{AreNumbered}
 
--- an object that is in none of the pairs
+-- an object that is in none of the pairs is in none of the replacements
 pub unlisted-given : (p : ℕ) (forms : List (Replacement ℕ)) → All (λ (form : ℕ × List ℕ). p ≢ form.0) (forms_of forms) → All (λ (r : Replacement ℕ). p ≢ r.object) forms
 unlisted-given p forms un k d below same =
     let pair : Replacement ℕ → ℕ × List ℕ = λ r. (r.object, r.list.items) in
     un k (pair d) (omega (arith, below, length-map forms pair)) (same ∙ ap (λ (f : ℕ × List ℕ). f.0) (sym (get_or-map pair forms k d (pair d) below)))
 
--- replacement k is the one of column k
+-- replacement k has the object and the new form of column k
 record IsGivenAt (lists : Lists) (n : ℕ) (columns : List Texts) (texts : List (Option (List ℕ))) (k : ℕ) (r : Replacement ℕ) : Type 0 where
   pub c : Texts
   pub text : Option (List ℕ)
@@ -72,7 +72,7 @@ module _ (lists : Lists) (n : ℕ) (columns : List Texts) (texts : List (Option 
   }
 
   module _ (are : AreColumns lists columns) (groups : All HasGroups columns) (fresh : (p : ℕ) → n ≤ p → lists p ≡ None) (begun : (k : ℕ) (c : Texts) → slice_get columns k ≡ Some c → begins_group c ≡ false) where
-    -- otherwise they are the last objects of the columns
+    -- otherwise the objects are the last objects of the columns
     last-of : (k : ℕ) (c : Texts) → slice_get columns k ≡ Some c → slice_get c.objects (length c.objects - 1) ≡ Some (last_object c)
     last-of k c here =
         let some = some-group c (column-groups lists n columns are groups fresh k c here) (begun k c here) in

@@ -47,7 +47,7 @@ numbered-first n r rest lists is numbered =
     let first : r.object ≡ n + 0 = subst (AreNumbered n) is numbered 0 r (omega arith) in
     omega arith
 
--- a number differs from those after it
+-- the number n differs from all numbers after it
 pub numbered-disjoint : (n : ℕ) (rest : List (Replacement ℕ)) → AreNumbered (n + 1) rest → All (λ form. n ≢ form.0) (forms_of rest)
 numbered-disjoint n rest numbered = All-map (λ (form : ℕ × List ℕ). n ≢ form.0) (λ (r : Replacement ℕ). (r.object, r.list.items)) rest (λ k d below same. let at = numbered k d below in omega (arith, same, at))
 

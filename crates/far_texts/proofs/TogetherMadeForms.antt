@@ -13,7 +13,7 @@ use Rattle.far_texts.specs.Effects.{group_with_next}
 use Rattle.far_texts.specs.Together.{object_for, next_forms, forms_of, IsNextForm}
 use Rattle.far_texts.proofs.EffectsAppend.{form-is}
 
--- bytes that mean the texts of the next row group are its form
+-- bytes that encode the texts of the next place's row group are its form
 pub is-next : (lists : Lists) (c : Texts) (text : Option (List ℕ)) (bytes : List ℕ) → IsTextsForm bytes → texts_meaning bytes ≡ group_with_next lists c text → length bytes ≡ texts_length (group_with_next lists c text) → texts_length (group_with_next lists c text) ≤ c.limit → IsNextForm lists c text
 is-next lists c text bytes form means long short =
     let is = form-is bytes (group_with_next lists c text) form means in
@@ -45,7 +45,7 @@ module _ (lists : Lists) (n : ℕ) (columns : List Texts) (texts : List (Option 
       ∙ ap (λ l. forms_of made ++ l) (sym next)
       ∙ was
 
-  -- the forms before it are made too
+  -- if the forms before form k are valid, and form k is, then all up to it are
   pub valid-more : IsNextForm lists c text → ((j : ℕ) (d : Texts) (t : Option (List ℕ)) → j < k → slice_get columns j ≡ Some d → slice_get texts j ≡ Some t → IsNextForm lists d t)
       → (j : ℕ) (d : Texts) (t : Option (List ℕ)) → j < k + 1 → slice_get columns j ≡ Some d → slice_get texts j ≡ Some t → IsNextForm lists d t
   valid-more here before j d t below at there = elim (cases_lt j k) [

@@ -22,7 +22,7 @@ module _ (lists : Lists) where
       let place : n + 1 + k ≡ n + suc k = omega arith in
       next-at (n + 1) columns texts k c text here there ∙ ap (λ i. Some (object_for c i, texts_form (group_with_next lists c text))) place
 
-  -- each column has one
+  -- there are as many next forms as columns
   pub length-next : (n : ℕ) (columns : List Texts) (texts : List (Option (List ℕ))) → length texts ≡ length columns → length (next_forms lists n columns texts) ≡ length columns
   length-next n [] texts same_length = refl
   length-next n (c ∷ columns) [] same_length = absurd (omega arith)
@@ -30,7 +30,7 @@ module _ (lists : Lists) where
       let rest = length-next (n + 1) columns texts (omega arith) in
       omega arith
 
-  -- an object that is none of these
+  -- an object that is not for any column's next text is not listed
   pub unlisted : (n : ℕ) (columns : List Texts) (texts : List (Option (List ℕ))) (p : ℕ) → ((k : ℕ) (c : Texts) → slice_get columns k ≡ Some c → p ≢ object_for c (n + k)) → All (λ form. p ≢ form.0) (next_forms lists n columns texts)
   unlisted n [] texts p disjoint = All-nil (λ (form : ℕ × List ℕ). p ≢ form.0)
   unlisted n (c ∷ columns) [] p disjoint = All-nil (λ (form : ℕ × List ℕ). p ≢ form.0)
@@ -39,6 +39,6 @@ module _ (lists : Lists) where
       (λ same. let place : n ≡ n + 0 = omega arith in disjoint 0 c refl (same ∙ ap (object_for c) place))
       (unlisted (n + 1) columns texts p (λ k d here same. let place : n + 1 + k ≡ n + suc k = omega arith in disjoint (suc k) d here (same ∙ ap (object_for d) place)))
 
--- a property of each element is one of the element at an index
+-- the element at an index has a property that all elements have
 pub all-at : {X : Type 0} (P : X → Type 0) (xs : List X) (k : ℕ) (x : X) → All P xs → slice_get xs k ≡ Some x → P x
 all-at P xs k x all here = subst P (get_or_from_slice_get xs k x x here) (all k x (slice_get_within xs k x here))

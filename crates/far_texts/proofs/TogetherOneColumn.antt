@@ -17,7 +17,7 @@ pub object-longer : (c : Texts) (n : ℕ) → begins_group c ≡ false → objec
 object-longer c n begins = ap (λ (b : Bool). cond b n (last_object c)) begins
 
 module _ (old new : Lists) (o : ℕ) (bytes : List ℕ) (here : new o ≡ Some bytes) where
-  -- the lists after only the list of object o changed
+  -- the lists after a change of object o's list alone
   abbrev mid : Lists
   mid p = cond (eqb p o) (Some bytes) (old p)
 
@@ -30,7 +30,7 @@ module _ (old new : Lists) (o : ℕ) (bytes : List ℕ) (here : new o ≡ Some b
   mid-changes : ChangesList old mid o (Some bytes)
   mid-changes = record { here = mid-here o refl; others = mid-other }
 
-  -- a column's lists are those lists, if all objects except o kept theirs
+  -- a column's lists are these lists, if all its objects except o keep their lists
   mid-same : (d : Texts) → ((k : ℕ) → k < length d.objects → get_or d.objects k 0 ≢ o → new (get_or d.objects k 0) ≡ old (get_or d.objects k 0)) → (k : ℕ) → k < length d.objects → new (get_or d.objects k 0) ≡ mid (get_or d.objects k 0)
   mid-same d kept k below = elim (cases_eq (get_or d.objects k 0) o) [
     | inl same ↦ ap new same ∙ here ∙ sym (mid-here (get_or d.objects k 0) same)

@@ -16,26 +16,27 @@ module _ {K : Type 0} (content : K → List ℕ) (old : Movement ℕ K) (columns
     -- each column has one place more, and a new object if row groups begin
     pub pushed : columns' ≡ after_push_all (length old.records) columns
     -- if row groups begin, these objects were made, in the order of the columns
-    pub begun : all_begin columns ≡ true → new ≡ after_create_all old columns (forms_with appended)
+    pub begun : all_begin columns ≡ true
+        → new ≡ after_create_all old columns (forms_with appended)
     -- otherwise the last object of each column was written
     pub replaced : all_begin columns ≡ false → AreReplaced old (forms_with appended) new
-    -- so there are as many objects more as row groups begin
+    -- so there is one more object for each row group that begins
     pub count : length new.records
         ≡ length old.records + (if all_begin columns then length columns else 0)
     -- each of these objects has its new form, and no other list changes
     pub lists : ChangesTo (lists_of content old) (lists_of content new) (forms_with appended)
-    -- so each column has its text after its others
+    -- so each column has its new text after its earlier ones
     pub texts : map (texts_in (lists_of content new)) columns'
         ≡ all_texts_with (lists_of content old) columns appended
 
-  -- a call changes columns to columns', or refuses; every other column is unchanged
+  -- a call changes columns to columns', or is refused; every other column is unchanged
   pub record ChangesColumns (is_of : K → List ℕ → Type 0) (new : Movement ℕ K)
       (columns' : List Texts) : Type 0 where
     -- they remain columns of one table
     pub are : AreColumns (lists_of content new) columns'
     -- every column disjoint from them remains a column and keeps its texts
     pub others : KeepsColumns (lists_of content old) (lists_of content new) columns
-    -- and remains disjoint from them
+    -- every column disjoint from them remains disjoint
     pub disjoint : (d : Texts) → IsTextColumn (lists_of content old) d
         → All (λ c. AreDisjoint c d) columns → All (λ c. AreDisjoint c d) columns'
     pub copies : KeepsCopies content is_of old new

@@ -61,7 +61,8 @@ module _ {K : Type 0} (content : K → List ℕ) (m : Movement ℕ K) (c : Texts
         ≡ slice_set (texts_in (lists_of content m) c) place text
 
   -- a text was appended; the column is now c'
-  pub record TextPushed (text : Option (List ℕ)) (new : Movement ℕ K) (c' : Texts) : Type 0 where
+  pub record TextPushed (text : Option (List ℕ)) (new : Movement ℕ K)
+      (c' : Texts) : Type 0 where
     -- the column has one place more, and a new object if a row group begins
     pub pushed : c' ≡ after_push c (length m.records)
     -- that object was made, or the last one was written, and nothing else changes
@@ -69,5 +70,6 @@ module _ {K : Type 0} (content : K → List ℕ) (m : Movement ℕ K) (c : Texts
     -- its list is the form of the row group with the text, and no other list changes
     pub list : ChangesList (lists_of content m) (lists_of content new) next_object
         (Some (texts_form (group_with_next (lists_of content m) c text)))
-    -- so the column has the text after its others
-    pub texts : texts_in (lists_of content new) c' ≡ texts_in (lists_of content m) c ++ text ∷ []
+    -- so the column has the new text after its earlier ones
+    pub texts : texts_in (lists_of content new) c'
+        ≡ texts_in (lists_of content m) c ++ text ∷ []

@@ -17,7 +17,8 @@ overlapped_objects c from to =
     else []
 
 -- why lending the texts of a part is refused (`texts`)
-abbrev pub texts_refusal : {K : Type 0} → Movement ℕ K → Texts → ℕ → ℕ → Option Refusal
+abbrev pub texts_refusal : {K : Type 0} → Movement ℕ K → Texts → ℕ → ℕ
+    → Option Refusal
 texts_refusal m c from to =
     option_or
     (first_of ((nat_lt c.len to || nat_lt to from, refusal.OutOfRange) ∷ []))

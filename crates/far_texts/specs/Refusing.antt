@@ -25,7 +25,8 @@ past_end c place e = (not (nat_lt place c.len), e)
 module _ {K : Type 0} (content : K → List ℕ) (m : Movement ℕ K) (c : Texts) where
   -- why reading the text at a place is refused (`text`)
   abbrev pub text_refusal : ℕ → Option Refusal
-  text_refusal place = first_of (past_end c place refusal.NoRow ∷ absent m (object_at c place) ∷ [])
+  text_refusal place =
+      first_of (past_end c place refusal.NoRow ∷ absent m (object_at c place) ∷ [])
 
   -- why computing the length of a form with another text is refused (`form_length_with`)
   abbrev pub length_refusal : ℕ → Option Refusal

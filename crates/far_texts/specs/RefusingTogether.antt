@@ -42,24 +42,25 @@ module _ {K : Type 0} where
 
 module _ {K : Type 0} (content : K → List ℕ) (m : Movement ℕ K)
     (columns : List Texts) (texts : List (Option (List ℕ))) where
-  -- the tests before a form is made
+  -- the tests before a form is made (the first tests), in order
   abbrev pub first_tests : List (Bool × Refusal)
   first_tests = any_too_long texts
       ∷ ((if all_begin columns then [] else absents m columns)
       ++ any_full (lists_of content m) columns texts ∷ [])
 
-  -- the tests while the new forms are placed
+  -- the tests while the new forms are placed, in order
   abbrev pub last_tests : List (Bool × Refusal)
   last_tests =
       let forms : List (ℕ × List ℕ) =
       next_forms (lists_of content m) (length m.records) columns texts
-      in no_space_for m forms ∷ (if all_begin columns then [] else some_written_out m forms ∷ [])
+      in no_space_for m forms
+      ∷ (if all_begin columns then [] else some_written_out m forms ∷ [])
 
   -- why appending a text to each of the columns is refused (`push_texts`)
   abbrev pub push_texts_refusal : Option Refusal
   push_texts_refusal = first_of (first_tests ++ last_tests)
 
-  -- the refusal that is returned is the one that applies; or none of the first tests refuses, and an allocation failed
+  -- whether e may be returned: it is the refusal that applies, or no first test refuses and e is `NoMemory`
   abbrev pub MayReturn : Refusal → Type 0
   MayReturn e = (push_texts_refusal ≡ Some e)
       ⊎ ((first_of first_tests ≡ None) × (e ≡ refusal.NoMemory))

@@ -24,7 +24,8 @@ module _ {K : Type 0} (content : K → List ℕ) (old : Movement ℕ K) where
   pub record GroupBegun (c : Texts) (form : List ℕ) (new : Movement ℕ K)
       (c' : Texts) : Type 0 where
     pub pushed : c' ≡ after_push c (length old.records)
-    pub created : new ≡ after_create old record { column = c.column; group = length c.objects } form
+    pub created : new
+        ≡ after_create old record { column = c.column; group = length c.objects } form
     pub list : ChangesList (lists_of content old) (lists_of content new)
         (length old.records) (Some form)
 

@@ -21,7 +21,7 @@ Lists = ℕ → Option (List ℕ)
 abbrev pub lists_of : {K : Type 0} → (K → List ℕ) → Movement ℕ K → Lists
 lists_of content m = list_of (λ bytes. bytes) content m
 
--- the column has one object for each row group that was begun, and few enough
+-- the column has one object for each row group that was begun, and its sizes are within their limits
 pub record HasGroups (c : Texts) : Type 0 where
   pub some : 0 < c.size
   pub small : c.size ≤ 2 ^ 16
@@ -34,7 +34,7 @@ pub record HasGroups (c : Texts) : Type 0 where
 abbrev pub texts_at : Lists → ℕ → List (Option (List ℕ))
 texts_at lists o = texts_meaning (unwrap_or (lists o) [])
 
--- the texts of a column: those of its objects, joined
+-- the texts of a column: the texts of its objects, joined
 abbrev pub texts_in : Lists → Texts → List (Option (List ℕ))
 texts_in lists c = flat_map (texts_at lists) c.objects
 
@@ -66,4 +66,5 @@ AreDisjoint c d = (group other o : ℕ)
 -- every column that has no object in common with c remains a column and keeps its texts
 pub record KeepsOthers (old new : Lists) (c : Texts) : Type 0 where
   pub columns : (d : Texts) → IsTextColumn old d → AreDisjoint c d → IsTextColumn new d
-  pub texts : (d : Texts) → IsTextColumn old d → AreDisjoint c d → texts_in new d ≡ texts_in old d
+  pub texts : (d : Texts) → IsTextColumn old d → AreDisjoint c d
+      → texts_in new d ≡ texts_in old d

@@ -9,7 +9,7 @@ use Rattle.far_texts.specs.Texts.{Texts, Lists, IsTextColumn, AreDisjoint, texts
 use Rattle.far_texts.specs.Columns.{AreTextColumns}
 use Rattle.far_texts.specs.Effects.{begins_group, last_object, group_with_next, after_push}
 
--- columns of one table: their texts are in these lists, and they have one length and one size of row groups
+-- columns of one table: their texts are in these lists, and all have the same length and the same size of row groups
 pub record AreColumns (lists : Lists) (columns : List Texts) : Type 0 where
   pub all_disjoint : AreTextColumns lists columns
   pub same_length : AllPairs (λ c d. (c.size ≡ d.size) × (c.len ≡ d.len)) columns
@@ -23,14 +23,15 @@ abbrev pub object_for : Texts → ℕ → ℕ
 object_for c o = if begins_group c then o else last_object c
 
 -- for each column, the object of its next text and that object's new form; n is the number of the first new object
-abbrev pub next_forms : Lists → ℕ → List Texts → List (Option (List ℕ)) → List (ℕ × List ℕ)
+abbrev pub next_forms : Lists → ℕ → List Texts → List (Option (List ℕ))
+    → List (ℕ × List ℕ)
 next_forms lists n [] texts = []
 next_forms lists n (c ∷ columns) [] = []
 next_forms lists n (c ∷ columns) (text ∷ texts) =
     (object_for c n, texts_form (group_with_next lists c text))
     ∷ next_forms lists (n + 1) columns texts
 
--- the bytes are a form of the column's last row group with the next text, within the limit
+-- the next place's row group with this text has a valid form, which is not empty and within the limit
 pub record IsNextForm (lists : Lists) (c : Texts) (text : Option (List ℕ)) : Type 0 where
   pub form : IsTextsForm (texts_form (group_with_next lists c text))
   pub means : texts_meaning (texts_form (group_with_next lists c text))
@@ -38,7 +39,7 @@ pub record IsNextForm (lists : Lists) (c : Texts) (text : Option (List ℕ)) : T
   pub short : length (texts_form (group_with_next lists c text)) ≤ c.limit
   pub some : 0 < length (texts_form (group_with_next lists c text))
 
--- each column has such a next form
+-- each column has such a form with its next text
 abbrev pub AreNextForms : Lists → List Texts → List (Option (List ℕ)) → Type 0
 AreNextForms lists columns texts = (k : ℕ) (c : Texts) (text : Option (List ℕ))
     → slice_get columns k ≡ Some c → slice_get texts k ≡ Some text
@@ -75,7 +76,8 @@ forms_of lists = map (λ r. (r.object, r.list.items)) lists
 
 module _ {K : Type 0} where
   -- the objects after one was made for each column, with the form paired with it
-  abbrev pub after_create_all : Movement ℕ K → List Texts → List (ℕ × List ℕ) → Movement ℕ K
+  abbrev pub after_create_all : Movement ℕ K → List Texts → List (ℕ × List ℕ)
+      → Movement ℕ K
   after_create_all m [] forms = m
   after_create_all m (c ∷ columns) [] = m
   after_create_all m (c ∷ columns) (form ∷ forms) =

@@ -5,14 +5,14 @@ ghost use Rattle.far_texts.specs.Texts.{Texts, Lists, HasGroups, IsTextColumn, t
 ghost use Rattle.far_texts.specs.Effects.{group_with, group_with_next};
 ghost use Rattle.far_texts.specs.Columns.{AreTextColumns, ChangesColumn};
 
-/// A law: several columns of texts share objects, and no two have an object in common. Each clause says when this remains
+/// A law: several columns of texts share `Objects`, and no two have an object in common. Each clause says when this remains
 /// true:
 ///
 /// - `none`, `more`: the columns are added one after another, each without an object.
 /// - `after`, `others`: a call changes one of them, as its clause `changes` says. The others keep their texts.
 /// - `moved`, `kept`: every object keeps its list, wherever it is. All keep their texts.
 ///
-/// `far_columns::laws::vectors_stay_together` says the same of columns of numbers.
+/// `far_columns::laws::vectors_stay_together` is this law for columns of numbers.
 pub fn columns_stay_together()
     ensures none { (lists : Lists) → AreTextColumns lists [] }
     ensures more { (lists : Lists) → (columns : List Texts) → (c : Texts)
@@ -37,16 +37,16 @@ pub fn columns_stay_together()
         → ((o : ℕ) → new o ≡ old o) → texts_in new c ≡ texts_in old c }
 {}
 
-/// A law: the form of a row group's object means the texts of the row group's places, in order (`group`).
+/// A law: the form in a row group's object encodes the texts of the row group's places, in order (`group`).
 ///
-/// The form that a set or a push makes means the texts of the row group as it is afterwards (`with_text`, `next`). So whether
-/// a call is refused with `ChunkFull` depends only on the texts of the row group's places, all of them.
+/// The form that a set or a push makes encodes the texts that the row group has afterwards (`with_text`, `next`). So whether a
+/// call is refused with `ChunkFull` depends only on the texts of the row group's places, all of them.
 pub fn forms_hold_row_groups()
     ensures group { (lists : Lists) → (c : Texts) → (g : ℕ) → (o : ℕ)
         → HasGroups c → IsTextColumn lists c → slice_get c.objects g ≡ Some o
         → texts_at lists o ≡ in_group c.size g (texts_in lists c) }
-    ensures with_text { (lists : Lists) → (c : Texts) → (place : ℕ) → (text : Option (List ℕ))
-        → HasGroups c → IsTextColumn lists c → place < c.len
+    ensures with_text { (lists : Lists) → (c : Texts) → (place : ℕ)
+        → (text : Option (List ℕ)) → HasGroups c → IsTextColumn lists c → place < c.len
         → group_with lists c place text
         ≡ in_group c.size (place / c.size) (slice_set (texts_in lists c) place text) }
     ensures next { (lists : Lists) → (c : Texts) → (text : Option (List ℕ))

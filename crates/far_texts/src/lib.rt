@@ -1,5 +1,5 @@
 #![tactic(auto)]
-//! Columns of texts: the texts of each row group are one far form, in an object that may be away.
+//! Columns of texts: the texts of each row group are encoded as one far form, in an object that may be away.
 
 pub mod laws;
 mod text_column;

@@ -1,4 +1,4 @@
-// A column of texts.
+// A column of texts in objects, one for each row group.
 ghost use Rattle.std.specs.Prelude.{◌≡◌, ◌<◌, ◌≤◌, ◌^◌, ◌/◌, ◌%◌, ℕ, [], length, IfOk, IsOk, slice_get, slice_index};
 ghost use Rattle.far_texts.specs.Texts.{Lists, HasGroups, IsTextColumn};
 
@@ -26,7 +26,7 @@ pub struct TextColumn {
     column: u32,
     // How many places a row group has.
     size: usize,
-    // A hint for divisions by `size`.
+    // Speeds up divisions by `size`.
     reciprocal: Reciprocal,
     // How many bytes the form of a row group may have at most.
     limit: usize,
@@ -60,8 +60,7 @@ impl Model for TextColumn {
 
 impl TextColumn {
     /// Makes a column without texts. `column` is its number, `size` how many places a row group has (1 to 65,536). `limit` is
-    /// how many bytes the far form of a row group may have (at most 16,777,216), which is the size of a segment of local
-    /// memory.
+    /// how many bytes the far form of a row group may have: at most 16,777,216, the size of a segment of local memory.
     ///
     /// Returns a `Result` as `IntColumn::new` does. Allocates nothing, so it is never refused.
     pub fn new(alloc: Global, column: u32, size: u32, limit: usize) -> Result<TextColumn, Refusal>
@@ -93,7 +92,7 @@ impl TextColumn {
         self.len
     }
 
-    /// Returns the object of a row group, or `None` exactly if no place of it is used. Allocates nothing.
+    /// Returns the number of a row group's object, or `None` exactly if no place of the row group is used. Allocates nothing.
     pub fn object(&self, group: u32) -> Option<u32>
         ensures { result ≡ slice_get self.now.objects group }
     {

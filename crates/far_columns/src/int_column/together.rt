@@ -1,4 +1,4 @@
-// Appends a number to each of several columns, all or none.
+// Appending a number to each of several columns, all or none, and undoing that.
 ghost use Rattle.std.specs.Prelude.{◌≡◌, ◌⊎◌, ◌≤◌, ◌+◌, ◌-◌, ◌^◌, length, map, take, true, false, None, Some, OnOk, IfErr, OnErr};
 ghost use Rattle.far_scopes.specs.Refusing.{refusal_in};
 ghost use Rattle.far_columns.specs.Effects.{after_unpush};
@@ -92,8 +92,8 @@ pub fn push_numbers<S: FarTickets>(
     Ok(())
 }
 
-/// Appends a number to each of several columns whose last row groups have been begun, as `push_numbers` does, after
-/// `may_push_numbers` accepted it. Repeats no check, and allocates nothing.
+/// Appends a number to each of several columns, as `push_numbers` does, after `may_push_numbers` accepted it. Each column's last
+/// row group must have an unused place. Repeats no check, and allocates nothing.
 pub fn fill_numbers<S: FarTickets>(
     objects: &mut Objects<Option<i64>, S>,
     columns: &mut [IntColumn],
@@ -113,8 +113,8 @@ pub fn fill_numbers<S: FarTickets>(
     fill_places(objects, columns, numbers);
 }
 
-/// Undoes a `push_numbers` that began row groups: removes each column's only number in its last row group, and that row group's
-/// object. Removes the object that was made last first. Allocates nothing.
+/// Undoes a `push_numbers` that began row groups. Removes each column's last row group, which has only one number, and the row
+/// group's object. Removes the objects in the reverse order of their making. Allocates nothing.
 pub fn unpush_numbers<S: FarTickets>(
     objects: &mut Objects<Option<i64>, S>,
     columns: &mut [IntColumn],

@@ -25,7 +25,7 @@ impl<T: Elem> FarVector<T> {
 
     /// Checks that the object of the next place is local. Its row group must have been begun. Allocates nothing.
     ///
-    /// Refused with `Absent` (16) exactly if it is away.
+    /// Refused with `Absent` (16) exactly if the object is away.
     pub fn next_is_here<S: FarTickets>(&self, objects: &Objects<T, S>) -> Result<(), Refusal>
         requires is { IsVector (list_of T.meaning S.content objects.now) self.now }
         requires begun { is_full self.now ≡ false }
@@ -43,7 +43,8 @@ impl<T: Elem> FarVector<T> {
     pub fn next_is_writable<S: FarTickets>(&self, objects: &Objects<T, S>) -> Result<(), Refusal>
         requires is { IsVector (list_of T.meaning S.content objects.now) self.now }
         requires begun { is_full self.now ≡ false }
-        ensures { refusal_in result ≡ write_refusal objects.now (object_at self.now self.now.len) }
+        ensures { refusal_in result
+            ≡ write_refusal objects.now (object_at self.now self.now.len) }
     {
         objects.may_write(self.next_position(objects).object)
     }
@@ -63,7 +64,7 @@ impl<T: Elem> FarVector<T> {
     ///
     /// A refused call changes nothing.
     ///
-    /// It is inlined, as `fill_place` is, since nearly each push fills a place of the last row group, and a row has one for each column.
+    /// Inlined, like `fill_place`: nearly every push fills a place of the last row group, and a row takes one push for each column.
     #[inline(always)]
     pub fn push<S: FarTickets>(&mut self, objects: &mut Objects<T, S>, x: T) -> Result<(), Refusal>
         requires is { IsVector (list_of T.meaning S.content objects.old) self.old }
@@ -87,8 +88,8 @@ impl<T: Elem> FarVector<T> {
         }
     }
 
-    // Appends an element in an object of its own. No place may be unused. It is not inlined, so that a push that begins no row group
-    // saves no registers for it.
+    // Begins a row group: appends an element in a new object. No place may be unused. Not inlined, so that a push that only fills a
+    // place saves no registers for this call.
     #[inline(never)]
     fn begin_group<S: FarTickets>(
         &mut self,
@@ -151,7 +152,7 @@ impl<T: Elem> FarVector<T> {
         Ok(())
     }
 
-    /// Undoes a push that made an object: removes the row group's only element, and the object. Allocates nothing.
+    /// Undoes a push that made an object. Removes the last row group's only element, and its object. Allocates nothing.
     pub fn unpush<S: FarTickets>(&mut self, objects: &mut Objects<T, S>)
         requires is { IsVector (list_of T.meaning S.content objects.old) self.old }
         requires begun { IsNewGroup objects.old (length objects.old.records - 1) self.old }

@@ -86,8 +86,8 @@ impl<T: Elem> FarVector<T> {
         Ok(&list[at.index..at.index + (to - from)])
     }
 
-    /// Returns an iterator over the elements `from` up to `to`: one slice for each row group that has some of them,
-    /// borrowed from its object. Allocates nothing.
+    /// Returns an iterator over the elements `from` up to `to`. It returns one slice for each row group that has some of
+    /// them, borrowed from the row group's object. Allocates nothing.
     ///
     /// Refused with the first of these that applies:
     ///
@@ -132,7 +132,7 @@ impl<T: Elem> FarVector<T> {
         ensures { refusal_in result
             ≡ first_absent objects.now (slice_range self.now.objects first end) }
     {
-        // For the proof: shows that an object with a list is in use.
+        // For the proof: the contract of `number` shows that an object with a list is in use.
         let _ = objects.number();
         for o in &self.objects[first..end] {
             objects.here(*o)?;
@@ -160,7 +160,7 @@ impl<T: Elem> FarVector<T> {
         Ok(())
     }
 
-    // Returns how many row groups have some of the elements `from` up to `to`. The range is not empty.
+    // Returns how many row groups have some of the elements `from` up to `to`. The range must not be empty.
     pub(crate) fn groups_between(&self, from: usize, to: usize) -> usize
         requires some { from < to }
         requires there { to ≤ self.now.len }

@@ -54,8 +54,8 @@ impl<T: Elem> FarVector<T> {
         Ok(())
     }
 
-    /// Writes the element at a place that may be written, as `set` does. The caller passes the row group, which saves every
-    /// check and the division. Allocates nothing.
+    /// Writes the element at a place, as `set` does. The element must be one that may be written (`may_set`). The caller passes
+    /// the row group, which saves every check and the division. Allocates nothing.
     pub fn set_in_group<S: FarTickets>(
         &self,
         objects: &mut Objects<T, S>,
@@ -114,9 +114,10 @@ impl<T: Elem> FarVector<T> {
         objects.may_write(self.position(objects, from).object)
     }
 
-    /// Mutably borrows the elements `from` up to `to` of a part that is not empty and may be written. Allocates nothing.
+    /// Mutably borrows the elements `from` up to `to`, a part that is not empty and may be written (`may_write_part`).
+    /// Allocates nothing.
     ///
-    /// The object of their row group counts as written. The borrow changes these elements, and no others.
+    /// The object of their row group counts as written. The borrow can change only these elements.
     pub fn part_mut<'a, S: FarTickets>(
         objects: &'a mut Objects<T, S>,
         vector: &FarVector<T>,
@@ -130,7 +131,8 @@ impl<T: Elem> FarVector<T> {
             (lends_written T.row S.row S.Ticket.row T.Elem S.FarTickets objects.entry
             (object_at vector.now from) (from % vector.now.size) result) }
         ensures lent { result.now
-            ≡ slice_range (elements (list_of T.meaning S.content objects.old) vector.now) from to }
+            ≡ slice_range (elements (list_of T.meaning S.content objects.old) vector.now)
+            from to }
         ensures written { (range : List T) → length range ≡ to - from
             → PartWritten T.meaning S.content objects.old
             (after_write_range objects.old vector.now from range) vector.now from to range }
@@ -146,7 +148,7 @@ impl<T: Elem> FarVector<T> {
         objects.lend_range_mut(o, begin, end)
     }
 
-    // Writes the element at a place, used or not, of a row group that may be written.
+    // Writes the element at a place, used or not. Its row group must be one that may be written.
     #[inline(always)]
     pub(super) fn write<S: FarTickets>(&self, objects: &mut Objects<T, S>, at: Position, x: T)
         requires is { IsVector (list_of T.meaning S.content objects.old) self.now }
@@ -157,7 +159,8 @@ impl<T: Elem> FarVector<T> {
         requires list { IsSomeAnd (list_of T.meaning S.content objects.old at.object)
             (λ list. length list ≡ self.now.size) }
         requires free { write_refusal objects.old at.object ≡ None }
-        ensures written { objects.new ≡ after_write_range objects.old self.now at.place (x ∷ []) }
+        ensures written { objects.new
+            ≡ after_write_range objects.old self.now at.place (x ∷ []) }
         ensures places { WritesPlaces (list_of T.meaning S.content objects.old)
             (list_of T.meaning S.content objects.new) self.now at.place (x ∷ []) }
         ensures keeps { ChangesOnly T.meaning S.content S.is_of objects.old objects.new
@@ -170,8 +173,7 @@ impl<T: Elem> FarVector<T> {
         range[0] = x;
     }
 
-    // Returns the object with a place of a row group that may be written. For the proof: the contract of `lend` shows that its
-    // list is in local memory.
+    // Returns the object with a place, whose row group may be written.
     fn writable_at<S: FarTickets>(&self, objects: &Objects<T, S>, i: usize) -> u32
         requires is { IsVector (list_of T.meaning S.content objects.now) self.now }
         requires within { i < length self.now.objects * self.now.size }
@@ -182,7 +184,7 @@ impl<T: Elem> FarVector<T> {
             (λ list. length list ≡ self.now.size) }
     {
         let at = self.position(objects, i);
-        // For the proof: shows that the object's list is in local memory.
+        // For the proof: the contract of `lend` shows that the object's list is in local memory.
         let _ = objects.lend(at.object);
         at.object
     }

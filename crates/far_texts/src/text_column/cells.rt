@@ -1,4 +1,4 @@
-// Borrowed texts of a column, with the flags of their places.
+// Borrowing the texts of a column, with the alive flags of their places.
 ghost use Rattle.std.specs.Prelude.{◌≡◌, ◌∷◌, ◌≤◌, [], drop, length, IfOk, IfSome, IfNone, slice_range};
 ghost use Rattle.std.specs.List.{zip};
 ghost use Rattle.std.specs.Option.{option_copied};
@@ -14,7 +14,7 @@ use far_store::FarTickets;
 use far_types::Refusal;
 use std::marker::Model;
 
-/// A borrowed text of a column, and the flag of its place.
+/// A borrowed text of a column, and the alive flag of its place.
 #[derive(Clone, Copy)]
 pub struct TextCell<'a> {
     /// The text, or `None` if it is missing.
@@ -23,8 +23,8 @@ pub struct TextCell<'a> {
     pub alive: bool,
 }
 
-/// An iterator over the texts of a part of a column, each with the flag of its place. Contracts see the list of the remaining
-/// ones.
+/// An iterator over the texts of a part of a column, each with the alive flag of its place. Contracts see it as the list of the
+/// remaining ones.
 ///
 /// It borrows each text from its object. For a text it reads the head of one form, one bit of its mask and two ends. It looks
 /// up an object once for each row group.
@@ -80,8 +80,8 @@ impl<'a, S: FarTickets> TextCells<'a, S> {
 
     /// Returns the next text with its flag, or `None` at the end. Allocates nothing.
     ///
-    /// This is no `Iterator`: the prover cannot prove a method of that trait if it calls something that requires objects that
-    /// threads may share.
+    /// `TextCells` does not implement `Iterator`: the prover cannot prove a method of that trait if it calls a function that
+    /// requires objects that threads may share.
     pub fn next(&mut self) -> Option<TextCell<'a>>
         ensures first { IfSome result (λ cell.
             self.old ≡ (option_copied cell.text, cell.alive) ∷ self.new) }
@@ -123,13 +123,13 @@ impl TextColumn {
         Ok(())
     }
 
-    /// Returns an iterator over the texts of the places `from` up to `to`, each borrowed, with the flag of its place. The
+    /// Returns an iterator over the texts of the places `from` up to `to`, each borrowed, with the alive flag of its place. The
     /// caller passes the flags of all places. Allocates nothing.
     ///
     /// Refused with the first of these that applies:
     ///
     /// - `OutOfRange` (14): `from` is above `to`, or `to` is past the end.
-    /// - `Absent` (16): the object of a row group that the part touches is away. The refusal names the first such object.
+    /// - `Absent` (16): the object of a row group with some of these places is away. The refusal names the first such object.
     pub fn texts<'a, S: FarTickets>(
         &'a self,
         objects: &'a Objects<u8, S>,

@@ -9,8 +9,8 @@ use super::TextColumn;
 use far_scopes::Objects;
 use far_store::FarTickets;
 
-/// The current place of a walk over a column's places in order, and the far form of its row group. So a walk looks up an
-/// object once for each row group, and divides no place.
+/// The current place of a walk over a column's places in order, and the far form of its row group. A walk looks up an object
+/// once for each row group, and divides only to find its first place.
 #[derive(Clone, Copy)]
 pub(super) struct Cursor<'a> {
     /// The place.
@@ -24,7 +24,7 @@ pub(super) struct Cursor<'a> {
 }
 
 impl<'a> Cursor<'a> {
-    // Returns the cursor past the last place.
+    // Returns the cursor of a walk over no places.
     pub(super) fn none(place: usize) -> Cursor<'a>
         ensures { result.place ≡ place }
     {
@@ -60,7 +60,7 @@ impl<'a> Cursor<'a> {
         }
     }
 
-    // Returns the same place, with the row group that contains it.
+    // Returns the cursor at its place, in the row group that contains the place.
     #[inline(always)]
     pub(super) fn entered<S: FarTickets>(
         self,

@@ -55,8 +55,10 @@ impl TextColumn {
     ) -> Result<usize, Refusal>
         requires { IsTextColumn (lists_of S.content objects.now) self.now }
         ensures length { IfOk result (λ len. len
-            ≡ texts_length (group_with (lists_of S.content objects.now) self.now place text.now)) }
-        ensures refused { refusal_in result ≡ length_refusal S.content objects.now self.now place }
+            ≡ texts_length
+            (group_with (lists_of S.content objects.now) self.now place text.now)) }
+        ensures refused { refusal_in result
+            ≡ length_refusal S.content objects.now self.now place }
     {
         let place = place as usize;
         if place >= self.len {

@@ -19,7 +19,7 @@ use far_types::{Name, Refusal, Text};
 use std::alloc::Global;
 
 impl TextColumn {
-    // Checks that this text may be appended, unless memory runs out.
+    // Checks that `push` would accept this text. After `Ok`, only an allocation can fail.
     pub(super) fn may_push<S: FarTickets>(
         &self,
         objects: &Objects<u8, S>,
@@ -45,8 +45,8 @@ impl TextColumn {
         Ok(())
     }
 
-    // Returns the form of the next place's row group with this text appended. It is made in the memory of a form that is no
-    // longer needed. It is inlined, so that a form is passed through memory by one call and not by two.
+    // Makes the form of the next place's row group with this text appended, in the memory of `spare`, a form that is no longer
+    // needed. Inlined, so that a form is passed through memory by one call and not by two.
     #[inline(always)]
     pub(crate) fn form_pushed<S: FarTickets>(
         &self,
@@ -74,7 +74,7 @@ impl TextColumn {
         form_with_next(spare, form, text)
     }
 
-    // For the proof: shows that the column has groups, and that the next object's number has no list.
+    // For the proof: shows `HasGroups`, and that the next object's number has no list.
     pub(super) fn next_object_is_unused<S: FarTickets>(&self, objects: &Objects<u8, S>)
         requires { IsTextColumn (lists_of S.content objects.now) self.now }
         ensures objects { length self.now.objects ≤ length objects.now.records }
@@ -85,7 +85,7 @@ impl TextColumn {
         let _len = self.len();
     }
 
-    // Begins a row group at the next place, with this form.
+    // Begins a row group at the next place, with an object that has this form.
     fn begin_group<S: FarTickets>(
         &mut self,
         objects: &mut Objects<u8, S>,
@@ -116,7 +116,7 @@ impl TextColumn {
         Ok(())
     }
 
-    // Replaces the form of the last row group, which has the next place, by this one.
+    // Replaces the form of the last row group, which has an unused place, by this one, and counts one more text.
     fn extend_group<S: FarTickets>(
         &mut self,
         objects: &mut Objects<u8, S>,

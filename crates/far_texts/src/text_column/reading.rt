@@ -20,7 +20,7 @@ impl TextColumn {
         ensures object { result ≡ slice_index self.now.objects group }
         ensures used { result < length objects.now.records }
     {
-        // For the proof: shows that an object with a list is in use.
+        // For the proof: the contract of `number` shows that an object with a list is in use.
         let _number = objects.number();
         self.objects[group]
     }
@@ -43,7 +43,7 @@ impl TextColumn {
         objects.lend(o)
     }
 
-    // Borrows the far form of the last row group, which has the next place.
+    // Borrows the far form of the last row group, which has an unused place.
     pub(super) fn last_form<'a, S: FarTickets>(
         &self,
         objects: &'a Objects<u8, S>,

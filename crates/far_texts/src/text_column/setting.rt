@@ -24,10 +24,10 @@ impl TextColumn {
     ///
     /// - `TextTooLong` (7): the text has more than 4,096 bytes.
     /// - `OutOfRange` (14): the place is past the end.
-    /// - `Absent` (16): the object is away.
+    /// - `Absent` (16): the object of the place's row group is away.
     /// - `ChunkFull` (11): the new form would be longer than the column's limit.
     /// - `RegionFull` (17): no segment has the space.
-    /// - `EditsUsedUp` (24): the object was written as often as the limits allow.
+    /// - `EditsUsedUp` (24): that object was written as often as the limits allow.
     pub fn may_set<S: FarTickets>(
         &self,
         objects: &Objects<u8, S>,
@@ -48,7 +48,7 @@ impl TextColumn {
         objects.may_replace(o, len)
     }
 
-    // Returns the form of a place's row group with this text at the place. The text must be one that may be set.
+    // Makes the form of a place's row group with this text at the place. The text must be one that may be set (`may_set`).
     fn form_set<S: FarTickets>(
         &self,
         alloc: Global,
@@ -62,7 +62,8 @@ impl TextColumn {
         ensures texts { IfOk result (λ form. texts_meaning form.items
             ≡ group_with (lists_of S.content objects.now) self.now place text.now) }
         ensures length { IfOk result (λ form. length form.items
-            ≡ texts_length (group_with (lists_of S.content objects.now) self.now place text.now)) }
+            ≡ texts_length
+            (group_with (lists_of S.content objects.now) self.now place text.now)) }
         ensures memory { IfErr result (λ e. e ≡ Refusal.NoMemory) }
     {
         let place = place as usize;
@@ -70,17 +71,17 @@ impl TextColumn {
         form_with(alloc, form, place % self.size, text)
     }
 
-    /// Sets the text at a place. Changes only the objects, which have the texts, and not the column itself. The object of the
+    /// Sets the text at a place. Changes only the objects, which hold the texts, and not the column itself. The object of the
     /// place's row group gets a new form, placed before the old one is dropped.
     ///
     /// Refused with the first of these that applies:
     ///
     /// - `TextTooLong` (7): the text has more than 4,096 bytes.
     /// - `OutOfRange` (14): the place is past the end.
-    /// - `Absent` (16): the object is away.
+    /// - `Absent` (16): the object of the place's row group is away.
     /// - `ChunkFull` (11): the new form would be longer than the column's limit.
     /// - `RegionFull` (17): no segment has the space.
-    /// - `EditsUsedUp` (24): the object was written as often as the limits allow.
+    /// - `EditsUsedUp` (24): that object was written as often as the limits allow.
     /// - `NoMemory` (1): an allocation fails.
     ///
     /// A refused call changes nothing.

@@ -25,8 +25,8 @@ use std::alloc::Global;
 /// If the next places begin row groups, makes an object for each column. Otherwise the last object of each gets a new form.
 /// Places all new forms, in the order of the columns, before it drops an old one.
 ///
-/// The form of a single column is made in the memory of `spare`, a form that is no longer needed. Afterwards `spare` is that
-/// form. So appending texts to one column allocates nothing while the forms keep their length.
+/// The form of a single column is made in the memory of `spare`, a form that is no longer needed. Afterwards `spare` is the new
+/// form. So such a form is allocated only if it does not fit into that memory.
 ///
 /// Refused with the first of these that applies:
 ///

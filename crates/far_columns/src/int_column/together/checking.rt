@@ -57,7 +57,8 @@ pub(super) fn all_writable<S: FarTickets>(
     requires each { All (IsVector (number_lists S.content objects.now)) columns.now }
     requires begun { All (λ c. is_full c ≡ false) columns.now }
     requires here { first_of (absents objects.now columns.now) ≡ None }
-    ensures refused { refusal_in result ≡ first_of (some_written_out objects.now columns.now ∷ []) }
+    ensures refused { refusal_in result
+        ≡ first_of (some_written_out objects.now columns.now ∷ []) }
     ensures free { OnOk result (All (λ c. push_refusal objects.now c ≡ None) columns.now) }
 {
     for column in columns {
@@ -66,7 +67,7 @@ pub(super) fn all_writable<S: FarTickets>(
     Ok(())
 }
 
-// Checks that the objects of new row groups fit, placed in order.
+// Checks that a new object for each column fits, placed in the order of the columns.
 pub(super) fn groups_fit<S: FarTickets>(
     objects: &Objects<Option<i64>, S>,
     columns: &[IntColumn],

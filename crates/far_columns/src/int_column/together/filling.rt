@@ -1,4 +1,4 @@
-// Appends numbers to several columns within row groups that have been begun.
+// Appending numbers to several columns, in row groups that have been begun.
 ghost use Rattle.std.specs.Prelude.{◌≡◌, ℕ, length, map, false, None, All};
 ghost use Rattle.far_columns.specs.Vector.{IsShaped};
 ghost use Rattle.far_columns.specs.Vectors.{AreVectors};
@@ -12,7 +12,7 @@ use crate::int_column::IntColumn;
 use far_scopes::Objects;
 use far_store::FarTickets;
 
-// Appends a number to each column. Its last row group has an unused place and may be written.
+// Appends a number to each column. Each column's last row group must have an unused place and be one that may be written.
 pub(super) fn fill_places<S: FarTickets>(
     objects: &mut Objects<Option<i64>, S>,
     columns: &mut [IntColumn],

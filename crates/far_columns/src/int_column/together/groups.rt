@@ -1,4 +1,4 @@
-// Begins row groups of several columns of numbers at once, and undoes that.
+// Beginning row groups of several columns of numbers at once, and undoing that.
 ghost use Rattle.std.specs.Prelude.{◌≡◌, ◌⊎◌, ◌≤◌, ◌+◌, ◌-◌, ◌^◌, length, map, take, true, false, All, OnOk, IfErr, OnErr};
 ghost use Rattle.far_log.specs.RegionState.{spaces_of, fit_in_order};
 ghost use Rattle.far_columns.specs.Vectors.{AreVectors};
@@ -54,8 +54,7 @@ pub(super) fn begin_groups<S: FarTickets>(
     Ok(())
 }
 
-// Undoes the row groups that were begun last, one for each column, and removes their objects, the last made
-// first.
+// Undoes the row groups that were begun last, one for each column. Removes their objects in the reverse order of their making.
 pub(super) fn unbegin_groups<S: FarTickets>(
     objects: &mut Objects<Option<i64>, S>,
     columns: &mut [IntColumn],

@@ -1,4 +1,4 @@
-// Checks that a text may be appended to each of several columns, before anything changes.
+// Checking that a text may be appended to each of several columns, before anything changes.
 ghost use Rattle.std.specs.Prelude.{◌≡◌, ◌<◌, ◌≤◌, ◌∷◌, ℕ, [], length, map, take, false, None, All, IfOk};
 ghost use Rattle.std.specs.List.{list_any};
 ghost use Rattle.far_types.specs.FirstOf.{first_of};
@@ -15,8 +15,8 @@ use far_scopes::Objects;
 use far_store::FarTickets;
 use far_types::{Refusal, Text};
 
-// Computes the lengths of the new forms, in the order of the columns, of which a table has at most 16. None may be longer
-// than its column's limit.
+// Computes the lengths of the new forms, in the order of at most 16 columns. Refused with `ChunkFull` if one is longer than its
+// column's limit.
 fn next_lens<S: FarTickets>(
     objects: &Objects<u8, S>,
     columns: &[TextColumn],
@@ -103,8 +103,8 @@ fn may_place_forms<S: FarTickets>(
     all_writable(objects, columns)
 }
 
-/// Checks that a text may be appended to each of several columns, of which a table has at most 16. Allocates nothing. After
-/// `Ok`, `push_texts` and `fill_texts` can be refused only with `NoMemory` (1).
+/// Checks that a text may be appended to each of at most 16 columns. Allocates nothing. After `Ok`, `push_texts` and
+/// `fill_texts` can be refused only with `NoMemory` (1).
 ///
 /// Refused with the first of these that applies:
 ///

@@ -103,7 +103,7 @@ pub(super) fn may_measure_forms<S: FarTickets>(
     all_here(objects, columns)
 }
 
-// Checks that these texts may be appended, except for what is only found while the new forms are made and placed.
+// Runs all tests that come before a form is made: of the texts, of the objects and of the lengths of the new forms.
 pub(super) fn may_make_forms<S: FarTickets>(
     objects: &Objects<u8, S>,
     columns: &[TextColumn],

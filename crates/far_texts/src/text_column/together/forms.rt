@@ -13,7 +13,7 @@ use far_store::FarTickets;
 use far_types::{Refusal, Text};
 use std::alloc::Global;
 
-// For the proof: shows that the columns have groups, and that an unused object number has no list.
+// For the proof: shows `HasGroups` of each column, and that an unused object number has no list.
 pub(super) fn next_objects_are_unused<S: FarTickets>(
     objects: &Objects<u8, S>,
     columns: &[TextColumn],
@@ -31,7 +31,7 @@ pub(super) fn next_objects_are_unused<S: FarTickets>(
 }
 
 impl TextColumn {
-    // Returns the object for the next text. If a row group begins, it is the k-th new object after `count` objects.
+    // Returns the object for the next text: the new object `count + k` if a row group begins, and else the last object.
     fn object_for(&self, count: u32, k: usize) -> u32
         requires { begins_group self.now ≡ true → count + k < 2 ^ 28 }
         ensures { result ≡ object_for self.now (count + k) }
@@ -44,7 +44,7 @@ impl TextColumn {
     }
 }
 
-// Makes the form of a single column with its next text, and finds its object. Reuses the memory of a form that is no
+// Makes the form of a single column with its next text, and finds its object. Reuses the memory of `spare`, a form that is no
 // longer needed.
 pub(super) fn next_form<S: FarTickets>(
     spare: Vec<u8>,

@@ -1,4 +1,4 @@
-// Stores the new forms of several columns, all or none.
+// Making and storing the new forms of several columns, all or none.
 ghost use Rattle.std.specs.Prelude.{◌≡◌, ◌≤◌, ◌+◌, ◌^◌, length, true, None, OnOk, IfErr, OnErr};
 ghost use Rattle.far_types.specs.FirstOf.{first_of};
 ghost use Rattle.far_texts.specs.Texts.{lists_of};
@@ -18,7 +18,7 @@ use std::alloc::Global;
 use std::mem;
 use std::slice::from_ref;
 
-// Stores the form of each column with its next text, all or none. The forms must be ones that may be made.
+// Stores the form of each column with its next text, all or none. The forms must be the new forms of the columns, in order.
 pub(super) fn give_forms<S: FarTickets>(
     objects: &mut Objects<u8, S>,
     columns: &mut [TextColumn],
@@ -42,8 +42,8 @@ pub(super) fn give_forms<S: FarTickets>(
     }
 }
 
-// Makes the form of each column with its next text, if no first test refuses one, and stores all forms or none. The form of a
-// single column is made in the memory of `spare`, and remains there.
+// Makes the form of each column with its next text, and stores all forms or none. No first test may refuse a text
+// (`may_make_forms`). The form of a single column is made in the memory of `spare`, and remains there.
 pub(super) fn make_forms<S: FarTickets>(
     alloc: Global,
     spare: &mut Vec<u8>,

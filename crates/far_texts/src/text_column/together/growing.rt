@@ -1,4 +1,4 @@
-// Stores new forms in the objects of several columns.
+// Storing new forms in the objects of several columns.
 ghost use Rattle.std.specs.Prelude.{◌≡◌, ◌⊎◌, ◌<◌, ◌≤◌, ◌+◌, ◌^◌, ℕ, length, map, true, false, None, Some, All, OnOk, OnErr, IfErr};
 ghost use Rattle.std.specs.List.{slice_index_or};
 ghost use Rattle.far_scopes.specs.declared.replacement.Replacement.{Replacement as Given};
@@ -58,7 +58,7 @@ pub(super) fn begin_groups<S: FarTickets>(
     Ok(())
 }
 
-// Adds one to the length of each column, none of whose last row groups is full.
+// Adds one to the length of each column. The last row group of each must have an unused place.
 fn lengthen(columns: &mut [TextColumn])
     requires { All (λ c. begins_group c ≡ false) columns.old }
     ensures { (n : ℕ) → columns.new ≡ after_push_all n columns.old }
@@ -70,7 +70,7 @@ fn lengthen(columns: &mut [TextColumn])
     lengthen(columns);
 }
 
-// Replaces the lists of the listed objects, all or none. A single one needs no undoing, so it takes the short path.
+// Replaces the lists of the listed objects, all or none. A single replacement needs no undoing, so it takes the short path.
 fn replace_forms<S: FarTickets>(
     objects: &mut Objects<u8, S>,
     forms: &[Replacement<u8>],
