@@ -1,4 +1,4 @@
--- Why appending a row is refused: as one list in the order of the refusals, and as each kind of columns has it.
+-- Why appending a row is refused: the tests in the order of the refusals agree with the tests kind by kind.
 use Rattle.std.proofs.Common.{◌≡◌, ◌≢◌, ℕ, zero, suc, ◌/◌, ◌%◌, Bool, true, false, not, if◌then◌else◌, List, [], ◌∷◌, ◌++◌, map, length, replicate, ℤ, Option, None, Some, refl, sym, ap, subst, ◌∙◌, arith}
 use Rattle.std.specs.Prelude.{◌&&◌, ◌||◌, All, cond, slice_get}
 use Rattle.std.specs.List.{list_any}
@@ -31,7 +31,7 @@ use Rattle.far_rows.proofs.NamingTexts.{true-not}
 use Rattle.far_rows.proofs.EffectsVersions.{last-there}
 use Rattle.far_rows.proofs.RefusingWrites.{none-any, any-same, no-text, no-number, text_written, number_written, by-kinds, forms-written}
 
--- 17 of numbers comes before 24 of texts: if one applies the other does not
+-- refusal 17 for numbers may be tested before refusal 24 for texts, since at most one of the two applies
 in-order : (full texts numbers text number : Bool) (x y z : Refusal) → (text ≡ true → numbers ≡ false)
     → option_or (cond full (Some x) (cond texts (Some y) (cond text (Some z) None))) (cond numbers (Some y) (cond number (Some z) None)) ≡ cond full (Some x) (cond texts (Some y) (cond numbers (Some y) (cond (text || number) (Some z) None)))
 in-order true texts numbers text number x y z disjoint = refl
@@ -43,7 +43,7 @@ module _ {K : Type 0} (content : K → List ℕ) (r : Rows K) (are : AreRows con
   abbrev g : ℕ
   g = length r.alive / r.size
 
-  -- a column of texts, by its index among them
+  -- a text column with the rows of this table
   record IsText (c : Texts) : Type 0 where
     has : HasGroups c
     size : c.size ≡ r.size
@@ -68,7 +68,7 @@ module _ {K : Type 0} (content : K → List ℕ) (r : Rows K) (are : AreRows con
       let same_length = subst (λ (d : Vector (Option ℤ)). (d.size ≡ r.size) × (d.len ≡ length r.alive)) same (are.same_length_numbers i c within) in
       record { shaped = subst IsShaped same (are.shaped i c within); size = same_length.0; len = same_length.1 }
 
-  -- if all columns of texts begin a row group, it has no object yet
+  -- if all text columns begin a row group, it has no text object yet
   texts-none : all_begin r.texts ≡ true → list_any (text_written r g) r.texts ≡ false
   texts-none is = none-any (text_written r g) r.texts (λ i c at. each i c at) where
     each : (i : ℕ) (c : Texts) → slice_get r.texts i ≡ Some c → text_written r g c ≡ false
@@ -89,7 +89,7 @@ module _ {K : Type 0} (content : K → List ℕ) (r : Rows K) (are : AreRows con
         let none : slice_get c.objects g ≡ None = (λ k. slice_get c.objects (sym known.len k / sym known.size k)) ∙ no-number c known.shaped full in
         ap (λ (o : Option ℕ). option_map_or (λ p. (written_out r.number_objects p).0) o false) none
 
-  -- 24, for the columns of texts
+  -- refusal 24 for the text columns
   texts-written : (values : Values) → length values.texts ≡ length r.texts → (b : Bool) → all_begin r.texts ≡ b → first_of (if b then [] else some_text_written_out r.text_objects (next_forms (lists_of content r.text_objects) (length r.text_objects.records) r.texts values.texts) ∷ []) ≡ first_of ((list_any (text_written r g) r.texts, refusal.EditsUsedUp) ∷ [])
   texts-written values same_length true is = sym (ap (λ (b : Bool). first_of ((b, refusal.EditsUsedUp) ∷ [])) (texts-none is))
   texts-written values same_length false is =
@@ -100,7 +100,7 @@ module _ {K : Type 0} (content : K → List ℕ) (r : Rows K) (are : AreRows con
             let not = subst (λ (d : Texts). begins_group d ≡ false) (get_or_from_slice_get r.texts i c c at) (all-not content r are is i c (slice_get_within r.texts i c at)) in
             (not, (λ k. slice_get c.objects (sym known.len k / sym known.size k)) ∙ last-group c known.has not)
 
-  -- 11, 17 and 24, for the columns of texts if nothing is away
+  -- refusals 11, 17 and 24 for the text columns, if no object of the row group is away
   texts-tests : (values : Values) → length values.texts ≡ length r.texts → (any_too_long values.texts).0 ≡ false → first_of (absents r g) ≡ None
       → push_texts_refusal content r.text_objects r.texts values.texts ≡ first_of (any_full (lists_of content r.text_objects) r.texts values.texts ∷ no_space_for_texts r (map (λ form. length form.1) (next_forms (lists_of content r.text_objects) (length r.text_objects.records) r.texts values.texts)) ∷ (list_any (text_written r g) r.texts, refusal.EditsUsedUp) ∷ [])
   texts-tests values same_length short free =
@@ -130,12 +130,12 @@ module _ {K : Type 0} (content : K → List ℕ) (r : Rows K) (are : AreRows con
       let rest = sizes columns (All-tail (λ (d : Vector (Option ℤ)). (d.size ≡ r.size) × (d.len ≡ length r.alive)) c columns same_length) in
       λ k. here k ∷ rest k
 
-  -- a table without columns of numbers has nothing to refuse for them
+  -- a table without number columns refuses nothing because of numbers
   no-columns : (columns : NumberColumns) → length columns ≡ 0 → first_of (number_space (map (λ (c : Vector (Option ℤ)). c.size) columns) ∷ []) ≡ first_of ((list_any (number_written r g) columns, refusal.EditsUsedUp) ∷ [])
   no-columns [] none = refl
   no-columns (c ∷ columns) none = absurd (omega (arith, none))
 
-  -- 17 and 24, for the columns of numbers if nothing is away
+  -- refusals 17 and 24 for the number columns, if no object of the row group is away
   numbers-tests : first_of (absents r g) ≡ None → push_numbers_refusal r.number_objects r.numbers ≡ first_of (no_space_for_numbers r ∷ (list_any (number_written r g) r.numbers, refusal.EditsUsedUp) ∷ [])
   numbers-tests free = by (begins r) refl where
     wide : Bool
@@ -176,7 +176,7 @@ module _ {K : Type 0} (content : K → List ℕ) (r : Rows K) (are : AreRows con
         ∙ (λ k. last (sym is k) (sym none k))
     by false is = inside is (all_numbers_begin r.numbers) refl ∙ (λ k. last (sym is k) (list_any (number_written r g) r.numbers))
 
-  -- if a row group begins, no object of it was written yet
+  -- if a text object of the row group was written too often, no row group begins, and so numbers need no space
   disjoint : list_any (text_written r g) r.texts ≡ true → (no_space_for_numbers r).0 ≡ false
   disjoint spent = by (begins r) refl where
     by : (b : Bool) → begins r ≡ b → (no_space_for_numbers r).0 ≡ false

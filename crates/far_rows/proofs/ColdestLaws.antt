@@ -1,4 +1,4 @@
--- The eviction victim is local, and has no pin.
+-- The object to evict next is local, and has no pin.
 use Rattle.std.proofs.Common.{◌≡◌, ℕ, Bool, true, false, List, [], ◌∷◌, Option, None, Some, refl, sym, ap, subst, ◌∙◌}
 use Rattle.std.specs.Prelude.{cond, not, IfSome, option_map, slice_get}
 use Rattle.std.specs.Option.{option_and_then, option_or}
@@ -20,7 +20,7 @@ use Rattle.far_rows.specs.Coldest.{coldest, coldest_name, numbers_go_first, pins
 use Rattle.far_rows.proofs.JobsBeginning.{evac-number, evac-text}
 use Rattle.far_rows.proofs.NamingObjects.{number-owned, text-owned}
 
--- a property of either of two is one of the first that exists
+-- a property of both options is one of the first that exists
 or-holds : {A : Type 0} (P : A → Type 0) (a b : Option A) → IfSome a P → IfSome b P → IfSome (option_or a b) P
 or-holds P None b of_a of_b = of_b
 or-holds P (Some a) b of_a of_b = of_a
@@ -29,7 +29,7 @@ in-any-order : {A : Type 0} (P : A → Type 0) (first : Bool) (a b : Option A) �
 in-any-order P true a b of_a of_b = or-holds P a b of_a of_b
 in-any-order P false a b of_a of_b = or-holds P b a of_b of_a
 
--- a property of the name of every local object without pins is one of the victim's name
+-- a property of the names of all local objects without pins is one of the coldest object's name
 module _ {X K : Type 0} (m : Movement X K) (ordered : (o : ℕ) → has m.order o ≡ is_local m o) (P : Name → Type 0) where
   name-holds : (o : ℕ) (name : Option Name) → slice_get (names_of m) o ≡ name → ((n : Name) → slice_get (names_of m) o ≡ Some n → P n) → IfSome name P
   name-holds o None at each = tt

@@ -1,4 +1,4 @@
--- The indexes of a schema are those of its columns, each once.
+-- The indexes of a schema are the indexes of its columns, each once.
 use Rattle.std.proofs.Common.{◌≡◌, ◌≢◌, ℕ, zero, suc, ◌+◌, ◌≤◌, List, [], ◌∷◌, ◌++◌, length, map, Some, refl, sym, ap, ◌∙◌, arith}
 use Rattle.std.specs.Prelude.{All, AllPairs, slice_get}
 use Rattle.std.proofs.lemmas.Option.{none-some, same_Some}
@@ -13,7 +13,7 @@ use Rattle.far_rows.specs.ColumnIndexes.{AreColumnIndexes, IsColumnIn, column_in
 use Rattle.far_rows.specs.Naming.{number_by, AreNumbered, ArePlaced}
 use Rattle.far_rows.specs.Opening.{numbers_from, texts_from}
 
--- the index comes after n columns of numbers, or n of texts
+-- the index follows a number columns, or b text columns
 abbrev IsBehind : ℕ → ℕ → ColumnIndex → Type 0
 IsBehind a b (column_index.Number i) = a ≤ i
 IsBehind a b (column_index.Text i) = b ≤ i
@@ -63,7 +63,7 @@ module _ (size limit : ℕ) where
   within-from a b n p q (kind.Text ∷ kinds) numbers texts =
       All-cons (IsColumnIn p q) (column_index.Text b) (column_indexes_from a (b + 1) kinds) (omega arith) (within-from a (b + 1) (n + 1) p q kinds numbers (omega arith))
 
-  -- there are as many columns of numbers and of texts in all as kinds
+  -- there are as many number columns and text columns together as kinds
   pub columns-count : (n : ℕ) (kinds : List Kind) → length (numbers_from size n kinds) + length (texts_from size limit n kinds) ≡ length kinds
   columns-count n [] = refl
   columns-count n (kind.Int ∷ kinds) = let rest = columns-count (n + 1) kinds in omega arith
@@ -72,20 +72,20 @@ module _ (size limit : ℕ) where
   pub column_indexes-are : (kinds : List Kind) → AreColumnIndexes (column_indexes_from 0 0 kinds) (length (numbers_from size 0 kinds)) (length (texts_from size limit 0 kinds))
   column_indexes-are kinds = record { within = within-from 0 0 0 _ _ kinds (omega arith) (omega arith); once = once-from 0 0 kinds; count = length-from 0 0 kinds ∙ sym (columns-count 0 kinds) }
 
--- the first column that comes after some
+-- the first element after a prefix
 get-behind : {A : Type 0} (ns : List A) (n : A) (more : List A) → slice_get (ns ++ n ∷ more) (length ns) ≡ Some n
 get-behind [] n more = refl
 get-behind (m ∷ ns) n more = get-behind ns n more
 
 module _ (size limit : ℕ) where
-  -- the numbers of the columns of these kinds, of which the first is the n-th
+  -- the column numbers of the number columns of these kinds; the first kind belongs to column n
   abbrev number_columns : ℕ → List Kind → List ℕ
   number_columns n kinds = map (λ c. c.column) (numbers_from size n kinds)
 
   abbrev text_columns : ℕ → List Kind → List ℕ
   text_columns n kinds = map (λ c. c.column) (texts_from size limit n kinds)
 
-  -- each index after columns of these numbers is the index of the next column
+  -- the column with the k-th index has number n + k, if columns with the numbers ns and ts come first
   numbered-from : (ns ts : List ℕ) (n : ℕ) (kinds : List Kind) (a b : ℕ) → a ≡ length ns → b ≡ length ts → (k : ℕ) (s : ColumnIndex) → slice_get (column_indexes_from a b kinds) k ≡ Some s → number_by (ns ++ number_columns n kinds) (ts ++ text_columns n kinds) s ≡ Some (n + k)
   numbered-from ns ts n [] a b of_a of_b k s at = absurd (none-some s at)
   numbered-from ns ts n (kind.Int ∷ kinds) a b of_a of_b zero s at =
@@ -114,7 +114,7 @@ module _ (size limit : ℕ) where
   pub are-numbered : (kinds : List Kind) → AreNumbered (column_indexes_from 0 0 kinds) (number_columns 0 kinds) (text_columns 0 kinds)
   are-numbered kinds k s at = numbered-from [] [] 0 kinds 0 0 refl refl k s at ∙ ap Some (omega arith)
 
-  -- each column of numbers has its index after those of the columns before it
+  -- each number column has its index at its number, after the indexes of the columns before
   numbers-placed-from : (n a b : ℕ) (kinds : List Kind) (before : List ColumnIndex) → n ≡ length before → (i k : ℕ) → slice_get (number_columns n kinds) i ≡ Some k → slice_get (before ++ column_indexes_from a b kinds) k ≡ Some (column_index.Number (a + i))
   numbers-placed-from n a b [] before of_n i k at = absurd (none-some k at)
   numbers-placed-from n a b (kind.Int ∷ kinds) before of_n zero k at =
@@ -131,7 +131,7 @@ module _ (size limit : ℕ) where
       ap (λ (ss : List ColumnIndex). slice_get ss k) (sym (append_assoc before (column_index.Text b ∷ []) (column_indexes_from a (b + 1) kinds)))
       ∙ numbers-placed-from (n + 1) a (b + 1) kinds (before ++ column_index.Text b ∷ []) (omega (arith, of_n, length_push before (column_index.Text b))) i k at
 
-  -- each column of texts too
+  -- each text column has its index at its number, after the indexes of the columns before
   texts-placed-from : (n a b : ℕ) (kinds : List Kind) (before : List ColumnIndex) → n ≡ length before → (i k : ℕ) → slice_get (text_columns n kinds) i ≡ Some k → slice_get (before ++ column_indexes_from a b kinds) k ≡ Some (column_index.Text (b + i))
   texts-placed-from n a b [] before of_n i k at = absurd (none-some k at)
   texts-placed-from n a b (kind.Text ∷ kinds) before of_n zero k at =

@@ -1,4 +1,4 @@
--- The values of a row at each index, while its cells are taken one by one.
+-- The values of a row at each index, while its cells are loaded one by one.
 use Rattle.std.proofs.Common.{◌≡◌, ◌≢◌, ℕ, zero, suc, ◌+◌, ◌<◌, Bool, true, false, List, [], ◌∷◌, ◌++◌, map, length, take, get_or, None, refl, sym, ap, ◌∙◌, arith}
 use Rattle.std.specs.Prelude.{◌&&◌, All, AllPairs}
 use Rattle.std.proofs.Common.{drop, set}
@@ -21,7 +21,7 @@ and-right : (a b : Bool) → a && b ≡ true → b ≡ true
 and-right true b both = both
 and-right false b both = cc
 
--- each cell of a row that fits is of its column's kind
+-- each cell of a row that fits the kinds has its column's kind
 kind-at : (column_indexes : List ColumnIndex) (row : List Cell) (i : ℕ) (s : ColumnIndex) (d : Cell) → kinds_fit (map kind_of column_indexes) row ≡ true → i < length column_indexes → i < length row → is_of_kind (kind_of (get_or column_indexes i s)) (get_or row i d) ≡ true
 kind-at [] row i s d fit a b = absurd (omega arith)
 kind-at (first ∷ column_indexes) [] i s d fit a b = absurd (omega arith)
@@ -33,21 +33,21 @@ pub kind-next : (column_indexes : List ColumnIndex) (row : List Cell) (i j : ℕ
 kind-next column_indexes row i j s new fit same within turn =
     ap (is_of_kind (kind_of (get_or column_indexes i s))) (turn.1 ∙ ap (λ n. get_or row n new) (sym same)) ∙ kind-at column_indexes row i s new fit within (omega (arith, turn.0))
 
--- the cells that were not taken yet are those of the row
+-- the next cell that was not loaded yet is the row's
 pub same-next : (cells row : List Cell) (n : ℕ) (d : Cell) → drop n cells ≡ drop n row → get_or cells n d ≡ get_or row n d
 same-next cells row n d rest =
     let here : n + 0 ≡ n = omega arith in
     sym (get_or-drop n cells 0 d ∙ ap (λ i. get_or cells i d) here) ∙ ap (λ l. get_or l 0 d) rest ∙ get_or-drop n row 0 d ∙ ap (λ i. get_or row i d) here
 
--- also after the next one is taken and replaced
+-- the remaining cells are the row's, also after the next cell is loaded and replaced
 pub same-later : (cells row : List Cell) (n : ℕ) (left : Cell) → drop n cells ≡ drop n row → drop (n + 1) (set cells n left) ≡ drop (n + 1) row
 same-later cells row n left rest = drop-set-lt (n + 1) cells n left (omega arith) ∙ sym (drop-drop 1 n cells) ∙ ap (drop 1) rest ∙ drop-drop 1 n row
 
--- the cells that were taken, and one more
+-- the loaded cells, after one more is loaded
 pub taken-more : (row taken : List Cell) (n : ℕ) (new : Cell) → n < length row → new ≡ get_or row n new → taken ≡ take n row → taken ++ new ∷ [] ≡ take (n + 1) row
 taken-more row taken n new within is so-far = ap (λ cells. cells ++ new ∷ []) so-far ∙ ap (λ cell. take n row ++ cell ∷ []) is ∙ sym (take_more row n new within)
 
--- the indexes before one differ from it
+-- all indexes before the n-th differ from it
 others-before : (column_indexes : List ColumnIndex) (n : ℕ) (s : ColumnIndex) → AllPairs (λ s t. s ≢ t) column_indexes → n < length column_indexes → All (λ t. t ≢ get_or column_indexes n s) (take n column_indexes)
 others-before column_indexes n s once within k d below =
     let early : k < n = omega (arith, length-take n column_indexes) in
@@ -85,7 +85,7 @@ module _ (values : Values) where
   texts-unchanged (column_index.Number i) new = refl
   texts-unchanged (column_index.Text i) new = length-set values.texts i _
 
-  -- the indexes so far have the row's cells, and one more gets its own
+  -- the first n indexes keep their cells, and the next index gets its cell
   pub row-more : (column_indexes : List ColumnIndex) (n : ℕ) (d : ColumnIndex) (new : Cell) → AllPairs (λ s t. s ≢ t) column_indexes → n < length column_indexes → IsColumnIn (length values.numbers) (length values.texts) (get_or column_indexes n d) → is_of_kind (kind_of (get_or column_indexes n d)) new ≡ true → row_of (take (n + 1) column_indexes) (with_value values (get_or column_indexes n d) new) ≡ row_of (take n column_indexes) values ++ new ∷ []
   row-more column_indexes n d new once within is of_kind =
       let s : ColumnIndex = get_or column_indexes n d in
@@ -93,6 +93,6 @@ module _ (values : Values) where
       ∙ map-append (cell_in (with_value values s new)) (take n column_indexes) (s ∷ [])
       ∙ (λ k. row-other (take n column_indexes) s new (others-before column_indexes n d once within) k ++ cell-same s new is of_kind k ∷ [])
 
-  -- an index of the row remains one after other cells were taken
+  -- an index stays in range after other cells were loaded
   pub within-still : (old : Values) (column_indexes : List ColumnIndex) (n : ℕ) (d : ColumnIndex) → All (IsColumnIn (length old.numbers) (length old.texts)) column_indexes → n < length column_indexes → length values.numbers ≡ length old.numbers → length values.texts ≡ length old.texts → IsColumnIn (length values.numbers) (length values.texts) (get_or column_indexes n d)
   within-still old column_indexes n d all within numbers texts = rw (numbers, texts) (all n d within)

@@ -18,17 +18,17 @@ use Rattle.far_rows.specs.Moving.{object_at}
 use Rattle.far_rows.specs.Jobs.{AreAt, SpellsNumbers, SpellsTexts}
 use Rattle.far_rows.specs.Copies.{clean_ticket, Spells, IsCopyOf}
 
--- a property of every element is one of the element that is found
+-- a property of every possible element is one of the element that is found
 pub if-found : {A K : Type 0} (f : A → K) (found : Option A) (is : Option K) (P : K → Type 0) → option_map f found ≡ is → ((x : K) → is ≡ Some x → P x) → IfSome found (λ a. P (f a))
 if-found f None is P same holds = tt
 if-found f (Some a) is P same holds = holds (f a) (sym same)
 
--- the same, if something is known of the element that is found
+-- a property of every element with property Q is one of the element that is found, if it has Q
 pub both-found : {A K : Type 0} (f : A → K) (found : Option A) (is : Option K) (Q P : K → Type 0) → option_map f found ≡ is → IfSome found (λ a. Q (f a)) → ((x : K) → is ≡ Some x → Q x → P x) → IfSome found (λ a. P (f a))
 both-found f None is Q P same known holds = tt
 both-found f (Some a) is Q P same known holds = holds (f a) (sym same) known
 
--- the ticket of an object that is clean
+-- if there is a ticket of a clean object, the object is clean and has this ticket
 pub clean-is : {K : Type 0} (b : Bool) (ticket : Option K) (t : K) → cond b None ticket ≡ Some t → (b ≡ false) × (ticket ≡ Some t)
 clean-is true ticket t is = absurd (none-some t is)
 clean-is false ticket t is = (refl, is)
@@ -46,7 +46,7 @@ module _ {X K : Type 0} (m : Movement X K) (o : ℕ) (w : Pointer) (word : word_
   away-clean = not-dirty w no-place
 
 module _ {K : Type 0} (content : K → List ℕ) (r : Rows K) (are : AreRows content r) (column group o : ℕ) where
-  -- the content of that ticket is the object's far form
+  -- the content of the ticket of a clean object is the object's far form
   pub number-copied : object_at r column group ≡ Some (object.Number o) → (t : K) → clean_ticket r.number_objects o ≡ Some t → SpellsNumbers (ints_meaning (content t)) (content t) → IsCopyOf content r t column group
   number-copied at t clean spelled =
       let ticket = clean-is (dirty r.number_objects o) (ticket_of r.number_objects o) t clean in
@@ -61,7 +61,7 @@ module _ {K : Type 0} (content : K → List ℕ) (r : Rows K) (are : AreRows con
       subst (λ (found : Option Object). IsSomeAnd found (Spells content r t)) (sym at)
       (subst (λ (list : Option (List ℕ)). IsSomeAnd list (λ l. SpellsTexts l (content t))) (sym there) spelled)
 
-  -- the ticket is of the same store as the others
+  -- the ticket belongs to the store of the rows
   pub number-here : (is_of : K → List ℕ → Type 0) (id : List ℕ) → AreAt is_of id r → (t : K) → clean_ticket r.number_objects o ≡ Some t → is_of t id
   number-here is_of id here t clean = subst (λ (ticket : Option K). IfSome ticket (λ k. is_of k id)) (clean-is (dirty r.number_objects o) (ticket_of r.number_objects o) t clean).1 (here.numbers o)
 

@@ -1,4 +1,4 @@
--- Columns with one more value.
+-- Columns after a value is appended to each.
 use Rattle.std.proofs.Common.{◌≡◌, ℕ, ◌+◌, List, [], ◌∷◌, length, refl, arith}
 use Rattle.std.specs.Prelude.{ℤ, Option, All}
 use Rattle.std.proofs.lemmas.List.Elements.{All-nil, All-cons, All-head, All-tail}
@@ -17,7 +17,7 @@ pub as-many-texts : (n : ℕ) (columns : List Texts) → length (all_texts_pushe
 as-many-texts n [] = refl
 as-many-texts n (c ∷ columns) = let rest = as-many-texts (n + 1) columns in omega (arith, rest)
 
--- each column after a value is appended to it
+-- a property of each column after a value is appended to it
 pub all-numbers : (P Q : Vector (Option ℤ) → Type 0) → ((c : Vector (Option ℤ)) (o : ℕ) → P c → Q (number_pushed c o)) → (n : ℕ) (columns : NumberColumns) → All P columns → All Q (all_numbers_pushed n columns)
 all-numbers P Q each n [] all = All-nil Q
 all-numbers P Q each n (c ∷ columns) all =

@@ -1,4 +1,4 @@
--- Columns of numbers with one more number.
+-- Number columns after a number is appended to each.
 use Rattle.std.proofs.Common.{◌≡◌, inl, inr, ℕ, zero, ◌+◌, ◌*◌, ◌%◌, ◌<◌, Bool, true, false, if◌then◌else◌, [], ◌∷◌, ◌++◌, length, refl, sym, ap, subst, ◌∙◌, arith}
 use Rattle.std.specs.Prelude.{ℤ, Option, All, slice_index_or}
 use Rattle.std.proofs.Math.Nat.{mul-add, mul-one}
@@ -10,14 +10,14 @@ use Rattle.far_columns.specs.NumbersTogether.{NumberColumns, all_begin, after_pu
 use Rattle.far_rows.proofs.RowsGroupStarts.{IsNumbers, number-begins, number-begun, numbers-begin, numbers-begun}
 use Rattle.far_rows.proofs.EffectsGrowth.{as-many-numbers, all-numbers}
 
--- a column with one more number, whether its last row group was full or not
+-- a column after a number is appended, whether its last row group was full or not
 pub begun : (c : Vector (Option ℤ)) (o : ℕ) → is_full c ≡ true → after_push c o ≡ record c { objects = c.objects ++ o ∷ []; len = c.len + 1 }
 begun c o full = rw full refl
 
 pub longer : (c : Vector (Option ℤ)) (o : ℕ) → is_full c ≡ false → after_push c o ≡ record c { len = c.len + 1 }
 longer c o full = rw full refl
 
--- it has row groups of the same size, and one more place
+-- its row groups keep their size, and it has one more place
 pub same_length-grown : (size len more : ℕ) → len + 1 ≡ more → (c : Vector (Option ℤ)) (o : ℕ) → (c.size ≡ size) × (c.len ≡ len) → ((after_push c o).size ≡ size) × ((after_push c o).len ≡ more)
 same_length-grown size len more e c o same_length = elim (cases_Bool (is_full c)) [
   | inl full ↦ subst (λ (d : Vector (Option ℤ)). (d.size ≡ size) × (d.len ≡ more)) (sym (begun c o full)) (same_length.0, omega (arith, e, same_length.1))
@@ -34,7 +34,7 @@ module _ (size len : ℕ) (some : 0 < size) (n records now : ℕ) where
   longer-count : now ≡ records → (c : Vector (Option ℤ)) (o : ℕ) → (is_full c ≡ false) × (records ≡ n * length c.objects) → now ≡ n * length (after_push c o).objects
   longer-count count c o was = count ∙ was.1 ∙ ap (λ (d : Vector (Option ℤ)). n * length d.objects) (sym (longer c o was.0))
 
-  -- each column has an object for as many row groups as the others, and there are no other objects
+  -- all columns have objects for equally many row groups, and there are no other objects
   pub count-grown : (columns : NumberColumns) → All (IsNumbers size len) columns → now ≡ records + (if all_begin columns then n else 0) → All (λ c. records ≡ n * length c.objects) columns → (o : ℕ) → All (λ c. now ≡ n * length c.objects) (after_push_all o columns)
   count-grown columns are count was o = elim (cases_eq (len % size) zero) [
     | inl divides ↦

@@ -1,4 +1,4 @@
--- Columns of texts with one more text.
+-- Text columns after a text is appended to each.
 use Rattle.std.proofs.Common.{◌≡◌, inl, inr, ℕ, zero, ◌+◌, ◌*◌, ◌%◌, ◌<◌, Bool, true, false, if◌then◌else◌, List, [], ◌∷◌, ◌++◌, length, refl, sym, ap, subst, ◌∙◌, arith}
 use Rattle.std.specs.Prelude.{All, slice_index_or}
 use Rattle.std.proofs.Math.Nat.{mul-add, mul-one}
@@ -10,14 +10,14 @@ use Rattle.far_texts.specs.Together.{all_begin, after_push_all}
 use Rattle.far_rows.proofs.RowsGroupStarts.{IsTexts, text-begins, text-begun, texts-begin, texts-begun}
 use Rattle.far_rows.proofs.EffectsGrowth.{as-many-texts, all-texts}
 
--- a column with one more text, whether its last row group was full or not
+-- a column after a text is appended, whether its last row group was full or not
 pub begun : (c : Texts) (o : ℕ) → begins_group c ≡ true → after_push c o ≡ record c { objects = c.objects ++ o ∷ []; len = c.len + 1 }
 begun c o full = rw full refl
 
 pub longer : (c : Texts) (o : ℕ) → begins_group c ≡ false → after_push c o ≡ record c { len = c.len + 1 }
 longer c o full = rw full refl
 
--- it has row groups of the same size, and one more place
+-- its row groups keep their size, and it has one more place
 pub same_length-grown : (size len more : ℕ) → len + 1 ≡ more → (c : Texts) (o : ℕ) → (c.size ≡ size) × (c.len ≡ len) → ((after_push c o).size ≡ size) × ((after_push c o).len ≡ more)
 same_length-grown size len more e c o same_length = elim (cases_Bool (begins_group c)) [
   | inl full ↦ subst (λ (d : Texts). (d.size ≡ size) × (d.len ≡ more)) (sym (begun c o full)) (same_length.0, omega (arith, e, same_length.1))
@@ -34,7 +34,7 @@ module _ (size len : ℕ) (some : 0 < size) (n records now : ℕ) where
   longer-count : now ≡ records → (c : Texts) (o : ℕ) → (begins_group c ≡ false) × (records ≡ n * length c.objects) → now ≡ n * length (after_push c o).objects
   longer-count count c o was = count ∙ was.1 ∙ ap (λ (d : Texts). n * length d.objects) (sym (longer c o was.0))
 
-  -- each column has an object for as many row groups as the others, and there are no other objects
+  -- all columns have objects for equally many row groups, and there are no other objects
   pub count-grown : (columns : List Texts) → All (IsTexts size len) columns → now ≡ records + (if all_begin columns then n else 0) → All (λ c. records ≡ n * length c.objects) columns → (o : ℕ) → All (λ c. now ≡ n * length c.objects) (after_push_all o columns)
   count-grown columns are count was o = elim (cases_eq (len % size) zero) [
     | inl divides ↦

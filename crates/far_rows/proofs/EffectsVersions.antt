@@ -37,7 +37,7 @@ module _ {K : Type 0} where
   abbrev once_more : ObjectRecord K → ObjectRecord K
   once_more object_record = record object_record { version = object_record.version + 1 }
 
-  -- these objects are written, one after another
+  -- the records after these objects are written, one after another
   abbrev counted : List (ObjectRecord K) → List ℕ → List (ObjectRecord K)
   counted records [] = records
   counted records (o ∷ os) = counted (with_record records o once_more) os
@@ -77,7 +77,7 @@ module _ {K : Type 0} where
       counted-others (with_record records o once_more) os p (All-tail (λ q. q ≢ p) o os others)
       ∙ writes-other records o p (λ same. All-head (λ q. q ≢ p) o os others (sym same))
 
-  -- each of them at most once
+  -- each object is written at most once if none is listed twice
   counted-once : (records : List (ObjectRecord K)) (os : List ℕ) → AreOnce os → (p : ℕ) → writes (counted records os) p ≤ writes records p + 1
   counted-once records [] once p = omega arith
   counted-once records (o ∷ os) once p = elim (cases_eq p o) [
@@ -92,7 +92,7 @@ module _ {K : Type 0} where
         omega (arith, rest, here)
   ]
 
-  -- for numbers
+  -- appending a number to each column writes each object at most once
   one-written : (m : Movement (Option ℤ) K) (c : Vector (Option ℤ)) (x : Option ℤ) → is_full c ≡ false → (objects_after_push m c x).records ≡ with_record m.records (object_at c c.len) once_more
   one-written m c x not = rw not refl
 
@@ -145,7 +145,7 @@ module _ {K : Type 0} (content : K → List ℕ) where
         subst (λ (l : List (ObjectRecord K)). writes l o ≤ writes m.records o + 1) (sym (all-written m columns numbers same_length not)) (counted-once m.records last (numbers-once columns shaped not all_disjoint.all_disjoint.disjoint) o)
   ]
 
--- for texts
+-- appending a text to each column writes each object at most once
 module _ {K : Type 0} where
   lens-unchanged : (records : List (ObjectRecord K)) (lists : List (Replacement ℕ)) (p : ℕ) → writes (with_lens records lists) p ≡ writes records p
   lens-unchanged records [] p = refl
@@ -214,7 +214,7 @@ module _ {K : Type 0} (content : K → List ℕ) (size len : ℕ) (columns : Lis
         omega (arith, ap (λ (objects : Movement ℕ K). version_of objects o) given.2, replaced-once m given.0 once o)
   ]
 
--- a single object is written
+-- a write of one object raises no version by more than one
 pub after_write-once : {X K : Type 0} (m : Movement X K) (o p : ℕ) → version_of (after_write m o) p ≤ version_of m p + 1
 after_write-once m o p = counted-once m.records (o ∷ []) (All-nil (λ q. q ≢ o), (cc)) p
 

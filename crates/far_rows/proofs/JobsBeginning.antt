@@ -1,4 +1,4 @@
--- Why no job begins on an object that exists, where the refusal names its column and its row group.
+-- Why beginning a job on an object that exists is refused; the refusal names the object's column and row group.
 use Rattle.std.proofs.Common.{◌≡◌, inl, inr, ℕ, Bool, true, false, List, [], ◌∷◌, None, Some, refl, sym, ap, ◌∙◌}
 use Rattle.std.specs.Prelude.{not, is_none, option_map, slice_get}
 use Rattle.std.specs.Option.{option_and_then, option_map_or, option_or}
@@ -25,20 +25,20 @@ not-not true = refl
 not-not false = refl
 
 module _ {K : Type 0} (content : K → List ℕ) (r : Rows K) (are : AreRows content r) (column group o : ℕ) where
-  -- the column has an index if the object exists
+  -- if the object exists, the column has an index
   pub lies : (found : Object) → object_at r column group ≡ Some found → (s : ColumnIndex) × (slice_get r.column_indexes column ≡ Some s)
   lies found at = elim (cases_option (slice_get r.column_indexes column)) [
     | inl none ↦ absurd (none-some found (sym (ap (option_and_then (λ (t : ColumnIndex). option_map (object_in t) (object_of r t group))) none) ∙ at))
     | inr (s, is) ↦ (s, is)
   ]
 
-  -- the object is away: the refusal names its column and its row group
+  -- why an evacuation is refused: the object is away, and the refusal names its column and its row group
   away-refused : (found : Object) (at : object_at r column group ≡ Some found) (s : ColumnIndex) (is : slice_get r.column_indexes column ≡ Some s) → first_of (away_at r group s ∷ []) ≡ evac_refusal r column group
   away-refused found at s is =
       one-named content r are group column s is None None refl
       ∙ sym (λ k. option_or (first_of ((is_none (is k), refusal.NoColumn) ∷ (is_none (at k), refusal.OutOfRange) ∷ [])) (first_of (option_map_or (absent_at r column group) (is k) (false, refusal.StaleJob) ∷ [])))
 
-  -- the object is local
+  -- why a fetch is refused: the object is local
   local-refused : (found : Object) (at : object_at r column group ≡ Some found) (s : ColumnIndex) (is : slice_get r.column_indexes column ≡ Some s) → first_of ((not (away_at r group s).0, refusal.StaleJob) ∷ []) ≡ fetch_refusal r column group
   local-refused found at s is =
       sym (λ k. option_or (first_of ((is_none (is k), refusal.NoColumn) ∷ (is_none (at k), refusal.OutOfRange) ∷ [])) (first_of ((not (option_map_or (absent_at r column group) (is k) (false, refusal.StaleJob)).0, refusal.StaleJob) ∷ [])))

@@ -1,4 +1,4 @@
--- Lent parts of columns of numbers, as the contracts of rows describe them.
+-- Borrowed ranges of number columns, as the contracts of rows describe them.
 use Rattle.std.proofs.Common.{◌≡◌, ℕ, zero, suc, ℤ, ◌+◌, ◌<◌, Bool, false, List, [], ◌∷◌, map, length, get_or, take, drop, Option, Some, inl, inr, refl, sym, ap, ◌∙◌, arith}
 use Rattle.std.specs.Prelude.{◌||◌, nat_lt, is_none, option_map, slice_get, slice_range}
 use Rattle.std.specs.List.{range_with_len}
@@ -53,7 +53,7 @@ module _ {X K : Type 0} (m : Movement X K) (os : List ℕ) where
             ∙ ap (λ o. first_of (option_map_or (absent m) o (false, refusal.StaleJob) ∷ map absent-of (range_with_len (a + 1) n))) (sym (slice_get_past os a past))
       ]
 
--- a part of a list, after a function is applied to all elements
+-- a range of a list, after a function is applied to all elements
 pub range-map : {X Y : Type 0} (f : X → Y) (xs : List X) (from to : ℕ) → slice_range (map f xs) from to ≡ map f (slice_range xs from to)
 range-map f xs from to = ap (take _) (drop-map f from xs) ∙ take-map f _ (drop from xs)
 

@@ -1,4 +1,4 @@
--- Lent parts of columns of texts, as the contracts of rows describe them.
+-- Borrowed ranges of text columns, as the contracts of rows describe them.
 use Rattle.std.proofs.Common.{◌≡◌, ℕ, ◌+◌, ◌-◌, ◌/◌, ◌<◌, Bool, true, false, List, [], ◌∷◌, map, length, get_or, drop, Option, Some, refl, sym, ap, ◌∙◌}
 use Rattle.std.specs.Prelude.{◌||◌, nat_lt, min, if◌then◌else◌, is_none, option_map, slice_get, slice_range}
 use Rattle.std.specs.List.{range_with_len, zip}
@@ -36,12 +36,12 @@ or-swap true false = refl
 or-swap false true = refl
 or-swap false false = refl
 
--- the objects of a part; an empty part has none
+-- the first object of a range that is away; an empty range has no objects
 overlapped-by : {X K : Type 0} (m : Movement X K) (os : List ℕ) (some : Bool) (first end : ℕ) → first_absent m (if some then slice_range os first end else []) ≡ first_of (map (absent-of m os) (range_with_len first (if some then end - first else 0)))
 overlapped-by m os true first end = absent-range m os first (end - first)
 overlapped-by m os false first end = refl
 
--- parts of two lists are equally long if the lists are
+-- a range is equally long in two lists of equal length
 range-length : {X Y : Type 0} (xs : List X) (ys : List Y) (from to : ℕ) → length xs ≡ length ys → length (slice_range ys from to) ≡ length (slice_range xs from to)
 range-length xs ys from to same =
     length-take (to - from) (drop from ys)

@@ -1,4 +1,4 @@
--- Rows whose objects moved: each object has the same list, so the rows have the same cells.
+-- Rows after their objects moved: each object keeps its list, so the rows keep their cells.
 use Rattle.std.proofs.Common.{◌≡◌, ℕ, List, [], ◌∷◌, map, get_or, Option, refl, sym, ap, subst, ◌∙◌}
 use Rattle.std.specs.Prelude.{ℤ}
 use Rattle.far_types.specs.declared.name.Name.{Name}

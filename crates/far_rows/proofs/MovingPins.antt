@@ -1,4 +1,4 @@
--- Why pinning an object that exists is refused, where the refusal names its column and its row group.
+-- Why pinning an object that exists is refused; the refusal names the object's column and row group.
 use Rattle.std.proofs.Common.{◌≡◌, inl, inr, ℕ, Bool, false, List, [], ◌∷◌, Option, None, Some, refl, sym, ap, ◌∙◌}
 use Rattle.std.specs.Prelude.{cond, is_none, option_map, slice_get}
 use Rattle.std.specs.Option.{option_and_then, option_map_or, option_or}

@@ -1,4 +1,4 @@
--- The names of objects when more are made: the old names stay, and each new one is after them.
+-- The names of objects when more are made: the old names stay, and the new names follow them.
 use Rattle.std.proofs.Common.{◌≡◌, inl, inr, ℕ, zero, suc, List, [], ◌∷◌, ◌++◌, length, Some, refl, sym, ap, ◌∙◌, arith}
 use Rattle.std.specs.Prelude.{◌⊎◌, slice_get}
 use Rattle.std.proofs.lemmas.List.{map-append}
@@ -9,13 +9,13 @@ use Rattle.far_scopes.specs.Effects.{new_record, after_create}
 use Rattle.far_scopes.proofs.MemoryWordPlaces.{slice_get-push_last}
 use Rattle.far_rows.specs.Naming.{names_of, AreNamed}
 
--- an element of a list is one of a longer list
+-- an element of a list keeps its index when the list gets longer
 pub get-before : {A : Type 0} (xs ys : List A) (i : ℕ) (x : A) → slice_get xs i ≡ Some x → slice_get (xs ++ ys) i ≡ Some x
 get-before [] ys i x at = absurd (none-some x at)
 get-before (z ∷ xs) ys zero x at = at
 get-before (z ∷ xs) ys (suc i) x at = get-before xs ys i x at
 
--- an element of a list with one more is that one, or an old one
+-- an element of a list with one more is an old element or the last one
 get-pushed : {A : Type 0} (xs : List A) (y : A) (i : ℕ) (x : A) → slice_get (xs ++ y ∷ []) i ≡ Some x → (slice_get xs i ≡ Some x) ⊎ ((i ≡ length xs) × (x ≡ y))
 get-pushed [] y zero x at = inr (refl, sym (same_Some y x at))
 get-pushed [] y (suc i) x at = absurd (none-some x at)
@@ -25,14 +25,14 @@ get-pushed (z ∷ xs) y (suc i) x at = elim (get-pushed xs y i x at) [
   | inr new ↦ inr (omega (arith, new.0), new.1)
 ]
 
--- the old names are still there
+-- each object keeps its name
 abbrev pub Extends : List Name → List Name → Type 0
 Extends old new = (o : ℕ) (name : Name) → slice_get old o ≡ Some name → slice_get new o ≡ Some name
 
 pub named-more : (old new : List Name) (column : ℕ) (objects : List ℕ) → Extends old new → AreNamed old column objects → AreNamed new column objects
 named-more old new column objects more named g o at = more o record { column = column; group = g } (named g o at)
 
--- the object of the next row group has its name
+-- the objects of a column are still named after its next row group got a new object
 pub named-next : (names : List Name) (column : ℕ) (objects : List ℕ) → AreNamed names column objects → AreNamed (names ++ record { column = column; group = length objects } ∷ []) column (objects ++ length names ∷ [])
 named-next names column objects named g o at =
     let next : Name = record { column = column; group = length objects } in

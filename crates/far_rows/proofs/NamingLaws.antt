@@ -1,4 +1,4 @@
--- The names of objects do not change, whatever is done to an object.
+-- Objects keep their names, whatever is done to one of them.
 use Rattle.std.proofs.Common.{◌≡◌, inl, inr, ℕ, ◌+◌, List, [], ◌∷◌, length, map, set, Option, None, Some, refl, sym, ap, ◌∙◌}
 use Rattle.std.specs.Prelude.{Result, option_map, OnOk, OnErr, IsSomeAnd, slice_get}
 use Rattle.std.proofs.lemmas.List.{length-map, map-set, set-get_or}
@@ -16,7 +16,7 @@ use Rattle.far_rows.specs.Naming.{names_of}
 abbrev names_in : {K : Type 0} → List (ObjectRecord K) → List Name
 names_in records = map (λ object_record. object_record.name) records
 
--- another record for an object, with the same name
+-- the names stay when the record of an object changes but not its name
 pub names-with : {K : Type 0} (records : List (ObjectRecord K)) (o : ℕ) (change : ObjectRecord K → ObjectRecord K) → ((object_record : ObjectRecord K) → (change object_record).name ≡ object_record.name) → names_in (with_record records o change) ≡ names_in records
 names-with {K} records o change keeps = elim (cases_option (slice_get records o)) [
   | inl none ↦ rw none refl
@@ -35,7 +35,7 @@ as-many old new same = sym (length-map new.records (λ e. e.name)) ∙ ap length
 pub still-named : {X K A : Type 0} (old new done : Movement X K) (result : Result A Refusal) → OnOk result (new ≡ done) → OnErr result (new ≡ old) → names_of done ≡ names_of old → names_of new ≡ names_of old
 still-named old new done result ok err same = by-outcome result ok err (λ e. ap names_of e ∙ same) (ap names_of)
 
--- they stay if an object is brought back
+-- the names stay if an object is brought back
 came : {X K : Type 0} (old new : Movement X K) (o : ℕ) (list : Option (List X)) → IsSomeAnd list (λ xs. new ≡ after_arrive old o xs) → names_of new ≡ names_of old
 came old new o (Some xs) is = ap names_of is
 came old new o None is = absurd is

@@ -1,4 +1,4 @@
--- The owners of the objects of columns of numbers, after a number is appended to each.
+-- The owners of the objects of number columns, after a number is appended to each.
 use Rattle.std.proofs.Common.{◌≡◌, inl, inr, ℕ, zero, suc, ◌+◌, ◌%◌, ◌<◌, true, false, List, [], ◌∷◌, ◌++◌, map, length, get_or, sym, ap, subst, ◌∙◌, arith}
 use Rattle.std.specs.Prelude.{ℤ, Option, Some, All, slice_get}
 use Rattle.std.proofs.lemmas.Bool.{cases_eq}
@@ -25,7 +25,7 @@ column_of c = c.column
 abbrev objects_of : Vector (Option ℤ) → List ℕ
 objects_of c = c.objects
 
--- a column with one more number is at its index
+-- each column keeps its index after a number is appended to each
 pushed-at : (n : ℕ) (columns : NumberColumns) (i : ℕ) (c : Vector (Option ℤ)) → slice_get columns i ≡ Some c → slice_get (after_push_all n columns) i ≡ Some (after_push c (n + i))
 pushed-at n [] i c at = absurd (none-some c at)
 pushed-at n (d ∷ columns) zero c at =
@@ -56,7 +56,7 @@ module _ (n : ℕ) (columns : NumberColumns) where
       (after_push c (n + i), pushed-at n columns i c at, ap column_of is, λ g o there. ap (λ (d : Vector (Option ℤ)). slice_get d.objects g) is ∙ there)
 
 module _ {K : Type 0} where
-  -- if all begin row groups, the new names are theirs, in order
+  -- if all columns begin row groups, the new objects have the names of these row groups, in order
   all-made : (m : Movement (Option ℤ) K) (columns : NumberColumns) (numbers : Numbers) → length numbers ≡ length columns → All (λ c. is_full c ≡ true) columns → names_of (objects_after_push_all m columns numbers) ≡ names_of m ++ map next_name columns
   all-made m [] numbers same_length full = sym (append-nil (names_of m))
   all-made m (c ∷ columns) [] same_length full = absurd (omega (arith, same_length))

@@ -1,4 +1,4 @@
--- The names of the objects of columns of numbers, after a number is appended to each.
+-- The names of the objects of number columns, after a number is appended to each.
 use Rattle.std.proofs.Common.{◌≡◌, inl, inr, ℕ, zero, ◌+◌, ◌%◌, ◌<◌, true, false, List, [], ◌∷◌, ◌++◌, length, map, get_or, refl, sym, ap, subst, ◌∙◌, arith}
 use Rattle.std.specs.Prelude.{ℤ, Option, Some, All, slice_get}
 use Rattle.std.proofs.lemmas.Bool.{cases_eq, cases_Bool}
@@ -18,7 +18,7 @@ use Rattle.far_rows.proofs.EffectsNumberGrowth.{begun, longer}
 use Rattle.far_rows.proofs.NamingLaws.{names-after_write}
 use Rattle.far_rows.proofs.NamingCreation.{Extends, get-before, named-more, named-next, names-after_create}
 
--- the objects of a column have its names
+-- the objects of a column are named by it and by their row groups
 abbrev pub IsNamed : List Name → Vector (Option ℤ) → Type 0
 IsNamed names c = AreNamed names c.column c.objects
 
@@ -57,7 +57,7 @@ module _ {K : Type 0} where
   numbers-extend m (c ∷ columns) [] o name at = at
   numbers-extend m (c ∷ columns) (x ∷ numbers) o name at = numbers-extend (objects_after_push m c x) columns numbers o name (number-extends m c x o name at)
 
-  -- if all begin row groups, each new object has the name of its column's row group
+  -- if all columns begin row groups, each new object has the name of its column's row group
   named-begun : (m : Movement (Option ℤ) K) (columns : NumberColumns) (numbers : Numbers) (n : ℕ) → n ≡ length (names_of m) → length numbers ≡ length columns → All (λ c. is_full c ≡ true) columns → All (IsNamed (names_of m)) columns → All (IsNamed (names_of (objects_after_push_all m columns numbers))) (after_push_all n columns)
   named-begun m [] numbers n count same_length full named = All-nil (IsNamed (names_of (objects_after_push_all m [] numbers)))
   named-begun m (c ∷ columns) [] n count same_length full named = absurd (omega (arith, same_length))
@@ -75,7 +75,7 @@ module _ {K : Type 0} where
       (named-more (names_of next) last (after_push c n).column (after_push c n).objects (numbers-extend next columns numbers) own)
       (named-begun next columns numbers (n + 1) more (omega (arith, same_length)) (All-tail (λ d. is_full d ≡ true) c columns full) others)
 
-  -- if none begins one, all names stay
+  -- if no column begins a row group, all names stay
   pub names-written-in : (m : Movement (Option ℤ) K) (columns : NumberColumns) (numbers : Numbers) → All (λ c. is_full c ≡ false) columns → names_of (objects_after_push_all m columns numbers) ≡ names_of m
   names-written-in m [] numbers not = refl
   names-written-in m (c ∷ columns) [] not = refl

@@ -21,7 +21,7 @@ use Rattle.far_rows.specs.Naming.{names_of}
 use Rattle.far_rows.specs.Rows.{Rows, AreRows, object_of}
 use Rattle.far_rows.specs.Moving.{object_in, object_at}
 
--- a list that is in local memory is the list of its object
+-- if the list of an object has P, and P implies Q, its local list has Q
 of-local : {A : Type 0} (P Q : List A → Type 0) (local far : Option (List A)) → IsSomeAnd (option_or local far) P → ((list : List A) → P list → Q list) → IfSome local Q
 of-local P Q None far has then = (cc)
 of-local P Q (Some list) far has then = then list has

@@ -5,7 +5,7 @@ use Rattle.std.proofs.lemmas.Option.{none-some, same_Some}
 use Rattle.far_types.specs.declared.name.Name.{Name}
 use Rattle.far_rows.specs.Naming.{AreOwned}
 
--- an element of two joined lists is one of the first, or one of the second
+-- an element of two joined lists is in the first or in the second
 get-either : {A : Type 0} (xs ys : List A) (o : ℕ) (x : A) → slice_get (xs ++ ys) o ≡ Some x → (slice_get xs o ≡ Some x) ⊎ ((j : ℕ) × (o ≡ length xs + j) × (slice_get ys j ≡ Some x))
 get-either [] ys o x at = inr (o, omega arith, at)
 get-either (z ∷ xs) ys zero x at = inl at
@@ -14,7 +14,7 @@ get-either (z ∷ xs) ys (suc o) x at = elim (get-either xs ys o x at) [
   | inr behind ↦ inr (behind.0, omega (arith, behind.1), behind.2)
 ]
 
--- an element of a mapped list is the image of one of the list
+-- an element of a mapped list is the image of an element
 get-made : {A B : Type 0} (f : A → B) (xs : List A) (j : ℕ) (y : B) → slice_get (map f xs) j ≡ Some y → (x : A) × (slice_get xs j ≡ Some x) × (f x ≡ y)
 get-made f [] j y at = absurd (none-some y at)
 get-made f (x ∷ xs) zero y at = (x, refl, same_Some (f x) y at)
@@ -25,11 +25,11 @@ module _ {C : Type 0} (column_of : C → ℕ) (objects_of : C → List ℕ) wher
   abbrev pub name_of : C → Name
   name_of c = record { column = column_of c; group = length (objects_of c) }
 
-  -- each column is there with its number and its objects, and perhaps more objects
+  -- each column keeps its number and its objects, and may have more objects
   abbrev pub AreMore : List C → List C → Type 0
   AreMore columns after = (i : ℕ) (c : C) → slice_get columns i ≡ Some c → (d : C) × (slice_get after i ≡ Some d) × (column_of d ≡ column_of c) × ((g o : ℕ) → slice_get (objects_of c) g ≡ Some o → slice_get (objects_of d) g ≡ Some o)
 
-  -- each has one more, the next in order
+  -- each column has one more object; the new objects are numbered from n in the order of the columns
   abbrev pub HaveNext : ℕ → List C → List C → Type 0
   HaveNext n columns after = (i : ℕ) (c : C) → slice_get columns i ≡ Some c → (d : C) × (slice_get after i ≡ Some d) × (column_of d ≡ column_of c) × (slice_get (objects_of d) (length (objects_of c)) ≡ Some (n + i))
 

@@ -1,4 +1,4 @@
--- The names of the objects of columns of texts, after a text is appended to each.
+-- The names of the objects of text columns, after a text is appended to each.
 use Rattle.std.proofs.Common.{◌≡◌, ◌≢◌, inl, inr, ℕ, ◌+◌, ◌%◌, ◌<◌, true, false, List, [], ◌∷◌, ◌++◌, length, map, get_or, Option, Some, refl, sym, ap, subst, ◌∙◌, arith}
 use Rattle.std.specs.Prelude.{All, slice_get}
 use Rattle.std.proofs.lemmas.Bool.{cases_Bool}
@@ -19,7 +19,7 @@ use Rattle.far_rows.proofs.EffectsTextGrowth.{begun, longer}
 use Rattle.far_rows.proofs.NamingLaws.{names-after_replace_all}
 use Rattle.far_rows.proofs.NamingCreation.{Extends, get-before, named-more, named-next, names-after_create}
 
--- the objects of a column have its names
+-- the objects of a column are named by it and by their row groups
 abbrev pub IsNamed : List Name → Texts → Type 0
 IsNamed names c = AreNamed names c.column c.objects
 
@@ -38,11 +38,11 @@ pub true-not : true ≢ false
 true-not e = cc
 
 module _ {K : Type 0} (lists : Lists) where
-  -- the objects after a column got one for its next text
+  -- the objects after a new one is made for a column's next text
   abbrev pub one : Movement ℕ K → Texts → Option (List ℕ) → Movement ℕ K
   one m c text = after_create m (next_name c) (texts_form (group_with_next lists c text))
 
-  -- the objects after each column got one, in order
+  -- the objects after a new one is made for each column, in order
   abbrev made : Movement ℕ K → ℕ → List Texts → List (Option (List ℕ)) → Movement ℕ K
   made m n columns texts = after_create_all m columns (next_forms lists n columns texts)
 
@@ -54,7 +54,7 @@ module _ {K : Type 0} (lists : Lists) where
   texts-extend m n (c ∷ columns) [] o name at = at
   texts-extend m n (c ∷ columns) (text ∷ texts) o name at = texts-extend (one m c text) (n + 1) columns texts o name (text-extends m c text o name at)
 
-  -- if all begin row groups, each new object has the name of its column's row group
+  -- if all columns begin row groups, each new object has the name of its column's row group
   named-begun : (m : Movement ℕ K) (columns : List Texts) (texts : List (Option (List ℕ))) (n : ℕ) → n ≡ length (names_of m) → length texts ≡ length columns → All (λ c. begins_group c ≡ true) columns → All (IsNamed (names_of m)) columns → All (IsNamed (names_of (made m n columns texts))) (after_push_all n columns)
   named-begun m [] texts n count same_length begin named = All-nil (IsNamed (names_of m))
   named-begun m (c ∷ columns) [] n count same_length begin named = absurd (omega (arith, same_length))

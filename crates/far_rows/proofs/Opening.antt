@@ -1,4 +1,4 @@
--- The columns of a schema, one after another.
+-- The columns of a schema, made one after another.
 use Rattle.std.proofs.Common.{◌≡◌, ℕ, ◌+◌, ◌<◌, List, [], ◌∷◌, ◌++◌, length, drop, get_or, ℤ, Option, refl, sym, ap, ◌∙◌, arith}
 use Rattle.std.proofs.lemmas.List.{append_assoc, length-append, at_drop_more}
 use Rattle.far_types.specs.declared.cell.Kind.{Kind}
@@ -26,7 +26,7 @@ module _ (size limit : ℕ) where
   texts-first n kind.Int kinds = refl
   texts-first n kind.Text kinds = refl
 
-  -- the columns so far and the remaining ones, after one more
+  -- the columns made so far and the remaining ones, after one more is made
   pub column_indexes-next : (column_indexes column_indexes' : List ColumnIndex) (numbers numbers' : List (Vector (Option ℤ))) (texts texts' : List Texts) (n i : ℕ) (d : Kind) (kinds : List Kind) → i < length kinds
       → column_indexes' ≡ column_indexes ++ column_indexes_from (length numbers) (length texts) (get_or kinds i d ∷ [])
       → numbers' ≡ numbers ++ numbers_from size n (get_or kinds i d ∷ [])

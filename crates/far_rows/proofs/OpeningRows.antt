@@ -1,4 +1,4 @@
--- A new table is a valid one.
+-- A new table is valid.
 use Rattle.std.proofs.Common.{◌≡◌, ℕ, ◌+◌, ◌*◌, ◌-◌, ◌≤◌, ◌^◌, ℤ, List, [], ◌∷◌, length, get_or, replicate, Option, refl, sym, ap, ◌∙◌, arith}
 use Rattle.std.specs.Prelude.{All, AllPairs, slice_get}
 use Rattle.std.proofs.lemmas.Option.{slice_get_past, none-some}
@@ -23,7 +23,7 @@ mul-zero n = omega arith
 zero-times : (n : ℕ) → 0 * n - 0 ≡ 0
 zero-times n = omega arith
 
--- a column of numbers without numbers, and one of texts without texts
+-- an empty number column, and an empty text column
 record IsEmptyNumbers (size : ℕ) (c : Vector (Option ℤ)) : Type 0 where
   pub same_length : c.size ≡ size
   pub len : c.len ≡ 0
@@ -45,7 +45,7 @@ texts-empty size limit n [] = All-nil (IsEmptyTexts size limit)
 texts-empty size limit n (kind.Int ∷ kinds) = texts-empty size limit (n + 1) kinds
 texts-empty size limit n (kind.Text ∷ kinds) = All-cons (IsEmptyTexts size limit) _ _ record { same_length = refl; bound = refl; len = refl; objects = refl } (texts-empty size limit (n + 1) kinds)
 
--- a property of all is one of each pair
+-- a property of all elements implies one of each pair
 pairs-of : {X : Type 0} (P : X → Type 0) (R : X → X → Type 0) (xs : List X) → ((x y : X) → P x → P y → R x y) → All P xs → AllPairs R xs
 pairs-of P R xs both all i j d early within = both (get_or xs i d) (get_or xs j d) (all i d (omega arith)) (all j d within)
 

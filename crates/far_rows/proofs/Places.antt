@@ -13,7 +13,7 @@ use Rattle.far_types.specs.Table.{Place, column, in_group}
 use Rattle.far_types.specs.Lent.{text_cell}
 use Rattle.far_rows.specs.Places.{row_at, places_of}
 
--- the places from one on: a row for each flag
+-- the places from the n-th on: a row for each flag
 abbrev pub placed : (ℕ → List Cell) → ℕ → List Bool → List Place
 placed rows n flags = map (λ (at : ℕ × Bool). record { cells = rows at.0; alive = at.1 }) (enumerate_from n flags)
 
@@ -23,7 +23,7 @@ length-places columns flags = length-map (enumerate_from 0 flags) (λ (at : ℕ 
 cell-there : (columns : List (List Cell)) (c p : ℕ) → cell_at c (row_at columns p) ≡ get_or (get_or columns c []) p cell.Missing
 cell-there columns c p = unwrap_or-slice_get (row_at columns p) c cell.Missing ∙ get_or-map (λ (cells : List Cell). get_or cells p cell.Missing) columns c []
 
--- a column of the places is the column that they were made from
+-- each column of the places is the column that the places were made from
 placed-column : (columns : List (List Cell)) (c n : ℕ) (flags : List Bool) → n + length flags ≡ length (get_or columns c []) → column c (placed (row_at columns) n flags) ≡ drop n (get_or columns c [])
 placed-column columns c n [] count = sym (drop_all n (get_or columns c []) (omega (arith, count)))
 placed-column columns c n (flag ∷ flags) count =
@@ -38,7 +38,7 @@ places-column columns flags c count = placed-column columns c 0 flags (omega (ar
 cell-set : (c : ℕ) (row : List Cell) (new : Cell) → c < length row → cell_at c (set row c new) ≡ new
 cell-set c row new within = unwrap_or-slice_get (set row c new) c cell.Missing ∙ get_or-set_same row c new cell.Missing within
 
--- one cell of a column changes
+-- the column after one of its cells is changed
 changed-column : (rows : ℕ → List Cell) (c : ℕ) (new : Cell) → ((i : ℕ) → c < length (rows i)) → (n p : ℕ) (flags : List Bool) → column c (change_at (with_cell c new) p (placed rows n flags)) ≡ set (column c (placed rows n flags)) p new
 changed-column rows c new wide n p [] = refl
 changed-column rows c new wide n zero (flag ∷ flags) = let here = cell-set c (rows n) new (wide n) in λ i. here i ∷ column c (placed rows (n + 1) flags)
@@ -49,7 +49,7 @@ set-column columns flags c p new within count =
     changed-column (row_at columns) c new (λ i. omega (arith, within, length-map columns (λ (cells : List Cell). get_or cells i cell.Missing))) 0 p flags
     ∙ ap (λ (cells : List Cell). set cells p new) (places-column columns flags c count)
 
--- texts that were turned into cells are turned back into the same texts
+-- a text that is turned into a cell is turned back into this text
 text-round_trip : (text : Option (List ℕ)) → text_in (text_cell text) ≡ text
 text-round_trip None = refl
 text-round_trip (Some text) = refl
@@ -69,6 +69,6 @@ placed-clear rows n p [] = refl
 placed-clear rows n zero (flag ∷ flags) = refl
 placed-clear rows n (suc p) (flag ∷ flags) = ap (λ (places : List Place). record { cells = rows n; alive = flag } ∷ places) (placed-clear rows (n + 1) p flags)
 
--- a place is removed
+-- the places after one is removed
 pub places-clear : (columns : List (List Cell)) (flags : List Bool) (p : ℕ) → places_of columns (set flags p false) ≡ change_at after_remove p (places_of columns flags)
 places-clear columns flags p = placed-clear (row_at columns) 0 p flags

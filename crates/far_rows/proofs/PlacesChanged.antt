@@ -14,7 +14,7 @@ use Rattle.far_rows.specs.Setting.{with_cell_at}
 use Rattle.far_rows.specs.Places.{row_at, places_of}
 use Rattle.far_rows.proofs.Places.{placed, length-places}
 
--- the number of cells that each column has
+-- each column has n cells
 abbrev pub AsLong : ℕ → List (List Cell) → Type 0
 AsLong n columns = All (λ (cells : List Cell). length cells ≡ n) columns
 
@@ -76,7 +76,7 @@ placed-set f g c new n (suc p) at (flag ∷ flags) e here there =
     let rest = placed-set f g c new (n + 1) p at flags (omega arith) here there in
     λ i. record { cells = first i; alive = flag } ∷ rest i
 
--- a row is appended
+-- the places after a row is appended
 pub places-push : (columns : List (List Cell)) (row : List Cell) (flags : List Bool) (flag : Bool) → AsLong (length flags) columns → length row ≡ length columns → places_of (with_row columns row) (flags ++ flag ∷ []) ≡ places_of columns flags ++ record { cells = row; alive = flag } ∷ []
 places-push columns row flags flag long width =
     let e : 0 + length flags ≡ length flags = omega arith in
@@ -89,7 +89,7 @@ changed-past change p [] past = refl
 changed-past change zero (place ∷ places) past = absurd (omega (arith, past))
 changed-past change (suc p) (place ∷ places) past = ap (λ (rest : List Place). place ∷ rest) (changed-past change p places (omega (arith, past)))
 
--- a cell is set; past the places nothing changes
+-- the places after a cell is set; past the end nothing changes
 pub places-set : (columns : List (List Cell)) (flags : List Bool) (c p : ℕ) (new : Cell) → length (get_or columns c []) ≡ length flags → places_of (with_cell_at columns c p new) flags ≡ change_at (with_cell c new) p (places_of columns flags)
 places-set columns flags c p new count = elim (cases_lt p (length (get_or columns c []))) [
   | inl within ↦ placed-set (row_at columns) (row_at (with_cell_at columns c p new)) c new 0 p p flags (omega arith) (row_at-set columns c p new within) (λ i other. row_at-set_other columns c p new i other)

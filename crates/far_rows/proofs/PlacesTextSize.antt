@@ -48,7 +48,7 @@ or-later false b is = is
 pub or-first : (a b : Bool) → a ≡ true → (a || b) ≡ true
 or-first a b is = ap (λ (c : Bool). c || b) is
 
--- some column passes a test of its number and its kind
+-- a column that passes a test of its number and its kind
 some-column_index : (test : ℕ × Kind → Bool) (n : ℕ) (column_indexes : List ColumnIndex) → list_any test (enumerate_from n (map kind_of column_indexes)) ≡ true → (k : ℕ) × (s : ColumnIndex) × (slice_get column_indexes k ≡ Some s) × (test (n + k, kind_of s) ≡ true)
 some-column_index test n [] is = absurd cc
 some-column_index test n (s ∷ column_indexes) is = elim (or-either (test (n, kind_of s)) (list_any test (enumerate_from (n + 1) (map kind_of column_indexes))) is) [
@@ -69,7 +69,7 @@ has-column_index test n (t ∷ column_indexes) (suc k) s at is =
     let e : n + 1 + k ≡ n + suc k = omega arith in
     or-later (test (n, kind_of t)) (list_any test (enumerate_from (n + 1) (map kind_of column_indexes))) (has-column_index test (n + 1) column_indexes k s at (ap (λ j. test (j, kind_of s)) e ∙ is))
 
--- some column of texts passes a test with its text
+-- a text column that passes a test together with its text
 some-text : (test : Texts × Option (List ℕ) → Bool) (columns : List Texts) (texts : List (Option (List ℕ))) → list_any test (zip columns texts) ≡ true → (i : ℕ) × (c : Texts) × (slice_get columns i ≡ Some c) × (test (c, get_or texts i None) ≡ true)
 some-text test [] texts is = absurd cc
 some-text test (c ∷ columns) [] is = absurd cc
@@ -84,7 +84,7 @@ has-text test (d ∷ columns) [] same_length i c at is = absurd (omega (arith, s
 has-text test (d ∷ columns) (text ∷ texts) same_length zero c at is = let same = same_Some d c at in or-first (test (d, text)) (list_any test (zip columns texts)) ((λ i. test (same i, text)) ∙ is)
 has-text test (d ∷ columns) (text ∷ texts) same_length (suc i) c at is = or-later (test (d, text)) (list_any test (zip columns texts)) (has-text test columns texts (omega (arith, same_length)) i c at is)
 
--- the lengths of the next forms, if each is the length for its column
+-- the lengths of the next forms, given the length for each column
 form-lens : (lists : Lists) (n : ℕ) (columns : List Texts) (texts : List (Option (List ℕ))) (long : Texts → ℕ) → length texts ≡ length columns → ((i : ℕ) (c : Texts) → slice_get columns i ≡ Some c → texts_length (group_with_next lists c (get_or texts i None)) ≡ long c) → map (λ form. length form.1) (next_forms lists n columns texts) ≡ map long columns
 form-lens lists n [] texts long same_length each = refl
 form-lens lists n (c ∷ columns) [] long same_length each = absurd (omega (arith, same_length))
@@ -106,7 +106,7 @@ module _ {K : Type 0} (content : K → List ℕ) (r : Rows K) (are : AreRows con
   abbrev lists : Lists
   lists = lists_of content r.text_objects
 
-  -- a column of texts that exists
+  -- a text column that exists: its number k, and its index i among the text columns
   record IsThere (k i : ℕ) (c : Texts) : Type 0 where
     lies : slice_get r.column_indexes k ≡ Some (column_index.Text i)
     at : slice_get r.texts i ≡ Some c
@@ -178,7 +178,7 @@ module _ {K : Type 0} (content : K → List ℕ) (r : Rows K) (are : AreRows con
     insert-over : (k i : ℕ) (c : Texts) → IsThere k i c → is_over limits k (length (places_in content r) / limits.group) (places_after insert (places_in content r)) ≡ (chunk_full c (group_with_next lists c (get_or values.texts i None))).0
     insert-over k i c t = let long = insert-long k i c t in λ j. nat_lt (sym t.limit j) (long j)
 
-    -- 11, for an insert
+    -- refusal 11 for an insert
     pub insert-full : (any_full lists r.texts values.texts).0 ≡ overfills (map kind_of r.column_indexes) limits insert (places_in content r)
     insert-full =
         let g = length (places_in content r) / limits.group in
@@ -201,7 +201,7 @@ module _ {K : Type 0} (content : K → List ℕ) (r : Rows K) (are : AreRows con
         let known = by-column_index k i (found.2 ∙ ap Some text.1) in
         has-text full r.texts values.texts same_length i known.0 known.1.at (sym (insert-over k i known.0 known.1) ∙ ap (λ j. is_over limits j g after) (sym e) ∙ text.2))
 
-    -- 17, for an insert and texts
+    -- refusal 17 for the texts of an insert
     pub insert-parts : (n : ℕ) → map (λ form. length form.1) (next_forms lists n r.texts values.texts) ≡ text_parts content limits r insert (length (places_in content r) / limits.group)
     insert-parts n =
         form-lens lists n r.texts values.texts (λ c. text_object_length limits c.column (length (places_in content r) / limits.group) (places_after insert (places_in content r))) same_length
@@ -222,7 +222,7 @@ module _ {K : Type 0} (content : K → List ℕ) (r : Rows K) (are : AreRows con
       ∙ (λ j. texts_length (in_group (sym t.size j) (p / sym t.size j) (set (texts_in lists c) p text)))
       ∙ ap texts_length (sym (group-with-text lists c p text t.has t.is (omega (arith, below, t.len)))))
 
-  -- 11, for a set
+  -- refusal 11 for a set
   pub set-full : (k i p : ℕ) (c : Texts) (text : Option (List ℕ)) → slice_get r.column_indexes k ≡ Some (column_index.Text i) → slice_get r.texts i ≡ Some c → p < length r.alive → (chunk_full c (group_with lists c p text)).0 ≡ overfills (map kind_of r.column_indexes) limits (edit.Set p k (text_cell text)) (places_in content r)
   set-full k i p c text lies at below =
       let t = there k i c lies at in

@@ -34,7 +34,7 @@ not-due : (b : Bool) (e : Refusal) (later : Option Refusal) → cond b (Some e) 
 not-due true e later free = absurd cc
 not-due false e later free = (refl, free)
 
--- tests that do not apply
+-- tests that do not apply may be skipped
 pub skip : (cases more : List (Bool × Refusal)) → All (λ (case : Bool × Refusal). case.0 ≡ false) cases → first_of (cases ++ more) ≡ first_of more
 skip [] more none = refl
 skip (case ∷ cases) more none = ap (λ (b : Bool). cond b (Some case.1) (first_of (cases ++ more))) (All-head (λ (c : Bool × Refusal). c.0 ≡ false) case cases none) ∙ skip cases more (All-tail (λ (c : Bool × Refusal). c.0 ≡ false) case cases none)
@@ -46,7 +46,7 @@ module _ {K : Type 0} (r : Rows K) (g : ℕ) where
   none-away n (t ∷ column_indexes) free zero s at = let same = same_Some t s at in subst (λ (u : ColumnIndex). (away_at r g u).0 ≡ false) same (not-due (away_at r g t).0 (refusal.Absent n g) (first_of (absents_from r g (n + 1) column_indexes)) free).0
   none-away n (t ∷ column_indexes) free (suc k) s at = none-away (n + 1) column_indexes (not-due (away_at r g t).0 (refusal.Absent n g) (first_of (absents_from r g (n + 1) column_indexes)) free).1 k s at
 
--- the last row group of a column that begins none is the row group of the next place
+-- a column that begins no row group has the next place in its last row group
 pub last-group : (c : Texts) → HasGroups c → begins_group c ≡ false → slice_get c.objects (c.len / c.size) ≡ Some (last_object c)
 last-group c has not = by (length c.objects) refl where
   by : (n : ℕ) → n ≡ length c.objects → slice_get c.objects (c.len / c.size) ≡ Some (last_object c)
@@ -62,7 +62,7 @@ last-group c has not = by (length c.objects) refl where
       ap (slice_get c.objects) at ∙ slice_get-get_or c.objects (length c.objects - 1) 0 (omega (arith, is))
 
 module _ {K : Type 0} (content : K → List ℕ) (r : Rows K) (are : AreRows content r) where
-  -- if not all begin a row group, none does
+  -- if not all text columns begin a row group, none does
   pub all-not : all_begin r.texts ≡ false → All (λ c. begins_group c ≡ false) r.texts
   all-not is =
       let len = length r.alive in
@@ -70,7 +70,7 @@ module _ {K : Type 0} (content : K → List ℕ) (r : Rows K) (are : AreRows con
       let disjoint : len % r.size ≢ 0 = λ divides. true-not (sym (texts-begin r.size len r.texts are.some divides cs) ∙ is) in
       λ k d below. text-begun r.size len are.some disjoint (get_or r.texts k d) (cs k d below)
 
-  -- if no object of the row group of the next place is away, no last object of a column of texts is
+  -- if no object of the next place's row group is away, no last object of a text column is away
   pub texts-here : first_of (absents r (length r.alive / r.size)) ≡ None → All (λ c. begins_group c ≡ false) r.texts → All (λ (case : Bool × Refusal). case.0 ≡ false) (texts_absent r.text_objects r.texts)
   texts-here free not = from r.texts (λ i c at. here i c at) where
     here : (i : ℕ) (c : Texts) → slice_get r.texts i ≡ Some c → (absent r.text_objects (last_object c)).0 ≡ false
@@ -89,7 +89,7 @@ module _ {K : Type 0} (content : K → List ℕ) (r : Rows K) (are : AreRows con
     from [] each = All-nil (λ (case : Bool × Refusal). case.0 ≡ false)
     from (c ∷ columns) each = All-cons (λ (case : Bool × Refusal). case.0 ≡ false) (absent r.text_objects (last_object c)) (texts_absent r.text_objects columns) (each 0 c refl) (from columns (λ i d at. each (suc i) d at))
 
-  -- the same for columns of numbers
+  -- if not all number columns begin a row group, none does; if no object of the next place's row group is away, no last object is away
   pub all-numbers-not : all_numbers_begin r.numbers ≡ false → All (λ c. is_full c ≡ false) r.numbers
   all-numbers-not is =
       let len = length r.alive in
@@ -115,6 +115,6 @@ module _ {K : Type 0} (content : K → List ℕ) (r : Rows K) (are : AreRows con
     from [] each = All-nil (λ (case : Bool × Refusal). case.0 ≡ false)
     from (c ∷ columns) each = All-cons (λ (case : Bool × Refusal). case.0 ≡ false) (absent r.number_objects (object_at c c.len)) (numbers_absent r.number_objects columns) (each 0 c refl) (from columns (λ i d at. each (suc i) d at))
 
-  -- 11 and 17 of an insert depend only on the places
+  -- refusals 11 and 17 of an insert depend only on the places
   pub push-plain : (limits : Limits) → AreOf limits r → (values : Values) → length values.texts ≡ length r.texts → push_refusal content r values ≡ insert_refusal content limits r values
   push-plain limits of values same_length = λ k. first_of (append_tests r (insert-full content r are limits of values same_length k) (insert-parts content r are limits of values same_length (length r.text_objects.records) k))

@@ -45,7 +45,7 @@ same-length : (text : Option (List ℕ)) → is_too_long (text_cell text) ≡ fa
 same-length None short = refl
 same-length (Some text) short = short
 
--- an index with a known kind exists
+-- a column with a known kind has an index of this kind
 pub found-column_index : (found : Option ColumnIndex) (kind : Kind) → option_map kind_of found ≡ Some kind → (s : ColumnIndex) × (found ≡ Some s) × (kind_of s ≡ kind)
 found-column_index None kind is = absurd cc
 found-column_index (Some s) kind is = (s, refl, cc)
@@ -54,7 +54,7 @@ module _ {K : Type 0} (content : K → List ℕ) (r : Rows K) (are : AreRows con
   abbrev g : ℕ
   g = place / r.size
 
-  -- the tests that remain if nothing is away
+  -- the tests that remain if no object of the row group is away
   abbrev later : NewCell → Option Object → List (Bool × Refusal)
   later value at = (is_too_full content limits r (edit.Set place column (cell_of value)), refusal.ChunkFull) ∷ option_map_or (no_space_alone content limits r (edit.Set place column (cell_of value)) column (place / limits.group)) at (false, refusal.StaleJob) ∷ option_map_or (writes_used content limits r) at (false, refusal.StaleJob) ∷ []
 

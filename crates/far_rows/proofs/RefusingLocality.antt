@@ -18,7 +18,7 @@ use Rattle.far_rows.proofs.MovementInUse.{number-in-use, text-in-use}
 abbrev pub AreLocal : {X K : Type 0} → Movement X K → Type 0
 AreLocal m = (o : ℕ) → o < length m.records → is_local m o ≡ true
 
--- an object that exists is not away
+-- if every object is local, an object that exists is not away
 one-here : {X K : Type 0} (m : Movement X K) → AreLocal m → (o : Option ℕ) → ((p : ℕ) → o ≡ Some p → p < length m.records) → (option_map_or (absent m) o (false, refusal.StaleJob)).0 ≡ false
 one-here m local None used = refl
 one-here m local (Some o) used = ap not (local o (used o refl))

@@ -18,7 +18,7 @@ use Rattle.far_rows.specs.Naming.{names_of, AreNamed}
 use Rattle.far_rows.specs.Rows.{Rows, AreRows}
 use Rattle.far_rows.specs.Refusing.{away_at, absent_at, absents, absents_from, no_range}
 
--- the refusal of an object with this name
+-- the refusal for an object with this name
 absent-by : {K : Type 0} (object_record : Option (ObjectRecord K)) (name : Name) → option_map (λ e. e.name) object_record ≡ Some name → option_map_or (λ e. refusal.Absent e.name.column e.name.group) object_record refusal.StaleJob ≡ refusal.Absent name.column name.group
 absent-by None name is = absurd (none-some name is)
 absent-by (Some e) name is = ap (λ (n : Name). refusal.Absent n.column n.group) (same_Some e.name name is)
@@ -32,7 +32,7 @@ absent-named : {X K : Type 0} (m : Movement X K) (column g : ℕ) (objects : Lis
 absent-named m column g objects named None at away = absurd cc
 absent-named m column g objects named (Some o) at away = returned m o record { column = column; group = g } (named g o at)
 
--- a column that exists has its number and named objects
+-- a column whose number is known, with a property that all columns have
 number-known : {C : Type 0} (P : C → Type 0) (column_of : C → ℕ) (columns : List C) (i k : ℕ) → slice_get (map column_of columns) i ≡ Some k → All P columns → (c : C) × (slice_get columns i ≡ Some c) × (column_of c ≡ k) × P c
 number-known P column_of [] i k at all = absurd (none-some k at)
 number-known P column_of (c ∷ columns) zero k at all = (c, refl, same_Some (column_of c) k at, all 0 c (omega arith))
@@ -61,7 +61,7 @@ module _ {K : Type 0} (content : K → List ℕ) (r : Rows K) (are : AreRows con
       ∙ absent-named r.text_objects c.column g c.objects known.3 (slice_get c.objects g) refl (sym (ap (λ (p : Bool × Refusal). p.0) is) ∙ away)
       ∙ ap (λ n. refusal.Absent n g) known.2
 
-  -- the refusal of one column
+  -- the refusal for one column names its number and the row group
   pub one-named : (k : ℕ) (s : ColumnIndex) → slice_get r.column_indexes k ≡ Some s → (later last : Option Refusal) → later ≡ last → cond (away_at r g s).0 (Some (away_at r g s).1) later ≡ cond (away_at r g s).0 (Some (refusal.Absent k g)) last
   one-named k s at later last same = one-more (away_at r g s) (refusal.Absent k g) later last (away-named k s at) same
 
@@ -71,11 +71,11 @@ module _ {K : Type 0} (content : K → List ℕ) (r : Rows K) (are : AreRows con
       let rest = first-named column_indexes (n + 1) (λ k t at away. named (suc k) t at away ∙ ap (λ j. refusal.Absent j g) (omega arith)) in
       one-more (away_at r g s) (refusal.Absent n g) (first_of (map (away_at r g) column_indexes)) (first_of (absents_from r g (n + 1) column_indexes)) (λ away. named 0 s refl away ∙ ap (λ j. refusal.Absent j g) (omega arith)) rest
 
-  -- the first column whose object of a row group is away: the refusal names its number and the row group's
+  -- the first column whose object of a row group is away: the refusal names its number and the number of the row group
   pub absents-named : first_of (map (away_at r g) r.column_indexes) ≡ first_of (absents r g)
   absents-named = first-named r.column_indexes 0 (λ k s at away. away-named k s at away ∙ ap (λ j. refusal.Absent j g) (omega arith))
 
--- several row groups of one column
+-- the refusals for several row groups of one column
 module _ {K : Type 0} (content : K → List ℕ) (r : Rows K) (are : AreRows content r) (column : ℕ) (s : ColumnIndex) (lies : slice_get r.column_indexes column ≡ Some s) where
   pub groups-named : (groups : List ℕ) → first_of (map (λ g. away_at r g s) groups) ≡ first_of (map (λ g. absent_at r column g s) groups)
   groups-named [] = refl

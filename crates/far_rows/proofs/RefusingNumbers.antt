@@ -26,7 +26,7 @@ module _ {K : Type 0} (content : K → List ℕ) (r : Rows K) (are : AreRows con
   pub group-there : slice_get v.objects group ≡ Some (object_at v place)
   group-there = ap (slice_get v.objects) (of ∙ ap (λ n. place / n) (sym same_length.0)) ∙ object-there v shaped place (omega (arith, used, same_length.1, shaped.enough))
 
-  -- why that object may not be written
+  -- writing this object is refused exactly as setting the number is
   pub group-writable : (o : ℕ) → Some o ≡ slice_get v.objects group → write_refusal r.number_objects o ≡ option_and_then (λ w. set_refusal r.number_objects w place) (slice_get r.numbers i)
   group-writable o found =
       let there : nat_lt place v.len ≡ true = lt-ltb place v.len (omega (arith, used, same_length.1)) in
@@ -39,7 +39,7 @@ cond-free : {A : Type 0} (b : Bool) (x : A) (rest : Option A) → cond b (Some x
 cond-free true x rest is = cc
 cond-free false x rest is = refl
 
--- if a number may be set its place exists, and the place has the same row group in its column and in the table
+-- if a number may be set, its place exists, and the place has the same row group in its column as in the table
 module _ {K : Type 0} (content : K → List ℕ) (r : Rows K) (are : AreRows content r) (i place : ℕ) (v : Vector (Option ℤ)) (column : slice_get r.numbers i ≡ Some v) where
   also-same_length : (v.size ≡ r.size) × (v.len ≡ length r.alive)
   also-same_length = subst (λ (d : Vector (Option ℤ)). (d.size ≡ r.size) × (d.len ≡ length r.alive)) (get_or_from_slice_get r.numbers i v v column) (are.same_length_numbers i v (slice_get_within r.numbers i v column))

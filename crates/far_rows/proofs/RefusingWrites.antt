@@ -19,7 +19,7 @@ use Rattle.far_rows.specs.Refusing.{is_written_out}
 use Rattle.far_rows.proofs.PlacesTextSize.{both-ways, or-either, or-first, or-later}
 
 module _ {A : Type 0} where
-  -- an element that passes a test
+  -- the index of an element that passes a test, if some element does
   some-at : (test : A → Bool) (xs : List A) → list_any test xs ≡ true → (i : ℕ) × (x : A) × (slice_get xs i ≡ Some x) × (test x ≡ true)
   some-at test [] is = absurd cc
   some-at test (x ∷ xs) is = elim (or-either (test x) (list_any test xs) is) [
@@ -40,7 +40,7 @@ module _ {A : Type 0} where
   any-same f g [] each = refl
   any-same f g (x ∷ xs) each = let here = each 0 x refl in let rest = any-same f g xs (λ i y at. each (suc i) y at) in λ k. here k || rest k
 
--- a column whose objects' places are all used has no object for the next place
+-- a column whose row groups are all full has no object for the next place
 pub no-text : (c : Texts) → HasGroups c → begins_group c ≡ true → slice_get c.objects (c.len / c.size) ≡ None
 no-text c has begins =
     let e = eqb-true c.len (length c.objects * c.size) begins in
@@ -52,11 +52,11 @@ no-number c shaped full =
     slice_get_past c.objects (c.len / c.size) (le-div (length c.objects) c.len c.size shaped.some (omega (arith, e)))
 
 module _ {K : Type 0} (r : Rows K) (g : ℕ) where
-  -- the object of the row group of a column of texts was written too often
+  -- the object of the row group of a text column was written too often
   abbrev pub text_written : Texts → Bool
   text_written c = option_map_or (λ o. (written_out r.text_objects o).0) (slice_get c.objects g) false
 
-  -- the object of the row group of a column of numbers was written too often
+  -- the object of the row group of a number column was written too often
   abbrev pub number_written : Vector (Option ℤ) → Bool
   number_written c = option_map_or (λ o. (written_out r.number_objects o).0) (slice_get c.objects g) false
 
@@ -72,7 +72,7 @@ module _ {K : Type 0} (r : Rows K) (g : ℕ) where
   of-column_index (column_index.Text i) is = or-first (list_any text_written r.texts) (list_any number_written r.numbers) (of-text i (slice_get r.texts i) refl is)
   of-column_index (column_index.Number i) is = or-later (list_any text_written r.texts) (list_any number_written r.numbers) (of-number i (slice_get r.numbers i) refl is)
 
-  -- each index belongs to a column, and each column has its index
+  -- testing all indexes is testing all text columns and all number columns
   pub by-kinds : (content : K → List ℕ) → AreRows content r → list_any (is_written_out r g) r.column_indexes ≡ (list_any text_written r.texts || list_any number_written r.numbers)
   by-kinds content are =
       both-ways (list_any (is_written_out r g) r.column_indexes) (list_any text_written r.texts || list_any number_written r.numbers)
@@ -90,7 +90,7 @@ module _ {K : Type 0} (r : Rows K) (g : ℕ) where
             has-at (is_written_out r g) r.column_indexes c.column (column_index.Number found.0) lies (ap (λ (o : Option (Vector (Option ℤ))). option_map_or (λ p. (written_out r.number_objects p).0) (option_and_then (λ (d : Vector (Option ℤ)). slice_get d.objects g) o) false) found.2 ∙ found.3)
       ])
 
-  -- if this is the columns' last row group, the next forms are for its objects
+  -- if this is the last row group of each column, the next forms are written to its objects
   pub forms-written : (lists : Lists) (n : ℕ) (columns : List Texts) (texts : List (Option (List ℕ))) → length texts ≡ length columns → ((i : ℕ) (c : Texts) → slice_get columns i ≡ Some c → (begins_group c ≡ false) × (slice_get c.objects g ≡ Some (last_object c))) → list_any (λ (form : ℕ × List ℕ). (written_out r.text_objects form.0).0) (next_forms lists n columns texts) ≡ list_any text_written columns
   forms-written lists n [] texts same_length each = refl
   forms-written lists n (c ∷ columns) [] same_length each = absurd (omega (arith, same_length))

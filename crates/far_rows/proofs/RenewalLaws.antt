@@ -1,4 +1,4 @@
--- Rows whose objects got tickets of another store: each object has the same list and the same name.
+-- Rows after their objects got tickets of another store: each object keeps its list and its name.
 use Rattle.std.proofs.Common.{◌≡◌, ℕ, List, [], ◌∷◌, map, length, get_or, Option, refl, sym, ap, subst, ◌∙◌, arith}
 use Rattle.std.specs.Prelude.{ℤ}
 use Rattle.std.specs.List.{zip}

@@ -13,9 +13,9 @@ use Rattle.far_texts.specs.Effects.{begins_group}
 use Rattle.far_columns.specs.NumbersTogether.{NumberColumns, all_begin}
 use Rattle.far_texts.specs.Together.{all_begin as all_texts_begin}
 
--- len elements fill k row groups of one size
+-- len elements need k row groups of one size
 module _ (len k size : ℕ) (some : 0 < size) (enough : len ≤ k * size) (needed : k * size < len + size) where
-  -- all places of the last row group are used
+  -- if a row group begins next, all places of the last row group are used
   pub full-at : len % size ≡ 0 → len ≡ k * size
   full-at divides =
       let q = len / size in
@@ -35,7 +35,7 @@ module _ (len k size : ℕ) (some : 0 < size) (enough : len ≤ k * size) (neede
   pub begun-at : len % size ≢ 0 → len ≢ k * size
   begun-at not_divides full = not_divides (ap (λ n. n % size) full ∙ mul-mod_left k size)
 
--- a column of numbers with the rows of this table
+-- a number column with the rows of this table
 pub record IsNumbers (size len : ℕ) (c : Vector (Option ℤ)) : Type 0 where
   pub shaped : IsShaped c
   pub same_length : (c.size ≡ size) × (c.len ≡ len)
@@ -101,7 +101,7 @@ texts-begun size len (c ∷ columns) some not_divides more are =
     let first = text-begun size len some not_divides c (All-head (IsTexts size len) c columns are) in
     rw first refl
 
--- a table of at most 16 columns and 2^24 places has few enough objects: for each row group, one for each column of a kind
+-- a table of at most 16 columns and fewer than 2^24 places has at most 2^28 objects of a kind, also after the next row group begins
 pub few-more : (records n k size len : ℕ) → records ≡ n * k → k * size ≡ len → len < 2 ^ 24 → 0 < size → n ≤ 16 → records + n ≤ 2 ^ 28
 few-more records n k size len count all below some few =
     let groups = mul-le-mul_left {m = 1} {n = size} k some in

@@ -1,4 +1,4 @@
--- A row group of a column, as its object has it.
+-- A row group of a column, taken from the list of its object.
 use Rattle.std.proofs.Common.{◌≡◌, ℕ, ℤ, ◌*◌, ◌≤◌, ◌<◌, List, [], ◌∷◌, ◌++◌, map, length, take, drop, replicate, get_or, Option, None, Some, refl, sym, ap, subst, ◌∙◌, arith}
 use Rattle.std.specs.Prelude.{◌-◌, min, option_map, unwrap_or, slice_get, IsSomeAnd}
 use Rattle.std.specs.Option.{option_and_then, option_or}
@@ -26,7 +26,7 @@ use Rattle.far_rows.proofs.JobsBeginning.{lies}
 use Rattle.far_rows.proofs.PlacesTextSize.{found-at}
 use Rattle.far_rows.proofs.MovingPins.{found-in, number-of, no-number, text-of, no-text}
 
--- row groups of lists of equal length are equally long
+-- a row group is equally long in two lists of equal length
 group-long : {X Y : Type 0} (size g : ℕ) (xs : List X) (ys : List Y) → length xs ≡ length ys → length (in_group size g xs) ≡ length (in_group size g ys)
 group-long size g xs ys same =
     length-take size (drop (g * size) xs)

@@ -23,14 +23,14 @@ use Rattle.far_rows.specs.ColumnIndexes.{column_in}
 use Rattle.far_rows.specs.Rows.{Rows, AreRows, all_numbers, all_texts}
 use Rattle.far_rows.specs.Refusing.{away_at}
 
--- a property of all elements is one of the element that is read
+-- a property of all elements is one of the element that was read
 pub all-read : {X : Type 0} (P : X → Type 0) (xs : List X) (i : ℕ) (x : X) → All P xs → i < length xs → x ≡ get_or xs i x → P x
 all-read P xs i x all within read = subst P (sym read) (all i x within)
 
 read-some : {X : Type 0} (xs : List X) (i : ℕ) (x d : X) → slice_get xs i ≡ Some x → get_or xs i d ≡ x
 read-some xs i x d is = sym (unwrap_or-slice_get xs i d) ∙ ap (λ o. unwrap_or o d) is
 
--- an element that is read, after a function is applied to all
+-- the element at this index, after a function is applied to all elements
 map-read : {X Y : Type 0} (f : X → Y) (xs : List X) (i : ℕ) (x : X) (e : Y) → i < length xs → x ≡ get_or xs i x → get_or (map f xs) i e ≡ f x
 map-read f xs i x e within read = map-at f xs i x e within ∙ ap f (sym read)
 
@@ -41,7 +41,7 @@ module _ {K : Type 0} (content : K → List ℕ) (r : Rows K) (are : AreRows con
   pub text-column : (i : ℕ) (c : Texts) → i < length r.texts → c ≡ get_or r.texts i c → IsTextColumn (lists_of content r.text_objects) c
   text-column i c within read = all-read (IsTextColumn (lists_of content r.text_objects)) r.texts i c are.texts.all_disjoint.each within read
 
-  -- the object of a row group of a column that is read
+  -- whether the object of a row group of a column is away, given the column
   pub absent-number : (g i : ℕ) (c : Vector (Option ℤ)) → i < length r.numbers → c ≡ get_or r.numbers i c → away_at r g (column_index.Number i) ≡ option_map_or (absent r.number_objects) (slice_get c.objects g) (false, refusal.StaleJob)
   absent-number g i c within read =
       ap (λ (d : Option (Vector (Option ℤ))). option_map_or (absent r.number_objects) (option_and_then (λ (v : Vector (Option ℤ)). slice_get v.objects g) d) (false, refusal.StaleJob)) (slice_get_read r.numbers (length r.numbers) i c refl within read)
@@ -50,7 +50,7 @@ module _ {K : Type 0} (content : K → List ℕ) (r : Rows K) (are : AreRows con
   absent-text g i c within read =
       ap (λ (d : Option Texts). option_map_or (absent r.text_objects) (option_and_then (λ (t : Texts). slice_get t.objects g) d) (false, refusal.StaleJob)) (slice_get_read r.texts (length r.texts) i c refl within read)
 
-  -- a place that exists has an object, and only that can refuse a read
+  -- a place that exists has an object, and a read is refused only if this object is away
   pub number-refused : (i place : ℕ) (c : Vector (Option ℤ)) → i < length r.numbers → c ≡ get_or r.numbers i c → place < length r.alive → IsShaped c → get_refusal r.number_objects c place ≡ first_of (away_at r (place / r.size) (column_index.Number i) ∷ [])
   number-refused i place c within read there shaped =
       let same_length = all-read (λ (v : Vector (Option ℤ)). (v.size ≡ r.size) × (v.len ≡ length r.alive)) r.numbers i c are.same_length_numbers within read in
@@ -77,7 +77,7 @@ module _ {K : Type 0} (content : K → List ℕ) (r : Rows K) (are : AreRows con
       ap (λ b. first_of ((not b, refusal.NoRow) ∷ absent r.text_objects (get_or c.objects (place / c.size) 0) ∷ [])) yes
       ∙ ap (λ (case : Bool × Refusal). first_of (case ∷ [])) (sym object)
 
-  -- the values of a column that is read
+  -- the values of a column, given the column
   pub numbers-read : (i : ℕ) (c : Vector (Option ℤ)) → i < length r.numbers → c ≡ get_or r.numbers i c → get_or (all_numbers content r) i [] ≡ numbers_in content r.number_objects c
   numbers-read i c within read = map-read (numbers_in content r.number_objects) r.numbers i c [] within read
 

@@ -1,4 +1,4 @@
--- The cells of a table after one column gets another value at a place.
+-- The cells of a table after a value is put at a place of one column.
 use Rattle.std.proofs.Common.{◌≡◌, ◌≢◌, inl, inr, ℕ, zero, suc, ◌<◌, List, [], ◌∷◌, length, map, get_or, set, Option, Some, refl, sym, ap, ◌∙◌, arith}
 use Rattle.std.specs.Prelude.{ℤ, AllPairs, option_map, slice_get}
 use Rattle.std.proofs.lemmas.Bool.{cases_eq, cases_lt}
@@ -13,11 +13,11 @@ use Rattle.far_rows.specs.ColumnIndexes.{kind_of, column_in, columns_of}
 use Rattle.far_rows.specs.Setting.{with_cell_at}
 use Rattle.far_rows.proofs.SettingColumns.{map-one}
 
--- texts of columns
+-- the texts of several columns
 abbrev TextLists : Type 0
 TextLists = List (List (Option (List ℕ)))
 
--- the index of another column is another
+-- another column has another index
 other-column_index : (column_indexes : List ColumnIndex) → AllPairs (λ s t. s ≢ t) column_indexes → (c j : ℕ) (s d : ColumnIndex) → slice_get column_indexes c ≡ Some s → j ≢ c → j < length column_indexes → get_or column_indexes j d ≢ s
 other-column_index column_indexes once c j s d at ne within same =
     let here : get_or column_indexes c d ≡ s = get_or_from_slice_get column_indexes c s d at in
@@ -26,13 +26,13 @@ other-column_index column_indexes once c j s d at ne within same =
       | inr behind ↦ once c j d (omega (arith, behind, λ (e : c ≡ j). ne (sym e))) within (here ∙ sym same)
     ]
 
--- an index with a known kind is one of the indexes
+-- a column with a known kind exists
 pub column_index-within : (column_indexes : List ColumnIndex) (c : ℕ) (k : Kind) → option_map kind_of (slice_get column_indexes c) ≡ Some k → c < length column_indexes
 column_index-within [] c k is = absurd cc
 column_index-within (s ∷ column_indexes) zero k is = omega arith
 column_index-within (s ∷ column_indexes) (suc c) k is = let rest = column_index-within column_indexes c k is in omega (arith, rest)
 
--- the column with an index, as cells of the table
+-- the cells of the column with this index
 at-column_index : (column_indexes : List ColumnIndex) (numbers : List Numbers) (texts : TextLists) (c : ℕ) (s : ColumnIndex) → slice_get column_indexes c ≡ Some s → get_or (columns_of column_indexes numbers texts) c [] ≡ column_in numbers texts s
 at-column_index column_indexes numbers texts c s at =
     get_or_from_slice_get (columns_of column_indexes numbers texts) c (column_in numbers texts s) [] (slice_get-map (column_in numbers texts) column_indexes c ∙ ap (option_map (column_in numbers texts)) at)

@@ -1,4 +1,4 @@
--- Columns, one of which gets another value at a place.
+-- Columns after a value is put at a place of one of them.
 use Rattle.std.proofs.Common.{◌≡◌, ◌≢◌, ℕ, zero, suc, ◌<◌, List, [], ◌∷◌, length, map, get_or, set, Option, Some, refl, sym, ap, subst, ◌∙◌, arith}
 use Rattle.std.specs.Prelude.{ℤ, slice_get, slice_set}
 use Rattle.std.proofs.lemmas.Option.{slice_get_within, get_or_from_slice_get}
@@ -12,7 +12,7 @@ use Rattle.far_columns.specs.NumbersTogether.{NumberLists, NumberColumns, AreNum
 use Rattle.far_texts.specs.Together.{AreColumns}
 use Rattle.far_texts.proofs.ColumnsLaws.{columns-after, others-after as texts-after}
 
--- mapping another function changes one element, if it agrees on the others
+-- mapping another function changes only one element, if both functions agree on all others
 pub map-one : {A B : Type 0} (f h : A → B) (xs : List A) (i : ℕ) (y : B) → i < length xs → ((d : A) → h (get_or xs i d) ≡ y) → ((j : ℕ) (d : A) → j ≢ i → j < length xs → h (get_or xs j d) ≡ f (get_or xs j d)) → map h xs ≡ set (map f xs) i y
 map-one f h [] i y within here others = absurd (omega (arith, within))
 map-one f h (x ∷ xs) zero y within here others =

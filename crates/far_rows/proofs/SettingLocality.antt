@@ -1,4 +1,4 @@
--- A set evicts no object, and brings none back.
+-- Setting a cell evicts no object, and brings none back.
 use Rattle.std.proofs.Common.{◌≡◌, ℕ, zero, suc, ◌+◌, true, false, not, List, [], ◌∷◌, length, ℤ, Option, None, Some, refl, ap, subst, ◌∙◌}
 use Rattle.std.specs.Prelude.{is_some, IfSome, slice_get, slice_set}
 use Rattle.std.specs.Option.{option_map_or}
@@ -25,7 +25,7 @@ use Rattle.far_rows.specs.Rows.{Rows, object_of}
 use Rattle.far_rows.specs.Refusing.{away_at, absents, absents_from}
 use Rattle.far_rows.specs.Setting.{set_in}
 
--- the words, with another for object o
+-- the words after the word of object o is changed
 abbrev words_with : List Pointer → ℕ → (Pointer → Pointer) → List Pointer
 words_with words o change = option_map_or (λ word. slice_set words o (change word)) (slice_get words o) words
 
@@ -35,7 +35,7 @@ with-later word words o change = found (slice_get words o) where
   found None = refl
   found (Some w) = refl
 
--- a change of a word that keeps whether its object is local keeps which objects are local
+-- if a change of a word keeps whether its object is local, the objects that are local stay so
 still-local : (change : Pointer → Pointer) → ((word : Pointer) → is_some (at_of (change word)) ≡ is_some (at_of word)) → (words : List Pointer) (o p : ℕ) → is_some (place_of (words_with words o change) p) ≡ is_some (place_of words p)
 still-local change same [] o p = refl
 still-local change same (word ∷ words) zero zero = same word
@@ -103,7 +103,7 @@ alive-column_index content r (column_index.Number i) place (new.Text text) = ref
 alive-column_index content r (column_index.Text i) place (new.Number number) = refl
 
 module _ {K : Type 0} (content : K → List ℕ) (r now : Rows K) (place : ℕ) (value : NewCell) where
-  -- rows after a value was put at an index that exists
+  -- setting a value in a column that exists keeps which objects of each row group are away
   pub set-here : (s : ColumnIndex) (found : Option ColumnIndex) → found ≡ Some s → IfSome found (λ t. now ≡ set_in content r t place value) → (g : ℕ) → absents now g ≡ absents r g
   set-here s found at moved g = ap (λ (rows : Rows K). absents rows g) (subst (λ (o : Option ColumnIndex). IfSome o (λ t. now ≡ set_in content r t place value)) at moved) ∙ set-column_index r g content s place value
 

@@ -1,4 +1,4 @@
--- What columns must be like before a row is appended to them.
+-- What must be true of columns before a row is appended to them.
 -- Internal: no public contract cites it.
 use Rattle.std.specs.Prelude.{◌≡◌, ℕ, ℤ, ◌+◌, ◌≤◌, ◌^◌, true, List, length, Option, None}
 use Rattle.far_scopes.specs.Movement.{Movement}

@@ -10,9 +10,9 @@ use Rattle.far_rows.specs.ColumnIndexes.{Values}
 use Rattle.far_rows.specs.Rows.{Rows}
 use Rattle.far_rows.specs.Refusing.{absents}
 
--- why appending a row is refused, by kind: first if an object of the next place's row group is away, then by the columns of texts, then by
--- those of numbers
-abbrev pub kinds_refusal : {K : Type 0} → (K → List ℕ) → Rows K → Values → Option Refusal
+-- why appending a row is refused: an object of its row group is away, or else the text columns refuse, or else the number columns do
+abbrev pub kinds_refusal : {K : Type 0} → (K → List ℕ) → Rows K → Values
+    → Option Refusal
 kinds_refusal content r values =
     option_or (first_of (absents r (length r.alive / r.size)))
     (option_or (push_texts_refusal content r.text_objects r.texts values.texts)

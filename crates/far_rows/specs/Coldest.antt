@@ -1,4 +1,4 @@
--- The eviction victim among the objects of rows.
+-- The object of rows to evict next.
 use Rattle.std.specs.Prelude.{ℕ, ◌*◌, nat_le, Bool, cond, Option, option_map}
 use Rattle.std.specs.Option.{option_and_then, option_or}
 use Rattle.far_types.specs.declared.name.Name.{Name}
@@ -16,14 +16,14 @@ coldest_name m =
     (coldest_in m)
 
 module _ {K : Type 0} (r : Rows K) where
-  -- whether the objects of numbers have at most as much space, in proportion to their capacity, as those of texts
+  -- whether the memory of numbers has at most as much space, in proportion to its capacity, as the memory of texts
   abbrev pub numbers_go_first : Bool
   numbers_go_first =
       let numbers = r.number_objects.memory.state in
       let texts = r.text_objects.memory.state in
       nat_le (space_of numbers * capacity_of texts) (space_of texts * capacity_of numbers)
 
-  -- the name of the coldest object of the kind with less space or, if that kind has none, of the other
+  -- the name of the object to evict next: the coldest of the kind with less space in proportion or, if it has none, of the second kind
   abbrev pub coldest : Option Name
   coldest =
       cond numbers_go_first

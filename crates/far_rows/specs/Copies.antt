@@ -11,16 +11,16 @@ use Rattle.far_rows.specs.Moving.{object_at}
 use Rattle.far_rows.specs.Jobs.{SpellsNumbers, SpellsTexts}
 
 module _ {K : Type 0} where
-  -- the ticket of an object that is clean
+  -- the ticket of an object; none if the object is dirty
   abbrev pub clean_ticket : {X : Type 0} → Movement X K → ℕ → Option K
   clean_ticket m o = cond (dirty m o) None (ticket_of m o)
 
-  -- the ticket of an object of either kind that is clean
+  -- the ticket of an object of either kind; none if the object is dirty
   abbrev pub copy_in : Rows K → Object → Option K
   copy_in r (object.Number o) = clean_ticket r.number_objects o
   copy_in r (object.Text o) = clean_ticket r.text_objects o
 
-  -- the ticket of the far copy of a row group of a column, as it is now; none if its object is dirty, or does not exist
+  -- the ticket of the far copy of a row group of a column; none if its object is dirty, or does not exist
   abbrev pub copy_of : Rows K → ℕ → ℕ → Option K
   copy_of r column group = option_and_then (copy_in r) (object_at r column group)
 

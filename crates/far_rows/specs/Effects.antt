@@ -33,7 +33,7 @@ module _ {K : Type 0} (content : K → List ℕ) (old : Rows K) where
 
   -- a cell was set to a value
   pub record IsSet (column place : ℕ) (value : NewCell) (new : Rows K) : Type 0 where
-    -- the place's object is written, and nothing else changes
+    -- the cell's object is written, and nothing else changes
     pub moved : IfSome (slice_get old.column_indexes column)
         (λ s. new ≡ set_in content old s place value)
     -- the column has the new cell
@@ -41,7 +41,8 @@ module _ {K : Type 0} (content : K → List ℕ) (old : Rows K) where
         ≡ with_cell_at (all_cells content old) column place (cell_of value)
 
 -- what an edit keeps, whether it is accepted or refused
-pub record KeepsObjects {K : Type 0} (is_of : K → List ℕ → Type 0) (old new : Rows K) : Type 0 where
+pub record KeepsObjects {K : Type 0} (is_of : K → List ℕ → Type 0)
+    (old new : Rows K) : Type 0 where
   -- tickets of a store remain tickets of that store
   pub number_store : (id : List ℕ) → AreHere is_of id old.number_objects
       → AreHere is_of id new.number_objects
@@ -50,4 +51,5 @@ pub record KeepsObjects {K : Type 0} (is_of : K → List ℕ → Type 0) (old ne
   -- no object's version rises by more than one
   pub number_versions : (o : ℕ)
       → version_of new.number_objects o ≤ version_of old.number_objects o + 1
-  pub text_versions : (o : ℕ) → version_of new.text_objects o ≤ version_of old.text_objects o + 1
+  pub text_versions : (o : ℕ)
+      → version_of new.text_objects o ≤ version_of old.text_objects o + 1

@@ -1,4 +1,4 @@
--- Jobs on the objects of rows: what they carry, what they are when they begin, and when they are accepted.
+-- Jobs on the objects of rows: how they begin, what they carry, and when they are accepted.
 use Rattle.std.specs.Prelude.{◌≡◌, ℕ, ℤ, ◌<◌, ◌^◌, not, false, List, [], ◌∷◌, length, Option, FitsSigned, IfSome, IsSomeAnd}
 use Rattle.std.specs.Int.{w64}
 use Rattle.std.specs.Option.{option_or}
@@ -28,7 +28,7 @@ use Rattle.far_rows.specs.Moving.{object_at, object_refusal}
 abbrev pub SpellsNumbers : List (Option ℤ) → List ℕ → Type 0
 SpellsNumbers = IsSpelled (λ number. IfSome number (FitsSigned w64)) FitsCount ints_form
 
--- the bytes are this far form of texts: an object of texts has its form as its list
+-- the bytes are this far form of texts; the list of an object of texts is a far form
 abbrev pub SpellsTexts : List ℕ → List ℕ → Type 0
 SpellsTexts = IsSpelled (λ byte. byte < 2 ^ 8) IsTextsForm (λ bytes. bytes)
 
@@ -65,14 +65,14 @@ module _ {K : Type 0} where
     IsCarriedFetch (Texts job) (Numbers fetched) = ⊥
 
   module _ (r : Rows K) where
-    -- an evacuation of an object that begins now
+    -- an evacuation of an object, begun on these rows
     abbrev pub IsEvacOf : Object → ByKind (Evacuation K) (Evacuation K) → Type 0
     IsEvacOf (object.Number o) (Numbers job) = IsBegunEvac ints_form r.number_objects o job
     IsEvacOf (object.Text o) (Texts job) = IsBegunEvac (λ bytes. bytes) r.text_objects o job
     IsEvacOf (object.Number o) (Texts job) = ⊥
     IsEvacOf (object.Text o) (Numbers job) = ⊥
 
-    -- a fetch of an object that begins now
+    -- a fetch of an object, begun on these rows
     abbrev pub IsFetchOf : Object → ByKind (Fetch K) (Fetch K) → Type 0
     IsFetchOf (object.Number o) (Numbers job) = IsFetch r.number_objects o job
     IsFetchOf (object.Text o) (Texts job) = IsFetch r.text_objects o job
@@ -80,20 +80,20 @@ module _ {K : Type 0} where
     IsFetchOf (object.Text o) (Numbers job) = ⊥
 
     module _ (column group : ℕ) where
-      -- an evacuation of the object of a row group of a column that begins now
+      -- an evacuation of the object of a row group of a column, begun on these rows
       abbrev pub IsEvacBegun : ByKind (Evacuation K) (Evacuation K) → Type 0
       IsEvacBegun job = IsSomeAnd (object_at r column group) (λ object. IsEvacOf object job)
 
-      -- a fetch of the object of a row group of a column that begins now
+      -- a fetch of the object of a row group of a column, begun on these rows
       abbrev pub IsFetchBegun : ByKind (Fetch K) (Fetch K) → Type 0
       IsFetchBegun job = IsSomeAnd (object_at r column group) (λ object. IsFetchOf object job)
 
-      -- why no evacuation begins: there is no such object, or it is away
+      -- why beginning an evacuation is refused: there is no such object, or it is away
       abbrev pub evac_refusal : Option Refusal
       evac_refusal =
           option_or (object_refusal r column group) (first_of (absent_in r column group ∷ []))
 
-      -- why no fetch begins: there is no such object, or it is local
+      -- why beginning a fetch is refused: there is no such object, or it is local
       abbrev pub fetch_refusal : Option Refusal
       fetch_refusal =
           option_or (object_refusal r column group)
@@ -104,7 +104,7 @@ module _ {K : Type 0} where
     pins_by (Numbers carried) = pins_of r.number_objects carried.job.object
     pins_by (Texts carried) = pins_of r.text_objects carried.job.object
 
-    -- the rows after the object of a carried evacuation is sent away
+    -- the rows after the object of a carried evacuation is evicted
     abbrev pub after_commit : ByKind (CarriedEvacuation K) (CarriedEvacuation K) → Rows K
     after_commit (Numbers carried) =
         record r { number_objects = after_leave r.number_objects carried.job.object carried.ticket }
@@ -112,12 +112,13 @@ module _ {K : Type 0} where
         record r { text_objects = after_leave r.text_objects carried.job.object carried.ticket }
 
   module _ (number_of : K → ℕ) (r : Rows K) where
-    -- when a carried evacuation can be committed; it is accepted if the object has no pin either
+    -- when a carried evacuation can be committed, provided that the object has no pin
     abbrev pub IsEvacAccepted : ByKind (CarriedEvacuation K) (CarriedEvacuation K) → Type 0
     IsEvacAccepted (Numbers carried) = IsCommittable number_of ints_form r.number_objects carried
-    IsEvacAccepted (Texts carried) = IsCommittable number_of (λ bytes. bytes) r.text_objects carried
+    IsEvacAccepted (Texts carried) =
+        IsCommittable number_of (λ bytes. bytes) r.text_objects carried
 
-    -- when a carried fetch can be installed; it is accepted if a segment has space for it too
+    -- when a carried fetch can be installed, provided that a segment has space for it
     abbrev pub IsFetchAccepted : ByKind (CarriedFetch K) (CarriedFetch K) → Type 0
     IsFetchAccepted (Numbers fetched) =
         IsInstallable number_of SpellsNumbers r.number_objects fetched

@@ -1,4 +1,4 @@
--- The objects of rows: which they are, how they change in place, and when that is refused.
+-- The objects of rows: how they are found, pinned and touched, and when this is refused.
 use Rattle.std.specs.Prelude.{◌≡◌, ℕ, ◌<◌, List, [], ◌∷◌, length, Option, is_none, option_map, slice_get, Bool, false}
 use Rattle.std.specs.Option.{option_and_then, option_map_or, option_or}
 use Rattle.far_types.specs.declared.refusal.Refusal.{Refusal}
@@ -31,22 +31,22 @@ module _ {K : Type 0} where
   IsInUse r (object.Number o) = o < length r.number_objects.records
   IsInUse r (object.Text o) = o < length r.text_objects.records
 
-  -- an object has one more pin
+  -- the rows after an object got one more pin
   abbrev pub after_pin : Rows K → Object → Rows K
   after_pin r (object.Number o) = record r { number_objects = after_pin_in r.number_objects o }
   after_pin r (object.Text o) = record r { text_objects = after_pin_in r.text_objects o }
 
-  -- an object has one pin less
+  -- the rows after an object lost a pin
   abbrev pub after_unpin : Rows K → Object → Rows K
   after_unpin r (object.Number o) = record r { number_objects = after_unpin_in r.number_objects o }
   after_unpin r (object.Text o) = record r { text_objects = after_unpin_in r.text_objects o }
 
-  -- an object is marked as recently used, if it is local: it is hot, and the most recently used
+  -- the rows after an object is marked as hot and most recently used, if it is local
   abbrev pub after_touch : Rows K → Object → Rows K
   after_touch r (object.Number o) = record r { number_objects = after_touch_in r.number_objects o }
   after_touch r (object.Text o) = record r { text_objects = after_touch_in r.text_objects o }
 
-  -- what a pin, an unpin, a use and a compaction keep, accepted or refused: the cells, and the stores of the tickets
+  -- what pinning, unpinning, touching and compacting keep, accepted or refused: the cells, and the stores of the tickets
   pub record KeepsCells (content : K → List ℕ) (is_of : K → List ℕ → Type 0)
       (old new : Rows K) : Type 0 where
     -- each column has the same cells
@@ -63,13 +63,12 @@ module _ {K : Type 0} where
   pins_used r (object.Text o) = pins_used_up r.text_objects o
 
   -- why unpinning an object is refused
-
   abbrev pub unpin_refusal_of : Rows K → Object → Option Refusal
   unpin_refusal_of r (object.Number o) = unpin_refusal_in r.number_objects o
   unpin_refusal_of r (object.Text o) = unpin_refusal_in r.text_objects o
 
   module _ (r : Rows K) (column group : ℕ) where
-    -- there is no such column, or no place of the row group is used
+    -- why there is no object: there is no such column, or no place of the row group is used
     abbrev pub object_refusal : Option Refusal
     object_refusal =
         first_of (no_column r column ∷ (is_none (object_at r column group), refusal.OutOfRange)
@@ -80,7 +79,8 @@ module _ {K : Type 0} where
     pin_refusal =
         option_or object_refusal
         (first_of (absent_in r column group
-        ∷ option_map_or (pins_used r) (object_at r column group) (false, refusal.StaleJob) ∷ []))
+        ∷ option_map_or (pins_used r) (object_at r column group) (false, refusal.StaleJob)
+        ∷ []))
 
     -- why unpinning the object of a row group of a column is refused (`unpin`)
     abbrev pub unpin_refusal : Option Refusal

@@ -9,14 +9,15 @@ use Rattle.far_rows.specs.declared.column_index.ColumnIndex.TheVariants as colum
 abbrev pub names_of : {X K : Type 0} → Movement X K → List Name
 names_of m = map (λ object_record. object_record.name) m.records
 
--- the objects of a column's row groups are named by its number and the row groups' numbers
+-- the name of each object of a column has the column's number and the number of the object's row group
 abbrev pub AreNamed : List Name → ℕ → List ℕ → Type 0
 AreNamed names column objects =
     (g o : ℕ) → slice_get objects g ≡ Some o
     → slice_get names o ≡ Some record { column = column; group = g }
 
 -- each object belongs to the column and the row group in its name, among columns with these numbers and objects
-abbrev pub AreOwned : {C : Type 0} → (C → ℕ) → (C → List ℕ) → List Name → List C → Type 0
+abbrev pub AreOwned : {C : Type 0} → (C → ℕ) → (C → List ℕ) → List Name → List C
+    → Type 0
 AreOwned {C} column_of objects_of names columns =
     (o : ℕ) (name : Name) → slice_get names o ≡ Some name
     → (i : ℕ) × (c : C) × (slice_get columns i ≡ Some c) × (column_of c ≡ name.column)
@@ -36,4 +37,5 @@ AreNumbered column_indexes numbers texts =
 -- each column of one kind has its index at its number
 abbrev pub ArePlaced : List ColumnIndex → (ℕ → ColumnIndex) → List ℕ → Type 0
 ArePlaced column_indexes column_index_of numbers =
-    (i k : ℕ) → slice_get numbers i ≡ Some k → slice_get column_indexes k ≡ Some (column_index_of i)
+    (i k : ℕ) → slice_get numbers i ≡ Some k
+    → slice_get column_indexes k ≡ Some (column_index_of i)

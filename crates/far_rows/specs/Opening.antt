@@ -18,7 +18,7 @@ numbers_from size n (kind.Int ∷ kinds) =
     ∷ numbers_from size (n + 1) kinds
 numbers_from size n (kind.Text ∷ kinds) = numbers_from size (n + 1) kinds
 
--- the text columns, in the same way
+-- the text columns among columns of these kinds, each empty; the first kind belongs to column n of the table
 abbrev pub texts_from : ℕ → ℕ → ℕ → List Kind → List Texts
 texts_from size limit n [] = []
 texts_from size limit n (kind.Int ∷ kinds) = texts_from size limit (n + 1) kinds
@@ -26,7 +26,7 @@ texts_from size limit n (kind.Text ∷ kinds) =
     record { column = n; size = size; limit = limit; objects = []; len = 0 }
     ∷ texts_from size limit (n + 1) kinds
 
--- the limits of the objects of numbers: each may be written and go away as often as there are edits
+-- the limits of the objects of numbers: each may be written at most `edits` times, and evicted at most as often
 abbrev pub number_limits : Limits → ObjectLimits
 number_limits limits =
     record {
@@ -36,7 +36,7 @@ number_limits limits =
       leavings = limits.edits;
     }
 
--- the limits of the objects of texts, in the same way
+-- the limits of the objects of texts: each may be written at most `edits` times, and evicted at most as often
 abbrev pub text_limits : Limits → ObjectLimits
 text_limits limits =
     record {

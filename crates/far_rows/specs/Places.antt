@@ -19,7 +19,7 @@ places_of columns flags =
     map (λ at. record { cells = row_at columns at.0; alive = at.1 }) (enumerate_from 0 flags)
 
 module _ {K : Type 0} where
-  -- the places of rows over objects, local or away
+  -- the places of rows, whose objects may be local or away
   abbrev pub places_in : (K → List ℕ) → Rows K → List Place
   places_in content r = places_of (all_cells content r) r.alive
 

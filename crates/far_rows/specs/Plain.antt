@@ -1,4 +1,4 @@
--- Why an edit is refused, in terms of the plain table: by its places, and by the lengths of what it writes.
+-- Why an edit is refused, in terms of the plain table: its places, and the lengths of the text objects that the edit writes.
 use Rattle.std.specs.Prelude.{ℕ, ◌/◌, not, Bool, false, List, [], ◌∷◌, ◌++◌, map, length, Option}
 use Rattle.std.specs.Option.{option_map_or}
 use Rattle.far_types.specs.declared.edit.Edit.{Edit}
@@ -32,7 +32,7 @@ module _ {K : Type 0} (content : K → List ℕ) (limits : Limits) (r : Rows K) 
       in first_of (append_tests r (is_too_full e)
       (text_parts content limits r e (length (places_in content r) / limits.group)))
 
-  -- the form of a text object, written by itself, does not fit; a number needs no space
+  -- the form of the only text object that is written does not fit; a number needs no space
   abbrev pub no_space_alone : Edit → ℕ → ℕ → Object → Bool × Refusal
   no_space_alone e column g (object.Number o) = (false, refusal.RegionFull)
   no_space_alone e column g (object.Text o) = (

@@ -34,7 +34,8 @@ module _ {K : Type 0} (r : Rows K) where
   -- for each of these columns in order: its object of a row group is away. The first has number n
   abbrev pub absents_from : ℕ → ℕ → List ColumnIndex → List (Bool × Refusal)
   absents_from g n [] = []
-  absents_from g n (s ∷ column_indexes) = absent_at n g s ∷ absents_from g (n + 1) column_indexes
+  absents_from g n (s ∷ column_indexes) =
+      absent_at n g s ∷ absents_from g (n + 1) column_indexes
 
   -- for each column in order: its object of a row group is away
   abbrev pub absents : ℕ → List (Bool × Refusal)
@@ -44,7 +45,7 @@ module _ {K : Type 0} (r : Rows K) where
   abbrev pub no_row : ℕ → Bool × Refusal
   no_row place = (not (nat_lt place (length r.alive)), refusal.NoRow)
 
-  -- the range is no range of the table's places
+  -- the range is not within the table's places
   abbrev pub no_range : ℕ → ℕ → Bool × Refusal
   no_range from to = (nat_lt to from || nat_lt (length r.alive) to, refusal.OutOfRange)
 
@@ -79,13 +80,13 @@ module _ {K : Type 0} (r : Rows K) where
       first_of (no_column column ∷ of_numbers column ∷ no_row place
       ∷ absent_in column (place / r.size) ∷ [])
 
-  -- why lending a part of a number column is refused; its row groups are tested in order
+  -- why lending a range of a number column is refused (`ints`); its row groups are tested in order
   abbrev pub ints_refusal : ℕ → ℕ → ℕ → Option Refusal
   ints_refusal column from to =
       first_of (no_column column ∷ of_texts column ∷ no_range from to
       ∷ map (absent_in column) (overlapped_groups r.size from to))
 
-  -- why lending a part of a text column is refused
+  -- why lending a range of a text column is refused (`texts`); its row groups are tested in order
   abbrev pub texts_refusal : ℕ → ℕ → ℕ → Option Refusal
   texts_refusal column from to =
       first_of (no_column column ∷ of_numbers column ∷ no_range from to

@@ -1,9 +1,9 @@
--- Rows after their far copies moved to another store.
+-- Rows after their far copies were put into another store.
 use Rattle.std.specs.Prelude.{ℕ, List, Option}
 use Rattle.far_scopes.specs.Renewal.{Renews, after_renew, AreTicketsHere}
 use Rattle.far_rows.specs.Rows.{Rows}
 
--- the tickets of the objects of numbers and of those of texts, each listed by object number
+-- the tickets of the objects of numbers and of the objects of texts, each list by object number
 pub record RowsTickets (L : Type 0) : Type 0 where
   pub numbers : List (Option L)
   pub texts : List (Option L)
@@ -21,7 +21,7 @@ module _ {K L : Type 0} where
     pub numbers : Renews content new_content r.number_objects tickets.numbers
     pub texts : Renews content new_content r.text_objects tickets.texts
 
-  -- the rows whose objects have these tickets
+  -- the rows after their objects got these tickets
   abbrev pub renewed_rows : Rows K → RowsTickets L → Rows L
   renewed_rows r tickets = record {
     column_indexes = r.column_indexes;

@@ -14,7 +14,7 @@ use Rattle.far_rows.specs.declared.column_index.ColumnIndex.TheVariants as colum
 use Rattle.far_rows.specs.ColumnIndexes.{AreColumnIndexes, columns_of}
 use Rattle.far_rows.specs.Naming.{names_of, AreNamed, AreNumbered, AreOwned, ArePlaced}
 
--- the rows of a table: the index of each column, the size of a row group, the number columns and the text columns, the objects of either
+-- the rows of a table: the index of each column, the size of a row group, the number columns and the text columns, the objects of each
 -- kind, and the alive flag of each place
 pub record Rows (K : Type 0) : Type 0 where
   pub column_indexes : List ColumnIndex
@@ -34,11 +34,11 @@ module _ {K : Type 0} where
       option_and_then (λ c. slice_get c.objects g) (slice_get r.texts i)
 
   module _ (content : K → List ℕ) where
-    -- the numbers of each column of numbers
+    -- the numbers of each number column
     abbrev pub all_numbers : Rows K → List Numbers
     all_numbers r = map (numbers_in content r.number_objects) r.numbers
 
-    -- the texts of each column of texts
+    -- the texts of each text column
     abbrev pub all_texts : Rows K → List (List (Option (List ℕ)))
     all_texts r = map (texts_in (lists_of content r.text_objects)) r.texts
 
@@ -47,8 +47,8 @@ module _ {K : Type 0} where
     all_cells r = columns_of r.column_indexes (all_numbers r) (all_texts r)
 
     -- a valid table: at most 16 columns and 2^24 places; each column has a cell for each place, and all have row groups of one size; each
-    -- column has objects of its own, named by the column and the row group, and there are no others; a clean object's list is what its far
-    -- copy means
+    -- column has an object of its own for each row group, named by both, and there are no other objects; a clean object's list is what its
+    -- far copy means
     pub record AreRows (r : Rows K) : Type 0 where
       pub column_indexes : AreColumnIndexes r.column_indexes (length r.numbers) (length r.texts)
       pub few : length r.numbers + length r.texts ≤ 16
@@ -59,7 +59,8 @@ module _ {K : Type 0} where
       pub texts : AreColumns (lists_of content r.text_objects) r.texts
       pub shaped : All IsShaped r.numbers
       pub grouped : All HasGroups r.texts
-      pub same_length_numbers : All (λ c. (c.size ≡ r.size) × (c.len ≡ length r.alive)) r.numbers
+      pub same_length_numbers : All (λ c. (c.size ≡ r.size) × (c.len ≡ length r.alive))
+          r.numbers
       pub same_length_texts : All (λ c. (c.size ≡ r.size) × (c.len ≡ length r.alive)) r.texts
       pub number_objects : All
           (λ c. length r.number_objects.records ≡ length r.numbers * length c.objects) r.numbers
@@ -76,12 +77,13 @@ module _ {K : Type 0} where
       pub text_names : All (λ c. AreNamed (names_of r.text_objects) c.column c.objects) r.texts
       pub owned_numbers : AreOwned (λ c. c.column) (λ c. c.objects) (names_of r.number_objects)
           r.numbers
-      pub owned_texts : AreOwned (λ c. c.column) (λ c. c.objects) (names_of r.text_objects) r.texts
+      pub owned_texts : AreOwned (λ c. c.column) (λ c. c.objects) (names_of r.text_objects)
+          r.texts
       pub clean_numbers : AreClean ints_meaning content r.number_objects
       pub clean_texts : AreClean (λ bytes. bytes) content r.text_objects
 
-  -- the objects of texts after one of these texts is appended to each text column: new objects if row groups begin, else the last of each
-  -- with another form. All forms were placed before an old one was dropped
+  -- the objects of texts after one of these texts is appended to each text column: new objects if row groups begin, else the last object
+  -- of each with a new form. All new forms are placed before an old form is dropped
   pub record TextsMoved (content : K → List ℕ) (r : Rows K) (texts : List (Option (List ℕ)))
       (now : Movement ℕ K) : Type 0 where
     pub begun : all_begin r.texts ≡ true

@@ -28,13 +28,13 @@ abbrev pub kind_in : NewCell → Kind
 kind_in (new.Number number) = kind.Int
 kind_in (new.Text text) = kind.Text
 
--- the columns with another cell at a place of one column
+-- the columns after a cell is put at a place of one column
 abbrev pub with_cell_at : List (List Cell) → ℕ → ℕ → Cell → List (List Cell)
 with_cell_at columns c place cell =
     slice_set columns c (slice_set (slice_index_or columns c []) place cell)
 
 module _ {K : Type 0} (content : K → List ℕ) (r : Rows K) where
-  -- why setting a cell of this index is refused by the column's own object
+  -- why the column with this index refuses to set a cell
   abbrev pub value_refusal : ColumnIndex → ℕ → NewCell → Option Refusal
   value_refusal (column_index.Number i) place value =
       option_and_then (λ c. number_refusal r.number_objects c place) (slice_get r.numbers i)
@@ -42,7 +42,7 @@ module _ {K : Type 0} (content : K → List ℕ) (r : Rows K) where
       option_and_then (λ c. text_refusal content r.text_objects c place text) (slice_get r.texts i)
   value_refusal (column_index.Text i) place (new.Number number) = None
 
-  -- why setting a cell is refused: an object of the place's row group is away, or the cell's column refuses
+  -- why setting a cell is refused: an object of the place's row group is away, or else the cell's column refuses
   abbrev pub set_refusal : ℕ → ℕ → NewCell → Option Refusal
   set_refusal column place value =
       option_or (first_of (absents r (place / r.size)))
@@ -53,8 +53,8 @@ module _ {K : Type 0} (content : K → List ℕ) (r : Rows K) where
   set_in (column_index.Number i) place (new.Number number) =
       record r {
         number_objects = option_map_or
-            (λ c. after_write_range r.number_objects c place (number ∷ [])) (slice_get r.numbers i)
-            r.number_objects;
+            (λ c. after_write_range r.number_objects c place (number ∷ []))
+            (slice_get r.numbers i) r.number_objects;
       }
   set_in (column_index.Text i) place (new.Text text) =
       record r {

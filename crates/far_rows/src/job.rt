@@ -1,4 +1,4 @@
-// Jobs on the objects of a table, of either kind.
+// Evacuation and fetch jobs on the objects of a table, for both kinds of columns.
 ghost use Rattle.std.specs.Prelude.{◌≡◌, ◌+◌, ◌<◌, ◌^◌, [], ◌∷◌, IfOk, IfErr, IsErr, option_map};
 ghost use Rattle.far_store.specs.Faults.{faults_in, outcome, RefusedBy};
 ghost use Rattle.far_evacuator.specs.Jobs.{IsFormOf, IsDirtyForm, put_ticket};
@@ -13,9 +13,9 @@ use std::marker::Model;
 /// A value for number columns, or one for text columns.
 #[derive(Drop)]
 pub enum ByKind<N, T> {
-    /// For numbers.
+    /// For number columns.
     Numbers(N),
-    /// For texts.
+    /// For text columns.
     Texts(T),
 }
 
@@ -34,7 +34,7 @@ impl<S: FarTickets> Model for RowsEvac<S> {
     ghost view = { λ evac. evac.job };
 }
 
-/// An evacuation of an object of a table whose far form is in the far store.
+/// An evacuation of an object of a table, after its carry: the far store has the object's far form.
 #[derive(Drop)]
 pub struct RowsCarried<S: FarTickets> {
     pub(crate) carried: ByKind<Carried<Option<i64>, S>, Carried<u8, S>>,
@@ -64,7 +64,7 @@ impl<S: FarTickets> Model for RowsFetch<S> {
     ghost view = { λ fetch. fetch.job };
 }
 
-/// A fetch of an object of a table whose bytes were read.
+/// A fetch of an object of a table, after its carry: it has the content of its ticket.
 #[derive(Drop)]
 pub struct RowsFetched<S: FarTickets> {
     pub(crate) fetched: ByKind<Fetched<S>, Fetched<S>>,
@@ -131,8 +131,8 @@ impl<S: FarStore> RowsEvac<S> {
 }
 
 impl<S: FarTickets> RowsCarried<S> {
-    /// Returns the number of the ticket that the job's far form got, and borrows the bytes of the form. `None` exactly if the
-    /// job was begun on a clean object, whose far form the store already had. Allocates nothing.
+    /// Returns the ticket number that the store assigned to the job's far form, and borrows the bytes of the form. Returns
+    /// `None` exactly if the job was begun on a clean object, whose far form the store already had. Allocates nothing.
     pub fn outgoing(&self, store: &S) -> Option<(u64, &[u8])>
         requires here { S.is_of (of_either self.now).ticket (S.store_id store.now) }
         ensures number { option_map (λ out. out.0) result

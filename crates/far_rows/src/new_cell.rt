@@ -9,14 +9,14 @@ use far_types::{Cell, CellRef, Kind, Text};
 /// A new value for a cell: a number or a text, each of which may be missing.
 #[derive(Drop, Debug)]
 pub enum NewCell {
-    /// For a column of numbers.
+    /// For a number column.
     Number(Option<i64>),
-    /// For a column of texts.
+    /// For a text column.
     Text(Option<Text>),
 }
 
 impl NewCell {
-    /// Makes the value from a cell, for a column of this kind. Allocates nothing.
+    /// Converts a cell of this kind, or a missing one, into a value for a column of this kind. Allocates nothing.
     pub fn new(kind: Kind, cell: Cell) -> NewCell
         requires { is_of_kind kind cell ≡ true }
         ensures cell { cell_of result ≡ cell }
@@ -42,7 +42,7 @@ impl NewCell {
     }
 }
 
-// Borrows a text that may be missing as a cell.
+// Borrows a text, which may be missing, as a cell.
 #[inline(always)]
 pub(crate) fn text_ref(text: &Option<Text>) -> CellRef<'_>
     ensures { lent_cell result ≡ text_cell text.now }

@@ -15,13 +15,13 @@ use std::alloc::Global;
 use std::marker::Model;
 use std::mem;
 
-/// The values of a new row, split into those of the number columns and those of the text columns. A table makes one, and loads
-/// each row into it without an allocation.
+/// The values of a new row: a number for each number column, and a text for each text column. A table makes one, and loads
+/// each row into it without allocating.
 #[derive(Drop, Debug)]
 pub struct NewRow {
     numbers: Vec<Option<i64>>,
     texts: Vec<Option<Text>>,
-    // The cells of the row that was loaded last. Its texts are those of the row before it.
+    // The cells of the row that was loaded last. They hold the texts of the row that was loaded before it.
     spare: Vec<Cell>,
 }
 
@@ -38,7 +38,7 @@ impl Model for NewRow {
 }
 
 impl NewRow {
-    /// Makes a row without values, with this many columns of numbers and of texts. Refused only with `NoMemory` (1).
+    /// Makes a row of missing values for this many number columns and text columns. Refused only with `NoMemory` (1).
     pub fn new(alloc: Global, numbers: usize, texts: usize) -> Result<NewRow, Refusal>
         ensures numbers { IfOk result (λ row. length row.numbers ≡ numbers) }
         ensures texts { IfOk result (λ row. length row.texts ≡ texts) }
@@ -81,7 +81,7 @@ impl NewRow {
         mem::replace(&mut self.spare, Vec::new(alloc))
     }
 
-    // Sets the value at an index to that of a cell of the index's kind. The cell gets the old text.
+    // Sets the value at an index to the value of a cell of the same kind. The cell gets the old text.
     #[inline(always)]
     fn put(&mut self, column_index: ColumnIndex, cell: &mut Cell)
         requires within { IsColumnIn (length self.old.numbers) (length self.old.texts)
@@ -120,7 +120,7 @@ impl NewRow {
         NewRowRef::new(self, column_indexes)
     }
 
-    // Returns the cell at an index.
+    // Borrows the cell at an index.
     #[inline(always)]
     pub(crate) fn cell(&self, column_index: ColumnIndex) -> CellRef<'_>
         requires { IsColumnIn (length self.now.numbers) (length self.now.texts) column_index }
@@ -132,14 +132,14 @@ impl NewRow {
         }
     }
 
-    /// Borrows the numbers, one for each column of numbers.
+    /// Borrows the numbers, one for each number column.
     pub fn numbers(&self) -> &[Option<i64>]
         ensures { result.now ≡ self.now.numbers }
     {
         self.numbers.as_slice()
     }
 
-    /// Borrows the texts, one for each column of texts. None has more than 4,096 bytes.
+    /// Borrows the texts, one for each text column. None has more than 4,096 bytes.
     pub fn texts(&self) -> &[Option<Text>]
         ensures texts { result.now ≡ self.now.texts }
         ensures short { (any_too_long self.now.texts).0 ≡ false }
@@ -161,7 +161,7 @@ fn nothing<T: Drop>(alloc: Global, count: usize) -> Result<Vec<Option<T>>, Refus
     Ok(values)
 }
 
-// Returns the number in a cell of a column of numbers.
+// Returns the number in a cell of a number column.
 #[inline(always)]
 fn number_of(cell: &Cell) -> Option<i64>
     requires { is_of_kind Kind.Int cell.now ≡ true }
@@ -174,7 +174,7 @@ fn number_of(cell: &Cell) -> Option<i64>
     }
 }
 
-// Exchanges a text for the text in a cell of a column of texts. Mostly both have one, and then only the texts move.
+// Swaps a text with the text in a cell of a text column. Usually neither is missing, and then the cell itself does not move.
 #[inline(always)]
 fn exchange(text: &mut Option<Text>, cell: &mut Cell)
     requires { is_of_kind Kind.Text cell.old ≡ true }
@@ -190,7 +190,7 @@ fn exchange(text: &mut Option<Text>, cell: &mut Cell)
     *cell = cell_of(mem::replace(text, later));
 }
 
-// Returns the cell that has a text.
+// Makes the cell of a text.
 fn cell_of(text: Option<Text>) -> Cell
     ensures { result ≡ text_cell text }
 {
@@ -200,7 +200,7 @@ fn cell_of(text: Option<Text>) -> Cell
     }
 }
 
-// Returns the text in a cell of a column of texts.
+// Returns the text in a cell of a text column.
 fn text_of(cell: Cell) -> Option<Text>
     requires { is_of_kind Kind.Text cell ≡ true }
     ensures { text_cell result ≡ cell }

@@ -8,7 +8,7 @@ use super::new_row::NewRow;
 use far_types::{CellRef, LendCells};
 use std::marker::Model;
 
-/// A view of a new row, without a copy: each cell is borrowed when it is read. Contracts see the list of the
+/// A view of a new row that copies nothing: it borrows each cell when it is read. Contracts see the list of the
 /// cells.
 #[derive(Drop)]
 pub struct NewRowRef<'a> {
@@ -30,7 +30,7 @@ impl<'a> Model for NewRowRef<'a> {
 }
 
 impl<'a> NewRowRef<'a> {
-    // Makes the view of these values, whose columns have these indexes.
+    // Makes a view of these values for columns with these indexes.
     #[inline(always)]
     pub(crate) fn new(values: &'a NewRow, column_indexes: &'a [ColumnIndex]) -> NewRowRef<'a>
         requires { AreColumnIndexes column_indexes.now (length values.now.numbers)

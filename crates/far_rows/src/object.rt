@@ -1,6 +1,6 @@
 // The objects of a table.
 
-/// An object of a table: its number among the objects of numbers, or among those of texts.
+/// An object of a table: its number among the objects of numbers, or among the objects of texts.
 #[derive(Clone, Copy, Debug, PartialEq, Eq)]
 pub enum Object {
     /// An object of numbers.

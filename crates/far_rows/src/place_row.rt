@@ -29,8 +29,8 @@ impl<'a> PlaceCell<'a> {
     }
 }
 
-/// The row of a place. It looks up each column once for all readers. A number is read on demand, so the cells of columns that nobody reads
-/// are not touched. Contracts see the list of the cells.
+/// The row of a place, for which each column was looked up once for all readers. It reads a number only on demand, so the numbers
+/// of columns that nobody reads are not touched. Contracts see the list of the cells.
 ///
 /// It has at most 16 cells, since a table has at most 16 columns. Nothing here allocates.
 #[derive(Drop)]

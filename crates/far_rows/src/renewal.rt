@@ -1,4 +1,4 @@
-// The far copies of the objects of a table in another store.
+// Far copies of a table's objects in another store.
 use far_scopes::Renewal;
 use far_store::FarTickets;
 use std::marker::Model;

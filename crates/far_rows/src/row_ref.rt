@@ -11,8 +11,8 @@ use far_store::FarTickets;
 use far_types::CellRef;
 use std::marker::Model;
 
-/// A view of the row of a place whose objects are all local, without a copy: each cell is borrowed when it is read. Contracts
-/// see the list of the cells.
+/// A view of the row of a place whose objects are all local. It copies nothing: it borrows each cell when it is read.
+/// Contracts see the list of the cells.
 #[derive(Drop)]
 pub struct RowRef<'a, S: FarTickets> {
     rows: &'a Rows<S>,
@@ -36,7 +36,7 @@ impl<'a, S: FarTickets> Model for RowRef<'a, S> {
 }
 
 impl<'a, S: FarTickets> RowRef<'a, S> {
-    // Makes the view of the row of a place, whose objects are local.
+    // Makes a view of the row of a place whose objects are all local.
     #[inline(always)]
     pub(crate) fn new(rows: &'a Rows<S>, place: usize) -> RowRef<'a, S>
         requires place { place < length rows.now.alive }

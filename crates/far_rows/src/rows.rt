@@ -35,7 +35,7 @@ use std::marker::Model;
 
 /// The cells of a table by column, in objects that are local or away, and the alive flag of each place.
 ///
-/// Contracts see the columns and their indexes, the objects and the flags. `specs/Rows.antt` defines their cells (`cells_of`).
+/// Contracts see the columns and their indexes, the objects and the flags. `specs/Rows.antt` defines their cells (`all_cells`).
 #[derive(Drop)]
 pub struct Rows<S: FarTickets> {
     column_indexes: Vec<ColumnIndex>,
@@ -48,7 +48,7 @@ pub struct Rows<S: FarTickets> {
     number_objects: Objects<Option<i64>, S>,
     text_objects: Objects<u8, S>,
     alive: Alive,
-    // The form of texts that is no longer needed: the next one is made in its memory.
+    // A form of texts that is no longer needed. The next form is made in its memory.
     spare: Vec<u8>,
 }
 
@@ -81,8 +81,8 @@ impl<S: FarTickets> Model for Rows<S> {
 }
 
 impl<S: FarTickets> Rows<S> {
-    /// Makes an empty table with this schema. `number` distinguishes the jobs of its objects from those of other tables.
-    /// Allocates all memory for elements.
+    /// Makes an empty table with this schema. `number` distinguishes its jobs from the jobs of other tables. Allocates
+    /// all memory for elements.
     ///
     /// Refused only with `NoMemory` (1).
     pub fn new(

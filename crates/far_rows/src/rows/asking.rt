@@ -18,7 +18,7 @@ use far_store::FarTickets;
 use far_texts::{TextColumn, may_push_texts};
 use far_types::{Refusal, Text};
 
-// Checks that a text may be appended to each of at most 16 columns of texts. A table without text columns checks nothing.
+// Checks that a text may be appended to each of at most 16 text columns. Checks nothing if there are no text columns.
 #[inline(always)]
 fn may_push_all_texts<S: FarTickets>(
     objects: &Objects<u8, S>,
@@ -60,7 +60,7 @@ impl<S: FarTickets> Rows<S> {
         self.may_push_values(row)
     }
 
-    // Checks that a row may be appended: the columns of texts first, then those of numbers.
+    // Checks that a row may be appended: first that its objects are local, then the text columns, then the number columns.
     fn may_push_values(&self, row: &NewRow) -> Result<(), Refusal>
         requires numbers { length row.now.numbers ≡ length self.now.numbers }
         requires texts { length row.now.texts ≡ length self.now.texts }

@@ -17,8 +17,8 @@ use far_types::Refusal;
 use std::alloc::Global;
 
 impl<S: FarTickets> Rows<S> {
-    /// Begins to evict the object of a row group of a column. If the object is dirty, the job gets its far form; if it is
-    /// clean, a copy of its ticket. The rows do not change.
+    /// Begins to evict the object of a row group of a column. The job holds the far form of a dirty object, or a copy of the
+    /// ticket of a clean object. The rows do not change.
     ///
     /// Refused with the first of these that applies:
     ///
@@ -40,7 +40,7 @@ impl<S: FarTickets> Rows<S> {
         ensures free { OnOk result (evac_refusal self.now column group ≡ None) }
         ensures refused { IfErr result (MayRefuse (evac_refusal self.now column group) true) }
     {
-        // For the proof: shows `AreRows`. So the refusal names an object that is away by its own name.
+        // For the proof: shows `AreRows`, so that `Absent` names this column and this row group.
         let _len = self.len();
         let job = match self.object(column, group)? {
             Object::Number(o) => ByKind::Numbers(self.begin_numbers(alloc, store, o)?),

@@ -13,9 +13,9 @@ use far_store::FarTickets;
 use far_types::Name;
 
 impl<S: FarTickets> Rows<S> {
-    /// Returns the name of the eviction victim: the coldest object of the kind whose local memory has less space in proportion
-    /// to its capacity. If both have equal space, that kind is numbers. If that kind has no such object, it is the coldest of
-    /// the other kind. `None` exactly if neither kind has one. Allocates nothing.
+    /// Returns the name of the object to evict next: the coldest object of the kind whose local memory has less space in
+    /// proportion to its capacity. If the proportions are equal, that kind is numbers. If that kind has no such object, returns
+    /// the name of the coldest object of the second kind. `None` exactly if neither kind has one. Allocates nothing.
     ///
     /// The object is local and has no pin.
     pub fn coldest(&self) -> Option<Name>
@@ -29,14 +29,14 @@ impl<S: FarTickets> Rows<S> {
             ↔ ((coldest_in self.now.number_objects ≡ None)
             × (coldest_in self.now.text_objects ≡ None)) }
     {
-        // For the proof: shows `AreRows`, and that the objects in the orders of use are the local ones.
+        // For the proof: shows `AreRows`, and that exactly the local objects are in the orders of use.
         let _len = self.len();
         let _number = self.number_objects.number();
         let _text = self.text_objects.number();
         self.coldest_of_both()
     }
 
-    // Returns the name of the eviction victim.
+    // Returns the name of the object to evict next.
     fn coldest_of_both(&self) -> Option<Name>
         ensures coldest { result ≡ coldest self.now }
         ensures none { (result ≡ None)
@@ -50,7 +50,7 @@ impl<S: FarTickets> Rows<S> {
         }
     }
 
-    // Returns whether the objects of numbers have at most as much space, in proportion to their capacity, as those of texts.
+    // Returns whether the memory of numbers has at most as much space, in proportion to its capacity, as the memory of texts.
     fn numbers_go_first(&self) -> bool
         ensures { result ≡ numbers_go_first self.now }
     {

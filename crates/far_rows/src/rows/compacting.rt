@@ -10,8 +10,8 @@ use far_types::Refusal;
 use std::alloc::Global;
 
 impl<S: FarTickets> Rows<S> {
-    /// Compacts a segment of the objects of numbers: moves its parts into the lowest other segment without parts, without
-    /// gaps, those of hot objects first. Clears the hot bits of these objects.
+    /// Compacts a segment of the memory of numbers: moves its parts without gaps into the lowest other segment that has no
+    /// parts, beginning with the parts of hot objects. Clears the hot bits of the moved objects.
     ///
     /// Refused with the first of these that applies:
     ///
@@ -36,14 +36,15 @@ impl<S: FarTickets> Rows<S> {
             ↔ ((segment < length self.old.number_objects.memory.state)
             × HasNoEmptyOther self.old.number_objects.memory.state segment) }
         ensures refused { IfErr result
-            (λ e. (e ≡ Refusal.OutOfRange) ⊎ ((e ≡ Refusal.RegionFull) ⊎ (e ≡ Refusal.NoMemory))) }
+            (λ e. (e ≡ Refusal.OutOfRange)
+            ⊎ ((e ≡ Refusal.RegionFull) ⊎ (e ≡ Refusal.NoMemory))) }
         ensures err { OnErr result (self.new ≡ self.old) }
     {
         self.number_objects.compact(alloc, segment)
     }
 
-    /// Compacts a segment of the objects of texts, as `compact_numbers` does for numbers. Refused as that is, with
-    /// `OutOfRange` (14), `RegionFull` (17) and `NoMemory` (1).
+    /// Compacts a segment of the memory of texts, as `compact_numbers` does for numbers. Refused in the same cases, with
+    /// `OutOfRange` (14), `RegionFull` (17) or `NoMemory` (1).
     pub fn compact_texts(&mut self, alloc: Global, segment: u32) -> Result<(), Refusal>
         ensures compacted { OnOk result
             (IsCompacted self.old.text_objects.memory self.new.text_objects.memory segment) }
@@ -58,7 +59,8 @@ impl<S: FarTickets> Rows<S> {
             ↔ ((segment < length self.old.text_objects.memory.state)
             × HasNoEmptyOther self.old.text_objects.memory.state segment) }
         ensures refused { IfErr result
-            (λ e. (e ≡ Refusal.OutOfRange) ⊎ ((e ≡ Refusal.RegionFull) ⊎ (e ≡ Refusal.NoMemory))) }
+            (λ e. (e ≡ Refusal.OutOfRange)
+            ⊎ ((e ≡ Refusal.RegionFull) ⊎ (e ≡ Refusal.NoMemory))) }
         ensures err { OnErr result (self.new ≡ self.old) }
     {
         self.text_objects.compact(alloc, segment)

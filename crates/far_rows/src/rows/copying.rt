@@ -16,19 +16,20 @@ use far_store::FarTickets;
 use far_types::Refusal;
 
 impl<S: FarTickets> Rows<S> {
-    /// Returns the number that was given to `new`, by which jobs know these rows. Allocates nothing.
+    /// Returns the number that was passed to `new`. Jobs identify these rows by it. Allocates nothing.
     pub fn number(&self) -> u32
         ensures { result ≡ self.now.number_objects.number }
     {
         self.number_objects.number()
     }
 
-    /// Returns the ticket of the far copy of a row group of a column. `None` if its object is dirty, or there is no such
-    /// object. Allocates nothing.
+    /// Returns the ticket of the far copy of a row group of a column. Returns `None` if its object is dirty, or there is no
+    /// such object. Allocates nothing.
     ///
-    /// Its content is the far form of the row group as it is now, whether it is local or away.
+    /// The content of the ticket is the current far form of the row group, whether it is local or away.
     pub fn copy(&self, column: usize, group: u32) -> Option<&S::Ticket>
-        ensures ticket { option_map (λ ticket. ticket.now) result ≡ copy_of self.now column group }
+        ensures ticket { option_map (λ ticket. ticket.now) result
+            ≡ copy_of self.now column group }
         ensures form { IfSome result
             (λ ticket. IsCopyOf S.content self.now ticket.now column group) }
         ensures here { (id : List ℕ) → AreAt S.is_of id self.now
@@ -52,7 +53,8 @@ impl<S: FarTickets> Rows<S> {
     /// - `OutOfRange` (14): no place of the row group is used.
     /// - `StaleJob` (20): the object is local.
     pub fn away_copy(&self, column: usize, group: u32) -> Result<&S::Ticket, Refusal>
-        ensures ticket { IfOk result (λ ticket. copy_of self.now column group ≡ Some ticket.now) }
+        ensures ticket { IfOk result
+            (λ ticket. copy_of self.now column group ≡ Some ticket.now) }
         ensures here { (id : List ℕ) → AreAt S.is_of id self.now
             → IfOk result (λ ticket. S.is_of ticket.now id) }
         ensures refused { refusal_in result ≡ fetch_refusal self.now column group }
@@ -64,13 +66,13 @@ impl<S: FarTickets> Rows<S> {
     }
 }
 
-// Returns the ticket of an object, if the object is clean. The ticket's content is a far form.
+// Returns the ticket of an object if the object is clean. The ticket's content is a far form.
 fn clean_ticket<T: Elem, S: FarTickets>(objects: &Objects<T, S>, o: u32) -> Option<&S::Ticket>
     requires { o < length objects.now.records }
     ensures ticket { option_map (λ ticket. ticket.now) result ≡ clean_ticket objects.now o }
     ensures form { IfSome result
-        (λ ticket. IsSpelled T.in_range T.has_spelling T.spelling (T.meaning (S.content ticket.now))
-        (S.content ticket.now)) }
+        (λ ticket. IsSpelled T.in_range T.has_spelling T.spelling
+        (T.meaning (S.content ticket.now)) (S.content ticket.now)) }
     ensures away { is_local objects.now o ≡ false → IsSome result }
 {
     // For the proof: shows that a clean object has a far copy.
@@ -81,7 +83,7 @@ fn clean_ticket<T: Elem, S: FarTickets>(objects: &Objects<T, S>, o: u32) -> Opti
     objects.ticket(o)
 }
 
-// Returns the ticket of an object that is away. Refused with `StaleJob` (20) exactly if it is local.
+// Returns the ticket of an object that is away. Refused with `StaleJob` (20) exactly if the object is local.
 fn away_ticket<T: Elem, S: FarTickets>(
     objects: &Objects<T, S>,
     o: u32,

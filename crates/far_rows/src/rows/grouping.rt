@@ -13,7 +13,7 @@ use far_store::FarTickets;
 use far_types::Refusal;
 
 impl<S: FarTickets> Rows<S> {
-    /// Borrows the alive flags of the places of a row group: none if no place of it is used. Allocates nothing.
+    /// Borrows the alive flags of the used places of a row group, which may be none. Allocates nothing.
     pub fn flags(&self, group: u32) -> &[bool]
         ensures { result.now ≡ in_group self.now.size group self.now.alive }
     {
@@ -35,7 +35,7 @@ impl<S: FarTickets> Rows<S> {
     ///
     /// - `NoColumn` (4): there is no such column.
     /// - `OutOfRange` (14): no place of the row group is used.
-    /// - `Absent` (16): its object is away.
+    /// - `Absent` (16): the object of the row group is away.
     pub fn group_column(&self, column: usize, group: u32) -> Result<LentColumn<'_>, Refusal>
         ensures cells { IfOk result
             (λ lent. option_map (in_group self.now.size group)

@@ -11,13 +11,13 @@ use far_types::Refusal;
 use std::alloc::Global;
 
 impl<S: FarTickets> Rows<S> {
-    /// Evicts an object whose far form was carried. The caller keeps the carried evacuation, but a second commit of it is
+    /// Evicts the object of a carried evacuation. The caller keeps the carried evacuation, but a second commit of it is
     /// refused. Allocates nothing.
     ///
     /// Refused with the first of these that applies:
     ///
-    /// - `StaleJob` (20): the job's assumptions no longer hold (`IsEvacAccepted`). It was begun on other objects, or the
-    ///   object is away, was written or sent away since, has used up its leavings, or differs from what was carried.
+    /// - `StaleJob` (20): the job's assumptions no longer hold (`IsEvacAccepted`). The job was begun on another table's objects, or
+    ///   its object is away, was written or evicted since, may not be evicted again, or differs from what was carried.
     /// - `Pinned` (19): the object has a pin.
     ///
     /// A refused call changes nothing.
@@ -42,14 +42,14 @@ impl<S: FarTickets> Rows<S> {
         }
     }
 
-    /// Brings back an object whose far form was read. The caller keeps the fetched bytes, but a second install of them is
+    /// Brings back the object of a carried fetch. The caller keeps the fetched bytes, but a second install of them is
     /// refused.
     ///
     /// Refused with the first of these that applies:
     ///
-    /// - `StaleJob` (20): the job's assumptions no longer hold (`IsFetchAccepted`). It was begun on other objects, or the
-    ///   object is local or was sent away again since.
-    /// - `RegionFull` (17): no segment has the space.
+    /// - `StaleJob` (20): the job's assumptions no longer hold (`IsFetchAccepted`). The job was begun on another table's objects,
+    ///   or its object is local or was evicted again since.
+    /// - `RegionFull` (17): no segment has enough space.
     /// - `NoMemory` (1): an allocation fails.
     ///
     /// A refused call changes nothing.
@@ -71,7 +71,8 @@ impl<S: FarTickets> Rows<S> {
             ↔ (IsFetchAccepted S.number_of self.old fetched.now
             × HasNoSpace S.content self.old fetched.now) }
         ensures refused { IfErr result
-            (λ e. (e ≡ Refusal.StaleJob) ⊎ ((e ≡ Refusal.RegionFull) ⊎ (e ≡ Refusal.NoMemory))) }
+            (λ e. (e ≡ Refusal.StaleJob)
+            ⊎ ((e ≡ Refusal.RegionFull) ⊎ (e ≡ Refusal.NoMemory))) }
         ensures err { OnErr result (self.new ≡ self.old) }
     {
         match &fetched.fetched {

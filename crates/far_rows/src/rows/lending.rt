@@ -1,4 +1,4 @@
-// Borrowed parts of columns, with the flags of their places.
+// Borrows ranges of columns, with the alive flags of their places.
 ghost use Rattle.std.specs.Prelude.{◌≡◌, ◌∷◌, ◌<◌, length, slice_get, map, option_map, slice_range, Some, All, IfOk};
 ghost use Rattle.std.specs.List.{flat_map, zip};
 ghost use Rattle.far_types.specs.FirstOf.{first_of};
@@ -18,17 +18,18 @@ use far_texts::TextCells;
 use far_types::Refusal;
 
 impl<S: FarTickets> Rows<S> {
-    /// Borrows the numbers of the places `from` up to `to` with the flags of their places, as a piece for each row group that
-    /// has some of them. Allocates nothing.
+    /// Borrows the numbers of the places from `from` up to before `to`, with their alive flags. The result has a piece for each
+    /// row group that overlaps this range. Allocates nothing.
     ///
     /// Refused with the first of these that applies:
     ///
     /// - `NoColumn` (4): there is no such column.
     /// - `WrongKind` (5): it is a text column.
-    /// - `OutOfRange` (14): `from` is above `to`, or `to` is past the places.
-    /// - `Absent` (16): the object of a row group with some of them is away. The refusal names the first such object.
+    /// - `OutOfRange` (14): `from` is above `to`, or `to` is above the number of places.
+    /// - `Absent` (16): the object of a row group that overlaps the range is away. The refusal names the first such object.
     pub fn ints(&self, column: usize, from: usize, to: usize) -> Result<Lents<'_, S>, Refusal>
-        ensures lent { IfOk result (λ lents. lents ≡ lent_ints S.content self.now column from to) }
+        ensures lent { IfOk result
+            (λ lents. lents ≡ lent_ints S.content self.now column from to) }
         ensures cells { IfOk result
             (λ lents. option_map (λ cells. slice_range cells from to)
             (slice_get (all_cells S.content self.now) column)
@@ -48,7 +49,7 @@ impl<S: FarTickets> Rows<S> {
         self.ints_at(number, from, to)
     }
 
-    // Borrows a part of a column of numbers.
+    // Borrows a range of a number column.
     fn ints_at(&self, number: usize, from: usize, to: usize) -> Result<Lents<'_, S>, Refusal>
         requires { number < length self.now.numbers }
         ensures lent { IfOk result
@@ -73,17 +74,18 @@ impl<S: FarTickets> Rows<S> {
         lend_numbers(column, &self.number_objects, &self.alive, from, to)
     }
 
-    /// Returns an iterator over the texts of the places `from` up to `to`, each borrowed, with the flag of its place.
+    /// Returns an iterator that borrows the texts of the places from `from` up to before `to`, each with its alive flag.
     /// Allocates nothing.
     ///
     /// Refused with the first of these that applies:
     ///
     /// - `NoColumn` (4): there is no such column.
     /// - `WrongKind` (5): it is a number column.
-    /// - `OutOfRange` (14): `from` is above `to`, or `to` is past the places.
-    /// - `Absent` (16): the object of a row group with some of them is away. The refusal names the first such object.
+    /// - `OutOfRange` (14): `from` is above `to`, or `to` is above the number of places.
+    /// - `Absent` (16): the object of a row group that overlaps the range is away. The refusal names the first such object.
     pub fn texts(&self, column: usize, from: usize, to: usize) -> Result<TextCells<'_, S>, Refusal>
-        ensures lent { IfOk result (λ lent. lent ≡ lent_texts S.content self.now column from to) }
+        ensures lent { IfOk result
+            (λ lent. lent ≡ lent_texts S.content self.now column from to) }
         ensures cells { IfOk result
             (λ lent. option_map (λ cells. slice_range cells from to)
             (slice_get (all_cells S.content self.now) column)
@@ -101,7 +103,7 @@ impl<S: FarTickets> Rows<S> {
         self.texts_at(text, from, to)
     }
 
-    // Borrows a part of a column of texts.
+    // Borrows a range of a text column.
     fn texts_at(&self, text: usize, from: usize, to: usize) -> Result<TextCells<'_, S>, Refusal>
         requires { text < length self.now.texts }
         ensures lent { IfOk result

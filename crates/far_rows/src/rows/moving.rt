@@ -1,4 +1,4 @@
-// The objects of the rows, by column and row group.
+// Looks up, pins and touches the objects of the rows, by column and row group.
 ghost use Rattle.std.specs.Prelude.{◌≡◌, ◌<◌, ℕ, length, Some, option_map, IfOk, IfSome, OnOk, OnErr, IsSomeAnd, slice_get};
 ghost use Rattle.far_types.specs.declared.name.Name.{Name};
 ghost use Rattle.far_codec.specs.FarForm.{FitsCount};
@@ -32,7 +32,7 @@ impl<S: FarTickets> Rows<S> {
         &self.number_objects
     }
 
-    /// Borrows the objects of texts, as `number_objects` does those of numbers. Allocates nothing.
+    /// Borrows the objects of texts, as `number_objects` borrows the objects of numbers. Allocates nothing.
     pub fn text_objects(&self) -> &Objects<u8, S>
         ensures objects { result.now ≡ self.now.text_objects }
         ensures spelled { (o : ℕ) → IfSome (list_in result.now.memory o) IsTextsForm }
@@ -64,7 +64,7 @@ impl<S: FarTickets> Rows<S> {
         object.ok_or(Refusal::OutOfRange)
     }
 
-    // Returns the object of a row group of a number column. For the proof: it is one of the objects.
+    // Returns the object of a row group of a number column. For the proof: shows that this object exists.
     fn number_object(&self, number: usize, group: u32) -> Option<Object>
         requires { number < length self.now.numbers }
         ensures object { result
@@ -76,7 +76,7 @@ impl<S: FarTickets> Rows<S> {
         Some(Object::Number(self.numbers[number].object(group)?))
     }
 
-    // Returns the object of a row group of a text column. For the proof: it is one of the objects.
+    // Returns the object of a row group of a text column. For the proof: shows that this object exists.
     fn text_object(&self, text: usize, group: u32) -> Option<Object>
         requires { text < length self.now.texts }
         ensures object { result
@@ -95,7 +95,7 @@ impl<S: FarTickets> Rows<S> {
     /// - `NoColumn` (4): there is no such column.
     /// - `OutOfRange` (14): no place of the row group is used.
     /// - `Absent` (16): the object is away.
-    /// - `EditsUsedUp` (24): it has 65,535 pins.
+    /// - `EditsUsedUp` (24): the object has 65,535 pins.
     ///
     /// A refused call changes nothing.
     pub fn pin(&mut self, column: usize, group: u32) -> Result<(), Refusal>
@@ -135,8 +135,7 @@ impl<S: FarTickets> Rows<S> {
         }
     }
 
-    /// Marks the object of a row group of a column as recently used, if it is resident: hot and the most recently used.
-    /// Allocates nothing.
+    /// Marks the object of a row group of a column as hot and most recently used, if it is local. Allocates nothing.
     ///
     /// Refused with the first of these that applies:
     ///

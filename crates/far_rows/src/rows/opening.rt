@@ -11,7 +11,7 @@ use far_texts::TextColumn;
 use far_types::{Kind, Limits, Refusal, Schema};
 use std::alloc::Global;
 
-// The columns of a table, and the index of each.
+// The columns of a table, and the index of each column.
 #[derive(Drop)]
 pub(super) struct Columns {
     pub(super) column_indexes: Vec<ColumnIndex>,
@@ -74,7 +74,7 @@ pub(super) fn columns_of(
 }
 
 impl Columns {
-    // Adds an empty column: its number, and its kind.
+    // Adds an empty column with this number and this kind.
     fn push(
         &mut self,
         alloc: Global,

@@ -1,4 +1,4 @@
-// Appending a row.
+// Appends a row.
 ghost use Rattle.std.specs.Prelude.{◌≡◌, ◌<◌, ◌^◌, ◌++◌, ◌∷◌, [], length, true, false, None, All, OnOk, OnErr, IfErr};
 ghost use Rattle.far_codec.specs.Reading.{ints_meaning};
 ghost use Rattle.far_columns.specs.Vector.{IsShaped};
@@ -26,7 +26,7 @@ use far_texts::{TextColumn, fill_texts};
 use far_types::{Refusal, Text};
 use std::alloc::Global;
 
-// For the proof: shows `IsShaped` of each column of numbers.
+// For the proof: shows `IsShaped` of each number column.
 pub(super) fn all_are_shaped(columns: &[IntColumn])
     ensures { All IsShaped columns.now }
 {
@@ -35,7 +35,7 @@ pub(super) fn all_are_shaped(columns: &[IntColumn])
     }
 }
 
-// For the proof: shows `HasGroups` of each column of texts.
+// For the proof: shows `HasGroups` of each text column.
 pub(super) fn all_have_groups(columns: &[TextColumn])
     ensures { All HasGroups columns.now }
 {
@@ -44,8 +44,8 @@ pub(super) fn all_have_groups(columns: &[TextColumn])
     }
 }
 
-// Appends a text to each column of texts. The texts must be ones that may be appended. A table without text columns does
-// nothing. The form of a single column is made in the memory of `spare`.
+// Appends a text to each text column. The columns must accept the texts. Does nothing if there are no text columns. The form
+// of a single column is made in the memory of `spare`.
 #[inline(always)]
 fn push_all_texts<S: FarTickets>(
     alloc: Global,
@@ -68,8 +68,8 @@ fn push_all_texts<S: FarTickets>(
     fill_texts(alloc, spare, objects, columns, texts)
 }
 
-// Appends a value to each column. If row groups begin, the numbers come first, and are undone if the texts are refused.
-// Otherwise the texts come first, after which the numbers cannot be refused.
+// Appends a value to each column. If row groups begin, appends the numbers first, and undoes this if the texts are refused.
+// Otherwise appends the texts first, since the numbers cannot be refused then.
 fn push_values<S: FarTickets>(
     alloc: Global,
     spare: &mut Vec<u8>,
@@ -83,7 +83,8 @@ fn push_values<S: FarTickets>(
     requires numbers { MayTakeNumbers S.content number_objects.old numbers.old row.now.numbers }
     requires texts { MayTakeTexts S.content text_objects.old texts.old row.now.texts }
     requires begin { begins ≡ true → all_begin numbers.old ≡ true }
-    requires begun { begins ≡ false → 0 < length numbers.old → all_begin numbers.old ≡ false }
+    requires begun { begins ≡ false → 0 < length numbers.old
+        → all_begin numbers.old ≡ false }
     ensures numbers { OnOk result (NumbersPushed S.content number_objects.old number_objects.new
         numbers.old numbers.new row.now.numbers) }
     ensures texts { OnOk result (TextsPushed S.content text_objects.old texts.old row.now.texts
@@ -116,8 +117,8 @@ fn push_values<S: FarTickets>(
 }
 
 impl<S: FarTickets> Rows<S> {
-    /// Appends a row, which is alive: each column gets its value. If the place is the first of a row group, makes an object for
-    /// each column. Otherwise writes the last object of each, all texts before a number.
+    /// Appends a row, which is alive: each column gets its value. If the row is the first of a row group, makes a new object for
+    /// each column. Otherwise writes the last object of each column, all texts before any number.
     ///
     /// `may_push` must have accepted the row, and there must be fewer than 2^24 places. Refused only with `NoMemory` (1). A
     /// refused call changes nothing.

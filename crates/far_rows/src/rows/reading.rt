@@ -26,14 +26,14 @@ use far_texts::TextColumn;
 use far_types::{CellRef, LentRow, Refusal};
 
 impl<S: FarTickets> Rows<S> {
-    /// Checks that all objects of a row group are local. A row group without a used place has none. Allocates nothing.
+    /// Checks that all objects of a row group are local. A row group without a used place has no objects. Allocates nothing.
     ///
-    /// Refused with `Absent` (16) exactly if one is away. The refusal names the first in the order of the columns, by the
-    /// column and the row group.
+    /// Refused with `Absent` (16) exactly if an object is away. The refusal names the column and the row group of the first
+    /// such object in the order of the columns.
     pub fn here(&self, group: u32) -> Result<(), Refusal>
         ensures { refusal_in result ≡ first_of (absents self.now group) }
     {
-        // For the proof: shows that each index is a column's.
+        // For the proof: shows that each column index is in range.
         let _len = self.len();
         if self.are_all_local() {
             return Ok(());
@@ -44,8 +44,8 @@ impl<S: FarTickets> Rows<S> {
         Ok(())
     }
 
-    // Returns whether every object of every column is local. It reads no object. So while none is away, the cost of a row does
-    // not depend on the number of columns.
+    // Returns whether every object of every column is local, without reading an object. So while no object is away, the cost of
+    // `here` does not depend on the number of columns.
     fn are_all_local(&self) -> bool
         ensures { IsTrue result → (g : ℕ) → first_of (absents self.now g) ≡ None }
     {
@@ -110,7 +110,7 @@ impl<S: FarTickets> Rows<S> {
         ensures refused { refusal_in result
             ≡ first_of (absent_at self.now column (place / self.now.size) column_index ∷ []) }
     {
-        // For the proof: shows that each index is a column's.
+        // For the proof: shows that each column index is in range.
         let _len = self.len();
         match column_index {
             ColumnIndex::Number(number) => Ok(CellRef::of_int(self.number_at(
@@ -127,7 +127,8 @@ impl<S: FarTickets> Rows<S> {
     pub fn row(&self, place: usize) -> Result<LentRow<'_>, Refusal>
         requires { place < length self.now.alive }
         ensures row { IfOk result (λ row. row ≡ row_at (all_cells S.content self.now) place) }
-        ensures refused { refusal_in result ≡ first_of (absents self.now (place / self.now.size)) }
+        ensures refused { refusal_in result
+            ≡ first_of (absents self.now (place / self.now.size)) }
     {
         // For the proof: shows that a table has at most 16 columns.
         let _len = self.len();
@@ -138,15 +139,16 @@ impl<S: FarTickets> Rows<S> {
         Ok(row)
     }
 
-    /// Borrows the row of a place into a row without cells. Looks up each column once, and reads a number only on demand. The caller
+    /// Borrows the cells of a place into an empty row. Looks up each column once, and reads a number only on demand. The caller
     /// makes the row, so that it is not moved. Allocates nothing.
     ///
-    /// Refused as `row` is, only with `Absent` (16). Then the row has the cells of the columns before.
+    /// Refused as `row` is, only with `Absent` (16). Then the row has the cells of the columns before the refused one.
     pub fn place_row<'a>(&'a self, place: usize, row: &mut PlaceRow<'a>) -> Result<(), Refusal>
         requires place { place < length self.now.alive }
         requires empty { row.old ≡ [] }
         ensures row { OnOk result (row.new ≡ row_at (all_cells S.content self.now) place) }
-        ensures refused { refusal_in result ≡ first_of (absents self.now (place / self.now.size)) }
+        ensures refused { refusal_in result
+            ≡ first_of (absents self.now (place / self.now.size)) }
     {
         // For the proof: shows that a table has at most 16 columns.
         let _len = self.len();
@@ -173,7 +175,7 @@ impl<S: FarTickets> Rows<S> {
         ensures refused { refusal_in result
             ≡ first_of (absent_at self.now column (place / self.now.size) column_index ∷ []) }
     {
-        // For the proof: shows that each index is a column's.
+        // For the proof: shows that each column index is in range.
         let _len = self.len();
         match column_index {
             ColumnIndex::Number(number) => Ok(PlaceCell::Number(self.number_ref(
@@ -210,9 +212,10 @@ impl<S: FarTickets> Rows<S> {
     pub fn row_ref(&self, place: usize) -> Result<RowRef<'_, S>, Refusal>
         requires { place < length self.now.alive }
         ensures row { IfOk result (λ row. row ≡ row_at (all_cells S.content self.now) place) }
-        ensures refused { refusal_in result ≡ first_of (absents self.now (place / self.now.size)) }
+        ensures refused { refusal_in result
+            ≡ first_of (absents self.now (place / self.now.size)) }
     {
-        // For the proof: shows that there are fewer places than numbers of 32 bits.
+        // For the proof: shows that each place fits into 32 bits.
         let _len = self.len();
         self.here(self.group_of(place))?;
         Ok(RowRef::new(self, place))
@@ -278,7 +281,7 @@ impl<S: FarTickets> Rows<S> {
             ∷ []) }
     {
         let column = &self.texts[text];
-        // For the proof: shows that there are fewer places than numbers of 32 bits, and `HasGroups` of the column.
+        // For the proof: shows that each place fits into 32 bits, and `HasGroups` of the column.
         let _places = self.len();
         let _len = column.len();
         column.text(&self.text_objects, place as u32)

@@ -1,4 +1,4 @@
-// Moves the far copies of rows to another store.
+// Copies the far copies of rows into another store.
 ghost use Rattle.std.specs.Prelude.{◌≡◌, ◌+◌, ◌<◌, ◌^◌, ℕ, List, [], ◌∷◌, IfOk};
 ghost use Rattle.far_store.specs.Faults.{faults_in, RefusedBy};
 ghost use Rattle.far_rows.specs.Rows.{all_cells};
@@ -12,13 +12,13 @@ use far_types::Refusal;
 use std::alloc::Global;
 
 impl<S: FarRead> Rows<S> {
-    /// Puts the content of each object that is away into another store. Objects of numbers come before those of texts, each
-    /// by ascending object number. Allocates all that `renew` needs. The rows do not change.
+    /// Puts the content of each object that is away into another store: first the objects of numbers, then the objects of
+    /// texts, each by ascending object number. Allocates all memory that `renew` needs. The rows do not change.
     ///
-    /// It stops at the first refusal. The new store keeps what was put before. Refused with one of these:
+    /// Stops at the first refusal. The new store keeps the contents that it already has. Refused with one of these:
     ///
     /// - `FarFault` (21): one of the stores fails. Only then does the meter rise, by one.
-    /// - `FarFull` (22): the new store gives out no more numbers.
+    /// - `FarFull` (22): the new store has no more numbers.
     /// - `NoMemory` (1): an allocation fails.
     pub fn renewal<N: FarStore>(
         &self,
@@ -41,16 +41,17 @@ impl<S: FarRead> Rows<S> {
 }
 
 impl<S: FarTickets> Rows<S> {
-    /// Returns the same rows, whose far copies are from now on those of the renewal. The local objects are dirty, since the
+    /// Returns the same rows over the new store, with the far copies of the renewal. The local objects are dirty, since the
     /// new store has no copy of them. Allocates nothing.
     ///
-    /// Unchanged are every cell and flag; which objects are local, hot or pinned; versions, leavings, the orders of use and
-    /// the regions.
+    /// Keeps every cell and flag; which objects are local, hot or pinned; versions, leavings, the orders of use and the
+    /// regions.
     pub fn renew<N: FarTickets>(self, renewal: RowsRenewal<N>) -> Rows<N>
         requires { RenewsRows S.content N.content self renewal }
         ensures renewed { result ≡ renewed_rows self renewal }
         ensures cells { all_cells N.content result ≡ all_cells S.content self }
-        ensures store { (id : List ℕ) → AreTicketsAt N.is_of id renewal → AreAt N.is_of id result }
+        ensures store { (id : List ℕ) → AreTicketsAt N.is_of id renewal
+            → AreAt N.is_of id result }
     {
         let RowsRenewal { numbers, texts } = renewal;
         Rows {

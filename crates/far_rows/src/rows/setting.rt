@@ -1,4 +1,4 @@
-// Setting a cell.
+// Sets a cell.
 ghost use Rattle.std.specs.Prelude.{◌≡◌, ◌≢◌, [], ◌/◌, ◌<◌, ◌≤◌, ◌+◌, ℕ, ℤ, Option, List, length, map, false, None, Some, OnOk, OnErr, IfErr, IsOk, IfSome, option_map, slice_get, slice_set, slice_index_or};
 ghost use Rattle.std.specs.Option.{option_and_then};
 ghost use Rattle.far_types.specs.Cells.{is_too_long};
@@ -31,9 +31,9 @@ impl<S: FarTickets> Rows<S> {
     /// Refused with the first of these that applies:
     ///
     /// - `Absent` (16): some object of the place's row group is away. The refusal names the first in the order of the columns.
-    /// - `ChunkFull` (11): it is a text whose form would be longer than its column's limit.
-    /// - `RegionFull` (17): it is a text whose form does not fit while the old one is kept.
-    /// - `EditsUsedUp` (24): the object was written as often as the limits allow.
+    /// - `ChunkFull` (11): the value is a text, and the row group's new form would be longer than the column's limit.
+    /// - `RegionFull` (17): the value is a text, and the new form does not fit while the old form is kept.
+    /// - `EditsUsedUp` (24): the cell's object was written as often as the limits allow.
     pub fn may_set(&self, column: usize, place: usize, value: &NewCell) -> Result<(), Refusal>
         requires place { place < length self.now.alive }
         requires of_kind { option_map kind_of (slice_get self.now.column_indexes column)
@@ -57,7 +57,7 @@ impl<S: FarTickets> Rows<S> {
             ≡ Some (kind_in value.now) }
         ensures { refusal_in result ≡ set_refusal S.content self.now column place value.now }
     {
-        // For the proof: shows that each index is a column's.
+        // For the proof: shows that each column index is in range.
         let _len = self.len();
         let group = self.group_of(place);
         self.here(group)?;
@@ -77,7 +77,7 @@ impl<S: FarTickets> Rows<S> {
         requires { place < length self.now.alive }
         ensures { result ≡ place / self.now.size }
     {
-        // For the proof: shows that there are fewer places than numbers of 32 bits.
+        // For the proof: shows that each place fits into 32 bits.
         let _len = self.len();
         self.reciprocal.quotient(place, self.size as usize) as u32
     }
@@ -101,7 +101,7 @@ impl<S: FarTickets> Rows<S> {
         self.number_objects.may_write(o)
     }
 
-    // Writes a number at a place of a number column. It must be one that may be written.
+    // Writes a number at a place of a number column. The object of the place must accept a write.
     fn set_number(&mut self, i: usize, place: usize, number: Option<i64>)
         requires within { i < length self.old.numbers }
         requires free { value_refusal S.content self.old (column_index.Number i) place
@@ -122,7 +122,7 @@ impl<S: FarTickets> Rows<S> {
         self.numbers[i].set_in_group(&mut self.number_objects, group, place, number);
     }
 
-    // Sets a text at a place of a text column. It must be one that may be set. Refused only with `NoMemory` (1).
+    // Sets a text at a place of a text column, which must accept the text. Refused only with `NoMemory` (1).
     fn set_text(
         &mut self,
         alloc: Global,
@@ -134,7 +134,8 @@ impl<S: FarTickets> Rows<S> {
         requires free { value_refusal S.content self.old (column_index.Text i) place
             (new.Text text.now) ≡ None }
         ensures moved { OnOk result
-            (self.new ≡ set_in S.content self.old (column_index.Text i) place (new.Text text.now)) }
+            (self.new
+            ≡ set_in S.content self.old (column_index.Text i) place (new.Text text.now)) }
         ensures texts { OnOk result
             (all_texts S.content self.new
             ≡ slice_set (all_texts S.content self.old) i
@@ -149,7 +150,7 @@ impl<S: FarTickets> Rows<S> {
         self.texts[i].set_accepted(alloc, &mut self.text_objects, place as u32, text)
     }
 
-    /// Sets a cell to a value. The object of its row group counts as written. A text's new form is placed before the old one
+    /// Sets a cell to a value, which counts as a write of the cell's object. A text's new form is placed before the old form
     /// is dropped.
     ///
     /// `may_set` must have accepted the value. A number is never refused, and a text only with `NoMemory` (1). A refused call
@@ -210,7 +211,7 @@ impl<S: FarTickets> Rows<S> {
         ensures memory { IfErr result (λ e. e ≡ Refusal.NoMemory) }
         ensures err { OnErr result (self.new ≡ self.old) }
     {
-        // For the proof: shows that each index is a column's.
+        // For the proof: shows that each column index is in range.
         let _len = self.len();
         match (self.column_indexes[column], value) {
             (ColumnIndex::Number(i), NewCell::Number(number)) => {
