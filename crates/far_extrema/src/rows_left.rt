@@ -3,7 +3,7 @@ ghost use Rattle.std.specs.Prelude.{◌≡◌, Option, ℤ};
 
 use super::min_max::MinMax;
 
-/// The rows of a row group that remain under one key once a row is removed. Extrema keep no rows, so the caller reads its own.
+/// The rows of a row group that remain under one key once a row is removed. Extrema keep no rows, so the caller provides them.
 pub trait RowsLeft {
     /// Whether the rows can be read.
     ghost at_hand: { Self → Type 0 };

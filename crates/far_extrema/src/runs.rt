@@ -97,7 +97,7 @@ fn joined_others(firsts: &[u32], runs: &[Run], place: usize) -> Option<MinMax>
     )
 }
 
-/// Returns the run that is kept apart if it is at this index.
+/// Returns `apart` if it belongs to the run at this index.
 fn apart_at(
     apart: &Option<(usize, Option<MinMax>)>,
     place: usize,

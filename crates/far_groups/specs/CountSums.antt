@@ -36,14 +36,14 @@ LeavesCountSum less None = ⊥
 LeavesCountSum less (Some count_sum) = (less.0 ≤ count_sum.0)
     × IsSumOf (count_sum.0 - less.0) (count_sum.1 -ℤ less.1)
 
--- totals with a count and a sum subtracted from what the key has; a key whose count is then 0 is removed
+-- totals with a count and a sum subtracted from the given ones of a key; a key whose count is then 0 is removed
 abbrev pub without_less : Totals → Option Key → ℕ × ℤ → Option (ℕ × ℤ) → Totals
 without_less totals key less None = totals
 without_less totals key less (Some count_sum) =
     cond (count_sum.0 == less.0) (fin.remove totals key)
     (fin.insert totals key (count_sum.0 - less.0, count_sum.1 -ℤ less.1))
 
--- totals with a count and a sum subtracted from those of a key
+-- totals with a count and a sum subtracted under a key
 abbrev pub without_count_sum : Totals → Option Key → ℕ × ℤ → Totals
 without_count_sum totals key less = without_less totals key less (fin.get totals key)
 

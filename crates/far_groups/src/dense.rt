@@ -56,7 +56,7 @@ pub fn may_place(dense: &Dense, place: usize) -> bool
     place < PLACES || place < dense.len() || place < dense.capacity().min(MOST_PLACES)
 }
 
-/// Adds a count and a sum to those of a place.
+/// Adds a count and a sum to the count and the sum at a place.
 #[inline(always)]
 fn added(count_sum: CountSum, more: CountSum) -> CountSum
     requires valid_sums { IfSome (standing count_sum) IsCountSum }
