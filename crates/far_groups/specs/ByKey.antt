@@ -24,7 +24,7 @@ in_form (Keyed keys) = totals_of keys.entries
 abbrev pub totals_in : ByKey → Totals
 totals_in by_key = in_form by_key.form
 
--- whether a count and a sum under a key may need another form: not if the form holds only no key and the key is none, too
+-- whether a count and a sum under a key may need another form; a form without keys needs one only for an actual key
 abbrev pub MayBeElsewhere : Form → Option Key → Type 0
 MayBeElsewhere (Plain count_sum) key = IsSome key
 MayBeElsewhere (Dense dense) key = Unit {0}
