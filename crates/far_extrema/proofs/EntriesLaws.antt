@@ -1,4 +1,4 @@
--- What is held by kind of key is what is held by key: what is found there, how it changes, and in which order its keys are.
+-- The holdings by kind of key are the holdings by key: lookups, changes, and the order of keys.
 use Rattle.std.proofs.Common.{◌≡◌, ℕ, cond, List, [], ◌∷◌, ◌++◌, refl, sym, ap, ◌∙◌, subst, Option, None, Some}
 use Rattle.std.specs.Prelude.{ℤ}
 use Rattle.std.specs.List.{AllByRecursion}
@@ -25,7 +25,7 @@ use Rattle.far_extrema.proofs.NumbersLaws.{like_same}
 abbrev pub Texts : Type 0
 Texts = List (List ℕ × Holding)
 
--- what is found under a key of each kind
+-- the holding that is found under a key of each kind
 abbrev pub found : Option Holding → Numbers → Texts → Option Key → Option Holding
 found p ns ts None = p
 found p ns ts (Some (Int n)) = number_at ns n
@@ -67,7 +67,7 @@ at_in (Some h) ns ts (Some (Int n)) = rest_number ns ts n
 at_in None ns ts (Some (Text t)) = rest_text ns ts t
 at_in (Some h) ns ts (Some (Text t)) = rest_text ns ts t
 
--- what is held of a key
+-- a lookup by key finds the holding of its kind
 pub get_in : (p : Option Holding) (ns : Numbers) (ts : Texts) (q : Option Key) → fin.get (holders_of (entries_in p ns ts)) q ≡ found p ns ts q
 get_in p ns ts q = get_at (entries_in p ns ts) q ∙ at_in p ns ts q
 
@@ -77,7 +77,7 @@ get_number ns n = get_at (numbered ns) (Some (Int n)) ∙ numbered_number ns n
 pub get_text : (ts : Texts) (t : List ℕ) → fin.get (holders_of (texted ts)) (Some (Text t)) ≡ text_at ts t
 get_text ts t = get_at (texted ts) (Some (Text t)) ∙ texted_text ts t
 
--- no key has this holder, or none
+-- setting or removing the holding of no key
 plain_set : (p o : Option Holding) (ns : Numbers) (ts : Texts) → IsSet (entries_in p ns ts) (entries_in o ns ts) None o
 plain_set p o ns ts None = at_in o ns ts None
 plain_set p o ns ts (Some (Int m)) = at_in o ns ts (Some (Int m)) ∙ sym (at_in p ns ts (Some (Int m)))
@@ -112,7 +112,7 @@ below_number : (n : ℤ) (ns : Numbers) → AllByRecursion (λ m. int_cmp n m �
 below_number n [] h = tt
 below_number n (e ∷ ns) h = (h.0, below_number n ns h.1)
 
--- numbers that ascend are keys that ascend
+-- ascending numbers are ascending keys
 pub ascending_numbers : (ns : Numbers) → IsStrictlySortedBy int_cmp (keys_of ns) → IsStrictlySortedBy line_cmp (keys_of (numbered ns))
 unfolding IsStrictlySortedBy
 ascending_numbers [] h = tt
@@ -122,7 +122,7 @@ below_text : (t : List ℕ) (ts : Texts) → AllByRecursion (λ u. slice_cmp nat
 below_text t [] h = tt
 below_text t (e ∷ ts) h = (h.0, below_text t ts h.1)
 
--- so are texts
+-- ascending texts are ascending keys
 pub ascending_texts : (ts : Texts) → IsStrictlySortedBy (slice_cmp nat_cmp) (keys_of ts) → IsStrictlySortedBy line_cmp (keys_of (texted ts))
 unfolding IsStrictlySortedBy
 ascending_texts [] h = tt
@@ -149,7 +149,7 @@ none_below_rest : (ns : Numbers) (ts : Texts) → AllByRecursion (λ k. line_cmp
 none_below_rest [] ts = none_below_texts ts
 none_below_rest (e ∷ ns) ts = (refl, none_below_rest ns ts)
 
--- no key is before all numbers, and those before all texts
+-- no key is before all numbers, and all numbers are before all texts
 pub ascending : (p : Option Holding) (ns : Numbers) (ts : Texts) → IsStrictlySortedBy int_cmp (keys_of ns) → IsStrictlySortedBy (slice_cmp nat_cmp) (keys_of ts) → IsStrictlySortedBy line_cmp (keys_of (entries_in p ns ts))
 unfolding IsStrictlySortedBy
 ascending None ns ts h k = ascending_rest ns ts h k
@@ -159,15 +159,15 @@ all_append : {X : Type 0} (P : X → Type 0) (xs ys : List X) → AllByRecursion
 all_append P [] ys h k = k
 all_append P (x ∷ xs) ys h k = (h.0, all_append P xs ys h.1 k)
 
--- all are topped if those of each kind are
+-- all entries are topped if the entries of each kind are
 pub topped_in : (p : Option Holding) (ns : Numbers) (ts : Texts) → AllByRecursion IsTopped (plain_entries p) → AllByRecursion IsTopped (numbered ns) → AllByRecursion IsTopped (texted ts) → AllByRecursion IsTopped (entries_in p ns ts)
 topped_in p ns ts h k l = all_append IsTopped (plain_entries p) (numbered ns ++ texted ts) h (all_append IsTopped (numbered ns) (texted ts) k l)
 
--- the lines of all are those of each kind
+-- the lines of all entries are the lines of each kind
 pub lines_in : (p : Option Holding) (ns : Numbers) (ts : Texts) → lines_of (entries_in p ns ts) ≡ lines_of (plain_entries p) ++ (lines_of (numbered ns) ++ lines_of (texted ts))
 lines_in p ns ts = filter_map-append _ (plain_entries p) (numbered ns ++ texted ts) ∙ ap (λ (ls : List (Option Key × ℤ × ℤ)). lines_of (plain_entries p) ++ ls) (filter_map-append _ (numbered ns) (texted ts))
 
--- a row group is removed from all keys if it is from those of each kind
+-- a row group is removed from all keys if it is removed from the keys of each kind
 pub cleared_in : (g : ℕ) (p o : Option Holding) (ns ms : Numbers) (ts us : Texts) → AreCleared g p o → AreNumbersCleared g ns ms → AreAllCleared g (holders_of (texted ts)) (holders_of (texted us)) → AreAllCleared g (holders_of (entries_in p ns ts)) (holders_of (entries_in o ms us))
 cleared_in g p o ns ms ts us plain numbers texts q = subst (λ (both : Option Holding × Option Holding). AreCleared g both.0 both.1) (λ i. (sym (get_in p ns ts q) i, sym (get_in o ms us q) i)) (each q) where
   each : (q : Option Key) → AreCleared g (found p ns ts q) (found o ms us q)
@@ -175,11 +175,11 @@ cleared_in g p o ns ms ts us plain numbers texts q = subst (λ (both : Option Ho
   each (Some (Int n)) = numbers n
   each (Some (Text t)) = subst (λ (both : Option Holding × Option Holding). AreCleared g both.0 both.1) (λ i. (get_text ts t i, get_text us t i)) (texts (Some (Text t)))
 
--- the entries are those of what is held of keys
+-- the entries of the map are the entries from which it is made
 pub entries_are : (p : Option Holding) (ns : Numbers) (ts : Texts) → IsStrictlySortedBy int_cmp (keys_of ns) → IsStrictlySortedBy (slice_cmp nat_cmp) (keys_of ts) → fin.entries (holders_of (entries_in p ns ts)) ≡ entries_in p ns ts
 entries_are p ns ts h k = entries-by_key (entries_in p ns ts) (ascending p ns ts h k)
 
--- the lines that are made of each kind in turn
+-- the lines that are made for each kind in turn
 pub joined_lines : (zero one two three : List (Option Key × ℤ × ℤ)) (p : Option Holding) (ns : Numbers) (ts : Texts) → zero ≡ [] → one ≡ zero ++ lines_of (plain_entries p) → two ≡ one ++ lines_of (numbered ns) → three ≡ two ++ lines_of (texted ts) → three ≡ lines_of (entries_in p ns ts)
 joined_lines zero one two three p ns ts none first second third =
     third
@@ -190,7 +190,7 @@ joined_lines zero one two three p ns ts none first second third =
 alike_all : (m n : Holders) → ((q : Option Key) → AreLike (fin.get m q) (fin.get n q)) → AreAlike m n
 alike_all m n h = (λ g q. (h q).0 g, λ q. (h q).1)
 
--- what is one is alike
+-- equal maps are alike
 pub alike_same : (m n : Holders) → m ≡ n → AreAlike m n
 alike_same m n h = alike_all m n (λ q. like_same (fin.get m q) (fin.get n q) (ap (λ (o : Holders). fin.get o q) h))
 
@@ -199,7 +199,7 @@ number_like p ns new ts n o put None = like_same p p refl
 number_like p ns new ts n o put (Some (Int m)) = put m
 number_like p ns new ts n o put (Some (Text t)) = like_same (text_at ts t) (text_at ts t) refl
 
--- a number that is put among the others
+-- putting the holding of a number
 pub number_puts : (p : Option Holding) (ns new : Numbers) (ts : Texts) (n : ℤ) (x : Holding) → IsNumberPut ns n (Some x) new → AreAlike (fin.insert (holders_of (entries_in p ns ts)) (Some (Int n)) x) (holders_of (entries_in p new ts))
 number_puts p ns new ts n x put = alike_all _ _ (λ q. subst (λ (both : Option Holding × Option Holding). AreLike both.0 both.1) (λ i. (left q i, sym (get_in p new ts q) i)) (number_like p ns new ts n (Some x) put q)) where
   left : (q : Option Key) → cond (is_at (line_cmp (Some (Int n))) q) (Some x) (found p ns ts q) ≡ fin.get (fin.insert (holders_of (entries_in p ns ts)) (Some (Int n)) x) q
@@ -208,7 +208,7 @@ number_puts p ns new ts n x put = alike_all _ _ (λ q. subst (λ (both : Option 
       ∙ ap (λ b. cond b (Some x) (fin.get (holders_of (entries_in p ns ts)) q)) ((eq_by_cmp_equiv line_total).symm (Some (Int n)) q)
       ∙ sym (fin.get-insert line_total (holders_of (entries_in p ns ts)) (Some (Int n)) x q)
 
--- or that goes
+-- removing the holding of a number
 pub number_goes : (p : Option Holding) (ns new : Numbers) (ts : Texts) (n : ℤ) → IsNumberPut ns n None new → AreAlike (fin.remove (holders_of (entries_in p ns ts)) (Some (Int n))) (holders_of (entries_in p new ts))
 number_goes p ns new ts n put = alike_all _ _ (λ q. subst (λ (both : Option Holding × Option Holding). AreLike both.0 both.1) (λ i. (left q i, sym (get_in p new ts q) i)) (number_like p ns new ts n None put q)) where
   left : (q : Option Key) → cond (is_at (line_cmp (Some (Int n))) q) None (found p ns ts q) ≡ fin.get (fin.remove (holders_of (entries_in p ns ts)) (Some (Int n))) q
@@ -217,7 +217,7 @@ number_goes p ns new ts n put = alike_all _ _ (λ q. subst (λ (both : Option Ho
       ∙ ap (λ b. cond b None (fin.get (holders_of (entries_in p ns ts)) q)) ((eq_by_cmp_equiv line_total).symm (Some (Int n)) q)
       ∙ sym (fin.get-remove line_total (holders_of (entries_in p ns ts)) (Some (Int n)) q)
 
--- numbers that are alike
+-- maps whose numbers are alike
 pub numbers_alike : (p : Option Holding) (ns new : Numbers) (ts : Texts) → AreNumbersLike ns new → AreAlike (holders_of (entries_in p ns ts)) (holders_of (entries_in p new ts))
 numbers_alike p ns new ts like = alike_all _ _ (λ q. subst (λ (both : Option Holding × Option Holding). AreLike both.0 both.1) (λ i. (sym (get_in p ns ts q) i, sym (get_in p new ts q) i)) (each q)) where
   each : (q : Option Key) → AreLike (found p ns ts q) (found p new ts q)

@@ -1,4 +1,4 @@
--- The extrema of row groups that the row groups of keys make: how they change, and all of them joined.
+-- The extrema of row groups that result from the holdings of keys: how they change, and all of them joined.
 use Rattle.std.proofs.Common.{length-append, ◌≡◌, ℕ, zero, suc, ◌<◌, ◌+◌, ◌==◌, ◌&&◌, ◌||◌, true, false, Bool, cond, List, [], ◌∷◌, ◌++◌, length, map, refl, sym, ap, ◌∙◌, arith, Option, None, Some, subst, inl, inr}
 use Rattle.std.specs.Prelude.{ℤ, option_map, slice_set, slice_index_or, is_some}
 use Rattle.std.specs.List.{filter_map, list_any, cons_option}
@@ -53,7 +53,7 @@ nothing_there : {V : Type 0} (o : Option V) → is_some o ≡ false → o ≡ No
 nothing_there None h = refl
 nothing_there (Some x) h = cc
 
--- what is picked of a key that is not there is nothing
+-- nothing is picked for a key that the map does not have
 get-picked : {V : Type 0} (f : Option Key → Option V) (m : Holders) → ((q : Option Key) → fin.get m q ≡ None → f q ≡ None) → (q : Option Key) → fin.get (picked f (fin.keys m)) q ≡ f q
 get-picked f m absent q =
     fin.get-from_entries line_total _ q
@@ -63,11 +63,11 @@ get-picked f m absent q =
       | false ↦ λ h. sym (absent q (nothing_there (fin.get m q) (fin.contains_key-keys m q ∙ h)))
     ] refl
 
--- what a key has in a row group
+-- the min-max that a key has in a row group
 pub get-group_in : (m : Holders) (g : ℕ) (q : Option Key) → fin.get (group_in m g) q ≡ min_max_at m g q
 get-group_in m g = get-picked (min_max_at m g) m (λ q none. ap (λ o. min_max_in o g) none)
 
--- and whether it is reserved
+-- whether a key is reserved
 pub get-reserved : (m : Holders) (q : Option Key) → fin.get (reserved_keys m) q ≡ reserved_at m q
 get-reserved m = get-picked (reserved_at m) m (λ q none. ap reserved_in none)
 
@@ -93,7 +93,7 @@ set-last : {X : Type 0} (xs : List X) (x y : X) → slice_set (xs ++ x ∷ []) (
 set-last [] x y = refl
 set-last (z ∷ xs) x y = ap (λ t. z ∷ t) (set-last xs x y)
 
--- a row group that is reserved
+-- the extrema of a reserved row group
 pub group_at-in : (m : Holders) (n g : ℕ) → g < n → group_at (groups_in m n) g ≡ group_in m g
 group_at-in m zero g l = absurd (omega arith)
 group_at-in m (suc n) g l = elim (g == n) as (λ b. (g == n) ≡ b → group_at (groups_in m n ++ group_in m n ∷ []) g ≡ group_in m g) [
@@ -106,7 +106,7 @@ alike : (m m' : Holders) (n : ℕ) → ((g : ℕ) → g < n → group_in m g ≡
 alike m m' zero h = refl
 alike m m' (suc n) h = λ i. alike m m' n (λ g l. h g (omega arith)) i ++ h n (omega arith) i ∷ []
 
--- one row group is another
+-- maps that differ in one row group
 set_in : (m m' : Holders) (n g : ℕ) (e : Extrema) → g < n → group_in m' g ≡ e → ((h : ℕ) → (h ≡ g → ⊥) → group_in m' h ≡ group_in m h) → groups_in m' n ≡ slice_set (groups_in m n) g e
 set_in m m' zero g e l this other = absurd (omega arith)
 set_in m m' (suc n) g e l this other = elim (g == n) as (λ b. (g == n) ≡ b → groups_in m' n ++ group_in m' n ∷ [] ≡ slice_set (groups_in m n ++ group_in m n ∷ []) g e) [
@@ -125,7 +125,7 @@ get-put_min_max : (e : Extrema) (k : Option Key) (o : Option (ℤ × ℤ)) (q : 
 get-put_min_max e k None q = fin.get-remove line_total e k q
 get-put_min_max e k (Some x) q = fin.get-insert line_total e k x q
 
--- a min-max that is put changes one row group under one key
+-- putting a min-max changes one row group under one key
 pub put-in : (m m' : Holders) (count g : ℕ) (k : Option Key) (o : Option (ℤ × ℤ)) → g < count → IsPut m g k o m' → groups_in m' count ≡ slice_set (groups_in m count) g (put_min_max (group_at (groups_in m count) g) k o)
 put-in m m' count g k o l put =
     set_in m m' count g (put_min_max (group_in m g) k o) l
@@ -135,7 +135,7 @@ put-in m m' count g k o l put =
       own : (g == g) ≡ true
       own = grind (arith, nat_tests)
 
--- a row group gets other min-maxes
+-- setting all min-maxes of a row group
 pub put-group : (m m' : Holders) (count g : ℕ) (e : Extrema) → g < count → IsGroup m g e m' → groups_in m' count ≡ slice_set (groups_in m count) g e
 put-group m m' count g e l put =
     set_in m m' count g e l
@@ -148,11 +148,11 @@ put-group m m' count g e l put =
 pub same-groups : (m m' : Holders) (n : ℕ) → HaveSameMinMaxes m m' → groups_in m' n ≡ groups_in m n
 same-groups m m' n alike_min_maxes = alike m' m n (λ g l. same _ _ (λ q. get-group_in m' g q ∙ alike_min_maxes g q ∙ sym (get-group_in m g q)))
 
--- and the same reservations the same reserved keys
+-- the same reservations make the same reserved keys
 pub same-reserved : (m m' : Holders) → HaveSameReserved m m' → reserved_keys m' ≡ reserved_keys m
 same-reserved m m' alike_reserved = same _ _ (λ q. get-reserved m' q ∙ alike_reserved q ∙ sym (get-reserved m q))
 
--- what all row groups have under a key
+-- the joined min-max that all row groups have under a key
 pub get-all : (m : Holders) (n : ℕ) (q : Option Key) → fin.get (all_groups (groups_in m n)) q ≡ joined_to n (λ g. min_max_at m g q)
 get-all m zero q = fin.get-empty line_cmp q
 get-all m (suc n) q =
@@ -164,11 +164,11 @@ pub none_joined : (n : ℕ) → joined_to n (λ g. None) ≡ None
 none_joined zero = refl
 none_joined (suc n) = ap (λ o. merge_two join_min_maxes o None) (none_joined n)
 
--- no row group has no min-max
+-- the joined min-max of no row groups is none
 pub top-none : IsTopOf [] None
 top-none n below = none_joined n
 
--- the min-max of a key, if it has row groups
+-- the kept min-max of a key, if it has row groups
 abbrev pub top_in : Option Holding → Option (ℤ × ℤ)
 top_in None = None
 top_in (Some holding) = holding.top
@@ -187,7 +187,7 @@ topped_at (x ∷ es) q t h e = elim (is_at (line_cmp q) x.0) as (λ b. cond b (S
   some_is : (s t : Holding) → Some s ≡ Some t → s ≡ t
   some_is s t e = cc
 
--- is that of all row groups
+-- the kept min-max is the joined min-max of all row groups
 pub get-tops : (es : Entries) (count : ℕ) (q : Option Key) → AreReserved count (holders_of es) → AllByRecursion IsTopped es → fin.get (all_groups (groups_in (holders_of es) count)) q ≡ top_in (fin.get (holders_of es) q)
 get-tops es count q kept topped = get-all (holders_of es) count q ∙ elim (fin.get (holders_of es) q) as (λ o. fin.get (holders_of es) q ≡ o → joined_to count (λ g. min_max_in o g) ≡ top_in o) [
   | None ↦ λ e. none_joined count
@@ -197,7 +197,7 @@ get-tops es count q kept topped = get-all (holders_of es) count q ∙ elim (fin.
 abbrev Lines : Type 0
 Lines = List (Option Key × ℤ × ℤ)
 
--- the min-maxes of all row groups, by key
+-- the kept min-max of an entry, with its key
 abbrev top_of : Option Key × Holding → Option (Option Key × (ℤ × ℤ))
 top_of e = option_map (λ (top : ℤ × ℤ). (e.0, top)) e.1.top
 
@@ -240,7 +240,7 @@ lines_tops (e ∷ es) = elim e.1.top as (λ o. map {B = Option Key × ℤ × ℤ
   | Some top ↦ let line : Option Key × ℤ × ℤ = (e.0, top.0, top.1) in ap (λ (ls : Lines). line ∷ ls) (lines_tops es)
 ]
 
--- the lines of the min-maxes that are kept are those of all row groups joined
+-- the lines of the kept min-maxes are the lines of all row groups joined
 lines-all : (es : Entries) (count : ℕ) → AreReserved count (holders_of es) → AllByRecursion IsTopped es → IsStrictlySortedBy line_cmp (map (λ (e : Option Key × Holding). e.0) es)
     → filter_map line_of es ≡ extrema_lines (all_groups (groups_in (holders_of es) count))
 lines-all es count kept topped sorted =
@@ -248,25 +248,25 @@ lines-all es count kept topped sorted =
     ∙ ap (map {B = Option Key × ℤ × ℤ} (λ (e : Option Key × (ℤ × ℤ)). (e.0, e.1.0, e.1.1))) (sym (entries-by_key (tops es) (sorted_tops es sorted)))
     ∙ ap extrema_lines (same (by_key (tops es)) (all_groups (groups_in (holders_of es) count)) (λ q. get_at (tops es) q ∙ tops_at es q (sorted_distinct es sorted) ∙ ap top_in (sym (get_at es q)) ∙ sym (get-tops es count q kept topped)))
 
--- the entries of a map make it
+-- a map is made from its own entries
 made_of_own : (m : Holders) → holders_of (fin.entries m) ≡ m
 made_of_own m = same _ _ (λ q. fin.get-from_entries line_total (fin.entries m) q ∙ sym (fin.get-entries m q))
 
--- so it is of what is held of keys
+-- the lines of a map's own entries are the lines of all row groups joined
 pub lines-held : (m : Holders) (count : ℕ) → AreReserved count m → AllByRecursion IsTopped (fin.entries m) → IsStrictlySortedBy line_cmp (fin.keys m)
     → filter_map line_of (fin.entries m) ≡ extrema_lines (all_groups (groups_in m count))
 lines-held m count kept topped sorted =
     lines-all (fin.entries m) count (subst (AreReserved count) (sym (made_of_own m)) kept) topped sorted
     ∙ ap (λ n. extrema_lines (all_groups (groups_in n count))) (made_of_own m)
 
--- a min-max that is put in a reserved row group leaves none in the others
+-- putting a min-max in a reserved row group adds none to unreserved row groups
 pub reserved-put : (m m' : Holders) (count g : ℕ) (k : Option Key) (o : Option (ℤ × ℤ)) → AreReserved count m → g < count → IsPut m g k o m' → AreReserved count m'
 reserved-put m m' count g k o kept l put h q le = put h q ∙ ap (λ b. cond (b && eq_by_cmp line_cmp q k) o (min_max_at m h q)) (off h g (λ e. omega arith)) ∙ kept h q le
 
 none_in : (m : Holders) (g : ℕ) → ((q : Option Key) → min_max_at m g q ≡ None) → group_in m g ≡ fin.empty
 none_in m g h = same _ _ (λ q. get-group_in m g q ∙ h q ∙ sym (fin.get-empty line_cmp q))
 
--- row groups without a row are reserved
+-- reserving more row groups appends row groups without rows
 pub more-reserved : (m : Holders) (count more : ℕ) → AreReserved count m → groups_in m (count + more) ≡ groups_in m count ++ replicate more fin.empty
 more-reserved m count zero kept = ap (groups_in m) none ∙ sym (append-nil (groups_in m count)) where
   none : count + 0 ≡ count
@@ -283,7 +283,7 @@ more-reserved m count (suc more) kept =
       last_one zero = refl
       last_one (suc n) = ap (λ es. fin.empty ∷ es) (last_one n)
 
--- nothing is there if nothing is reserved
+-- a lookup in the extrema of a row group finds the key's min-max there, whether the row group is reserved or not
 pub get-group_at : (m : Holders) (count g : ℕ) (q : Option Key) → AreReserved count m → fin.get (group_at (groups_in m count) g) q ≡ min_max_at m g q
 get-group_at m count g q kept = elim (order g count) [
   | inl l ↦ ap (λ e. fin.get e q) (group_at-in m count g l) ∙ get-group_in m g q
@@ -294,7 +294,7 @@ both_false : (b : Bool) → (b && false) ≡ false
 both_false true = refl
 both_false false = refl
 
--- one key's row groups change at one row group
+-- setting one row group of one key's holding
 pub put-set : (m : Holders) (k : Option Key) (t t' : Holding) (g : ℕ) (o : Option (ℤ × ℤ)) → fin.get m k ≡ Some t → IsSet t.min_maxes g o t'.min_maxes → IsPut m g k o (fin.insert m k t')
 put-set m k t t' g o there set h q =
     ap (λ p. min_max_in p h) (fin.get-insert line_total m k t' q)
@@ -306,7 +306,7 @@ put-set m k t t' g o there set h q =
       and_true true = refl
       and_true false = refl
 
--- a key comes with one row group
+-- inserting a key with one row group
 pub put-new : (m : Holders) (k : Option Key) (t : Holding) (g : ℕ) (x : ℤ × ℤ) → fin.get m k ≡ None → t.min_maxes ≡ (g, x) ∷ [] → IsPut m g k (Some x) (fin.insert m k t)
 put-new m k t g x absent one h q =
     ap (λ p. min_max_in p h) (fin.get-insert line_total m k t q)
@@ -318,7 +318,7 @@ put-new m k t g x absent one h q =
       and_true true = refl
       and_true false = refl
 
--- what stands under a key already may be put there again
+-- inserting the holding that a key already has changes nothing
 pub put-same : (m : Holders) (k : Option Key) (t : Holding) → fin.get m k ≡ Some t → fin.insert m k t ≡ m
 put-same m k t h = same _ _ (λ q.
     fin.get-insert line_total m k t q
@@ -327,7 +327,7 @@ put-same m k t h = same _ _ (λ q.
       | false ↦ λ e. refl
     ] refl)
 
--- what stands already is put again
+-- putting the min-max that a key already has changes nothing
 pub put-own : (m : Holders) (g : ℕ) (k : Option Key) (x : ℤ × ℤ) → min_max_at m g k ≡ Some x → IsPut m g k (Some x) m
 put-own m g k x there h q = elim (h == g) as (λ a. (h == g) ≡ a → min_max_at m h q ≡ cond (a && eq_by_cmp line_cmp q k) (Some x) (min_max_at m h q)) [
   | true ↦ λ e. elim (eq_by_cmp line_cmp q k) as (λ b. eq_by_cmp line_cmp q k ≡ b → min_max_at m h q ≡ cond b (Some x) (min_max_at m h q)) [
@@ -337,13 +337,13 @@ put-own m g k x there h q = elim (h == g) as (λ a. (h == g) ≡ a → min_max_a
   | false ↦ λ e. refl
 ] refl
 
--- a value that is observed
+-- observing a value
 pub observed-in : (m m' : Holders) (count g : ℕ) (k : Option Key) (v : ℤ) (o : Option (ℤ × ℤ)) → AreReserved count m → min_max_at m g k ≡ o → g < count → IsPut m g k (Some (min_max_with v o)) m' → groups_in m' count ≡ slice_set (groups_in m count) g (with_observed (group_at (groups_in m count) g) (k, v))
 observed-in m m' count g k v o kept previous l put =
     put-in m m' count g k (Some (min_max_with v o)) l put
     ∙ ap (λ p. slice_set (groups_in m count) g (put_min_max (group_at (groups_in m count) g) k (Some (min_max_with v p)))) (sym (get-group_at m count g k kept ∙ previous))
 
--- nothing is there in an empty map
+-- no row group has keys in an empty map
 pub reserved-empty : (m : Holders) (count : ℕ) → ((q : Option Key) → fin.get m q ≡ None) → AreReserved count m
 reserved-empty m count none g q l = ap (λ o. min_max_in o g) (none q)
 

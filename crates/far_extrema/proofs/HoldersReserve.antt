@@ -1,4 +1,4 @@
--- Reserved keys: how what stands by key changes if one key's entry is written, and if a whole row group is.
+-- Reserved keys: how the holdings by key change if one key's entry is written, and if a whole row group is written.
 use Rattle.std.proofs.Common.{◌≡◌, ◌≢◌, ℕ, ◌<◌, ◌==◌, ◌&&◌, true, false, Bool, cond, List, [], ◌∷◌, map, refl, sym, ap, ◌∙◌, arith, Option, None, Some, subst, Result, Ok, Err, OnOk, OnErr}
 use Rattle.std.specs.Prelude.{ℤ}
 use Rattle.std.specs.Ordering.{eq_by_cmp}
@@ -21,7 +21,7 @@ use Rattle.far_extrema.proofs.HoldersLaws.{put-set}
 pub own_test : (g : ℕ) → (g == g) ≡ true
 own_test g = grind (arith, nat_tests)
 
--- an entry is written that is reserved as its key was
+-- writing an entry that is reserved as its key was
 pub reserved-insert : (m : Holders) (k : Option Key) (t : Holding) → reserved_in (Some t) ≡ reserved_at m k → HaveSameReserved m (fin.insert m k t)
 reserved-insert m k t own q =
     ap reserved_in (fin.get-insert line_total m k t q)
@@ -30,7 +30,7 @@ reserved-insert m k t own q =
       | false ↦ λ e. refl
     ] refl
 
--- an entry that is not reserved goes
+-- removing an entry that is not reserved
 pub reserved-remove : (m : Holders) (k : Option Key) → reserved_at m k ≡ None → HaveSameReserved m (fin.remove m k)
 reserved-remove m k none q =
     ap reserved_in (fin.get-remove line_total m k q)
@@ -39,7 +39,7 @@ reserved-remove m k none q =
       | false ↦ λ e. refl
     ] refl
 
--- an entry is written whose min-maxes are those of its key
+-- writing an entry with the min-maxes of its key
 pub min_maxes-insert : (m : Holders) (k : Option Key) (t : Holding) → ((g : ℕ) → at t.min_maxes g ≡ min_max_at m g k) → HaveSameMinMaxes m (fin.insert m k t)
 min_maxes-insert m k t own g q =
     ap (λ o. min_max_in o g) (fin.get-insert line_total m k t q)
@@ -48,7 +48,7 @@ min_maxes-insert m k t own g q =
       | false ↦ λ e. refl
     ] refl
 
--- an entry is written that is reserved if its key was
+-- writing an entry that is reserved if its key was
 pub keeps-insert : (m : Holders) (k : Option Key) (t : Holding) → (reserved_at m k ≢ None → t.reserved ≡ true) → KeepsReserved m (fin.insert m k t)
 keeps-insert m k t own q had none =
     elim (eq_by_cmp line_cmp q k) as (λ b. eq_by_cmp line_cmp q k ≡ b → reserved_in (cond b (Some t) (fin.get m q)) ≡ None → ⊥) [
@@ -58,13 +58,13 @@ keeps-insert m k t own q had none =
       some_none : Some true ≡ None → ⊥
       some_none h = cc
 
--- a reserved entry is written
+-- writing a reserved entry
 pub reserved-made : (m : Holders) (k : Option Key) (t : Holding) → t.reserved ≡ true → reserved_at (fin.insert m k t) k ≢ None
 reserved-made m k t reserved none = some_none (sym (ap reserved_in (fin.get-insert line_total m k t k ∙ ap (λ b. cond b (Some t) (fin.get m k)) (own_key k)) ∙ ap (λ b. cond b (Some true) None) reserved) ∙ none) where
   some_none : Some true ≡ None → ⊥
   some_none h = cc
 
--- an entry that has no row group and is not reserved goes
+-- removing an entry that has no row group and is not reserved
 pub put-vacant : (m : Holders) (k : Option Key) (t t' : Holding) (g : ℕ) → fin.get m k ≡ Some t → IsSet t.min_maxes g None t'.min_maxes → t'.min_maxes ≡ [] → IsPut m g k None (fin.remove (fin.insert m k t') k)
 put-vacant m k t t' g there set none h q =
     ap (λ o. min_max_in o h) (fin.get-remove line_total (fin.insert m k t') k q)
@@ -74,7 +74,7 @@ put-vacant m k t t' g there set none h q =
     ] refl
     ∙ put-set m k t t' g None there set h q
 
--- if a key has no row group left, it has not this one
+-- a key without row groups does not have this one
 pub none-vacant : (old new : MinMaxes) (g : ℕ) (o : Option (ℤ × ℤ)) → IsSet old g o new → new ≡ [] → o ≡ None
 none-vacant old new g o set vacant = sym (ap (λ b. cond b o (at old g)) (own_test g)) ∙ sym (set g) ∙ ap (λ s. at s g) vacant
 
@@ -85,21 +85,21 @@ reserved-had m k t there had = elim t.reserved as (λ b. t.reserved ≡ b → b 
   | false ↦ λ e. absurd (had (ap reserved_in there ∙ ap (λ b. cond b (Some true) None) e))
 ] refl
 
--- other keys stay as reserved as they were
+-- writing an entry keeps the reservations of all other keys
 pub reserved-other : (m : Holders) (k : Option Key) (t : Holding) (q : Option Key) → eq_by_cmp line_cmp q k ≡ false → reserved_at (fin.insert m k t) q ≡ reserved_at m q
 reserved-other m k t q e = ap reserved_in (fin.get-insert line_total m k t q) ∙ ap (λ b. reserved_in (cond b (Some t) (fin.get m q))) e
 
--- an entry that lost its last row group goes if it is not reserved
+-- removing an entry that lost its last row group and is not reserved
 pub reserved-vacant : (m : Holders) (k : Option Key) (t t' : Holding) → fin.get m k ≡ Some t → t'.reserved ≡ t.reserved → t'.reserved ≡ false → HaveSameReserved m (fin.remove (fin.insert m k t') k)
 reserved-vacant m k t t' there retained none q =
     reserved-remove (fin.insert m k t') k (ap reserved_in (fin.get-insert line_total m k t' k ∙ ap (λ b. cond b (Some t') (fin.get m k)) (own_key k)) ∙ ap (λ b. cond b (Some true) None) none) q
     ∙ reserved-insert m k t' (ap (λ b. cond b (Some true) None) retained ∙ sym (ap reserved_in there)) q
 
--- a reserved row group gets other min-maxes
+-- setting all min-maxes of a reserved row group
 pub reserved-group : (m m' : Holders) (count g : ℕ) (e : Extrema) → AreReserved count m → g < count → IsGroup m g e m' → AreReserved count m'
 reserved-group m m' count g e retained l put h q le = put h q ∙ ap (λ b. cond b (fin.get e q) (min_max_at m h q)) (off h g (λ s. omega arith)) ∙ retained h q le
 
--- and others again
+-- setting all min-maxes of a row group twice
 pub group-twice : (m m' m'' : Holders) (g : ℕ) (d e : Extrema) → IsGroup m g d m' → IsGroup m' g e m'' → IsGroup m g e m''
 group-twice m m' m'' g d e one two h q = elim (h == g) as (λ b. (h == g) ≡ b → min_max_at m'' h q ≡ cond b (fin.get e q) (min_max_at m h q)) [
   | true ↦ λ s. two h q ∙ ap (λ b. cond b (fin.get e q) (min_max_at m' h q)) s
@@ -114,7 +114,7 @@ pub ok_any : {T E : Type 0} (r : Result T E) {P : Type 0} → P → OnOk r P
 ok_any (Ok x) p = p
 ok_any (Err e) p = tt
 
--- both ways of an answer
+-- proof by cases: a call returns Ok or Err
 pub either : {T E : Type 0} (r : Result T E) {P N Q : Type 0} → (P → Q) → (N → Q) → OnOk r P → OnErr r N → Q
 either (Ok x) f g h k = f h
 either (Err e) f g h k = g k
@@ -134,12 +134,12 @@ on_err (Err e) f h = f h
 abbrev KeyedMinMaxes : Type 0
 KeyedMinMaxes = List (Option Key × (ℤ × ℤ))
 
--- what is still to come, and else what is there
+-- the first min-max if there is one, else the second
 abbrev pub over : Option (ℤ × ℤ) → Option (ℤ × ℤ) → Option (ℤ × ℤ)
 over None o = o
 over (Some x) o = Some x
 
--- a row group is filled with entries but for the rest of them
+-- whether a row group is filled with all entries but the rest
 pub record IsFilling (old now : Holders) (group : ℕ) (entries rest : KeyedMinMaxes) : Type 0 where
   pub distinct : HaveDistinctKeys rest
   pub reserved : (q : Option Key) → map_in.at rest q ≢ None → reserved_at now q ≢ None
@@ -147,7 +147,7 @@ pub record IsFilling (old now : Holders) (group : ℕ) (entries rest : KeyedMinM
   pub there : (q : Option Key) → over (map_in.at rest q) (min_max_at now group q) ≡ map_in.at entries q
   pub others : (h : ℕ) → (q : Option Key) → h ≢ group → min_max_at now h q ≡ min_max_at old h q
 
--- what an entry has is not nothing
+-- the key of the first entry has its min-max
 head : (e : Option Key × (ℤ × ℤ)) (rest : KeyedMinMaxes) → map_in.at (e ∷ rest) e.0 ≡ Some e.1
 head e rest = ap (λ b. cond b (Some e.1) (map_in.at rest e.0)) (own_key e.0)
 
@@ -162,7 +162,7 @@ next-reserved old now g es e rest f = f.reserved e.0 (head_there e rest)
 pub next-new : (old now : Holders) (g : ℕ) (es : KeyedMinMaxes) (e : Option Key × (ℤ × ℤ)) (rest : KeyedMinMaxes) → IsFilling old now g es (e ∷ rest) → min_max_at now g e.0 ≡ None
 next-new old now g es e rest f = f.new e.0 (head_there e rest)
 
--- a key of the rest is not that of the entry before
+-- a key of the rest is not the key of the entry before
 other_key : (e : Option Key × (ℤ × ℤ)) (rest : KeyedMinMaxes) (q : Option Key) → HaveDistinctKeys (e ∷ rest) → map_in.at rest q ≢ None → eq_by_cmp line_cmp q e.0 ≡ false
 other_key e rest q distinct there = elim (eq_by_cmp line_cmp q e.0) as (λ b. eq_by_cmp line_cmp q e.0 ≡ b → b ≡ false) [
   | true ↦ λ s. absurd (there (ap (map_in.at rest) (same_key q e.0 s) ∙ distinct.0))
@@ -172,7 +172,7 @@ other_key e rest q distinct there = elim (eq_by_cmp line_cmp q e.0) as (λ b. eq
 past_head : (e : Option Key × (ℤ × ℤ)) (rest : KeyedMinMaxes) (q : Option Key) → eq_by_cmp line_cmp q e.0 ≡ false → map_in.at (e ∷ rest) q ≡ map_in.at rest q
 past_head e rest q s = ap (λ b. cond b (Some e.1) (map_in.at rest q)) s
 
--- the next entry is in
+-- the next entry is filled in
 pub filled-next : (old now next : Holders) (g : ℕ) (es : KeyedMinMaxes) (e : Option Key × (ℤ × ℤ)) (rest : KeyedMinMaxes) → IsFilling old now g es (e ∷ rest)
     → IsPut now g e.0 (Some e.1) next → ((q : Option Key) → eq_by_cmp line_cmp q e.0 ≡ false → reserved_at next q ≡ reserved_at now q) → IsFilling old next g es rest
 filled-next old now next g es e rest f put reserved = record {
@@ -200,7 +200,7 @@ reserved-next now next es e rest before retained own q there gone = elim (eq_by_
   | false ↦ λ s. retained q (before q there (past_head e rest q s ∙ gone))
 ] refl
 
--- none is in yet
+-- no entry is filled in yet
 pub filled-none : (m : Holders) (g : ℕ) (es : KeyedMinMaxes) → HaveDistinctKeys es → AreReservedFor (map_in.by_key es) m → ((q : Option Key) → min_max_at m g q ≡ None) → IsFilling m m g es es
 filled-none m g es distinct reserved new = record {
   distinct = distinct;
@@ -210,7 +210,7 @@ filled-none m g es distinct reserved new = record {
   others = λ h q n. refl;
 }
 
--- all are in
+-- all entries are filled in
 pub filled-all : (old now : Holders) (g : ℕ) (es : KeyedMinMaxes) → IsFilling old now g es [] → IsGroup old g (map_in.by_key es) now
 filled-all old now g es f h q = elim (h == g) as (λ b. (h == g) ≡ b → min_max_at now h q ≡ cond b (fin.get (map_in.by_key es) q) (min_max_at old h q)) [
   | true ↦ λ e. ap (λ n. min_max_at now n q) (here h g e) ∙ f.there q ∙ sym (get_at es q)
@@ -222,18 +222,18 @@ filled-all old now g es f h q = elim (h == g) as (λ b. (h == g) ≡ b → min_m
 abbrev absent : Option Holding
 absent = None
 
--- nothing is left of nothing
+-- clearing nothing leaves nothing
 pub nothing_cleared : (g : ℕ) → AreCleared g None None
 nothing_cleared g = (λ h. elim (h == g) as (λ b. None ≡ cond b None (min_max_in None h)) [ true ↦ refl | false ↦ refl ], refl)
 
--- what is left of a holder that lost a row group, if it stays or goes
+-- the holding that lost a row group, if it is kept or removed
 pub cleared-holder : (g : ℕ) (old : Holding) (b : Bool) (new : Holding) → IsCleared g old b new → AreCleared g (Some old) (cond b (Some new) None)
 cleared-holder g old true new c = (c.0, ap (λ reserved. cond reserved (Some true) None) c.1)
 cleared-holder g old false new c =
     let vacant = c.2 refl in
     ((λ h. sym (ap (λ s. at s h) vacant.0) ∙ c.0 h), sym (ap (λ reserved. cond reserved (Some true) None) (sym c.1 ∙ vacant.1)))
 
--- what `retain` leaves of each key, if its closure clears a row group and stays as it was
+-- the result of `retain` for each key, if its closure clears a row group and stays unchanged
 module _ {K F : Type 0} (key : K → Option Key) (T : F → K → Holding → Bool → Holding → F → Type 0) (g : ℕ) where
   abbrev keyed : List (K × Holding) → List (Option Key × Holding)
   keyed es = map (λ (e : K × Holding). (key e.0, e.1)) es
@@ -267,7 +267,7 @@ module _ {K F : Type 0} (key : K → Option Key) (T : F → K → Holding → Bo
       → (es retained : List (K × Holding)) → HaveDistinctKeys (keyed es) → RetainsPairs T f es retained → AreAllCleared g (map_in.by_key (keyed es)) (map_in.by_key (keyed retained))
   cleared-all f says es retained distinct r q = subst (λ (o : Option Holding × Option Holding). AreCleared g o.0 o.1) (λ i. (sym (get_at (keyed es) q) i, sym (get_at (keyed retained) q) i)) (cleared-each f says es retained distinct r q).0
 
--- what is alike has the same min-maxes and the same reserved keys
+-- maps that are alike have the same min-maxes and the same reserved keys
 pub put-alike : (m n o : Holders) (g : ℕ) (k : Option Key) (x : Option (ℤ × ℤ)) → IsPut m g k x n → AreAlike n o → IsPut m g k x o
 put-alike m n o g k x put alike h q = alike.0 h q ∙ put h q
 

@@ -1,4 +1,4 @@
--- One row group beside the others.
+-- One row group apart from the others.
 use Rattle.std.proofs.Common.{ℕ, ◌∷◌, refl, Option, None, Some}
 use Rattle.std.specs.Prelude.{ℤ}
 use Rattle.far_types.specs.Effects.{join_min_maxes, merge_two}

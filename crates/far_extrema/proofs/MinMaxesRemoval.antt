@@ -1,4 +1,4 @@
--- What a row that goes changes of extrema.
+-- How removing a row changes extrema.
 use Rattle.std.proofs.Common.{◌≡◌, List, ◌∷◌, true, false, cond, refl, sym, ap, ◌∙◌, arith, Option, None, Some}
 use Rattle.std.specs.Prelude.{ℤ, ◌<ℤ◌}
 use Rattle.std.specs.Ordering.{eq_by_cmp}
@@ -15,7 +15,7 @@ use Rattle.far_types.proofs.AnswersByKeyMaps.{get_inserted, insert_undone, inser
 use Rattle.far_types.proofs.EffectsLaws.{extrema-cons}
 use Rattle.far_extrema.specs.MinMaxes.{put_min_max}
 
--- the previous min-max under a key is put back
+-- putting back the previous min-max under a key
 pub put-undone : (m : Extrema) (k : Option Key) (x : ℤ × ℤ) (o : Option (ℤ × ℤ)) → fin.get m k ≡ o → put_min_max (fin.insert m k x) k o ≡ m
 put-undone m k x None h = insert_undone m k x h
 put-undone m k x (Some y) h = insert_again m k x y h
@@ -26,7 +26,7 @@ observed-undo m p = put-undone m p.0 (min_max_with p.1 (fin.get m p.0)) (fin.get
 pub gone : (ps : List Pair) (p : Pair) → put_min_max (extrema (p ∷ ps)) p.0 (fin.get (extrema ps) p.0) ≡ extrema ps
 gone ps p = ap (λ m. put_min_max m p.0 (fin.get (extrema ps) p.0)) (extrema-cons p ps) ∙ observed-undo (extrema ps) p
 
--- what stands under a key already may be put there again
+-- putting the min-max that a key already has changes nothing
 pub put-same : (m : Extrema) (k : Option Key) (x : ℤ × ℤ) → fin.get m k ≡ Some x → put_min_max m k (Some x) ≡ m
 put-same m k x h = same _ _ (λ q.
     fin.get-insert line_total m k x q
@@ -38,7 +38,7 @@ put-same m k x h = same _ _ (λ q.
 some_is : (s t : ℤ × ℤ) → Some s ≡ Some t → s ≡ t
 some_is s t e = cc
 
--- a min-max that a value strictly within was observed in is the min-max without it
+-- a min-max with a value strictly within it is the min-max without that value
 pub within : (v : ℤ) (o : Option (ℤ × ℤ)) (s : ℤ × ℤ) → min_max_with v o ≡ s → s.0 <ℤ v → v <ℤ s.1 → o ≡ Some s
 within v None s h low high =
     let e : v ≡ s.0 = ap (λ (t : ℤ × ℤ). t.0) h in
@@ -54,6 +54,6 @@ gone_within ps p s h low high =
     let there = within p.1 (fin.get (extrema ps) p.0) s wide low high in
     extrema-cons p ps ∙ ap (fin.insert (extrema ps) p.0) wide ∙ put-same (extrema ps) p.0 s there
 
--- what stands under a key stays if the value that goes is strictly within it
+-- removing a value strictly within a min-max does not change the min-max
 pub left-inside : (v : ℤ) (left previous : Option (ℤ × ℤ)) (s : ℤ × ℤ) → previous ≡ Some (min_max_with v left) → Some s ≡ previous → s.0 <ℤ v → v <ℤ s.1 → Some s ≡ left
 left-inside v left previous s wide found low high = sym (within v left s (some_is _ _ (sym wide ∙ sym found)) low high)

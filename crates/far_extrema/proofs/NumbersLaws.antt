@@ -1,4 +1,4 @@
--- What is held of numbers in a list and two trees: what is found there, how it changes, and in which order the numbers are.
+-- The holdings of numbers in a list and two trees: lookups, changes, and the order of the numbers.
 use Rattle.std.proofs.Common.{◌≡◌, ℕ, zero, suc, ◌+◌, ◌-◌, ◌<◌, ◌≤◌, ◌==◌, true, false, Bool, cond, List, [], ◌∷◌, ◌++◌, length, get_or, slice_get, slice_set, refl, sym, ap, ◌∙◌, subst, arith, Option, None, Some, true≢false, ◌⊎◌, inl, inr}
 use Rattle.std.specs.Borrow.{MutBor}
 use Rattle.std.specs.Option.{option_copied_mut, MatchOption}
@@ -44,11 +44,11 @@ same_place : (j k : ℕ) → pos j ≡ pos k → j ≡ k
 unfolding natural
 same_place j k h = ap natural h
 
--- two holders that are one are alike
+-- equal holdings are alike
 pub like_same : (x y : Option Holding) → x ≡ y → AreLike x y
 like_same x y h = (λ g. ap (λ o. min_max_in o g) (sym h), ap reserved_in (sym h))
 
--- what is at a place of a list
+-- lookups at a place of a list
 pub get_past : {X : Type 0} (xs : List X) (k : ℕ) → length xs ≤ k → slice_get xs k ≡ None
 get_past [] k l = refl
 get_past (x ∷ xs) zero l = absurd (omega arith)
@@ -92,7 +92,7 @@ length_placed : (first : ℕ) (hs : List Holding) → length (placed first hs) �
 length_placed first [] = refl
 length_placed first (h ∷ hs) = ap suc (length_placed (suc first) hs)
 
--- a list and two trees hold as many numbers as the three have entries
+-- a list and two trees have as many numbers as the three have entries
 pub length_all : (b : Numbers) (s : List Holding) (a : Numbers)
     → length (numbers_in b s a) ≡ length b + (length s + length a)
 length_all b s a =
@@ -105,7 +105,7 @@ placed_under first (h ∷ hs) k =
     ap (λ b. cond b (Some h) (number_at (placed (suc first) hs) (negsuc k))) (other_number (negsuc k) (pos first) (λ e. omega (arith, ints, e)))
     ∙ placed_under (suc first) hs k
 
--- the first of two that is there
+-- the first of two holdings, or the second one if there is no first
 abbrev first_of : Option Holding → Option Holding → Option Holding
 first_of None o = o
 first_of (Some x) o = Some x
@@ -124,7 +124,7 @@ at_append (e ∷ ms) ns n = elim (is_at (int_cmp n) e.0) as (λ b. cond b (Some 
 at_all : (b : Numbers) (s : List Holding) (a : Numbers) (n : ℤ) → number_at (numbers_in b s a) n ≡ first_of (number_at b n) (first_of (number_at (placed 0 s) n) (number_at a n))
 at_all b s a n = at_append b (placed 0 s ++ a) n ∙ ap (first_of (number_at b n)) (at_append (placed 0 s) a n)
 
--- each number is found where it is kept
+-- each number is found in its part
 pub at_below : (b : Numbers) (s : List Holding) (a : Numbers) (n : ℤ) → AreApart b s a → n <ℤ pos 0 → number_at (numbers_in b s a) n ≡ number_at b n
 at_below b s a (pos k) apart l = absurd (omega (arith, ints, l))
 at_below b s a (negsuc k) apart l =
@@ -155,7 +155,7 @@ part (pos k) = elim (side k 2048) [ inl l ↦ inr (inl (k, refl, l)) | inr l ↦
   side (suc j) zero = inr (omega arith)
   side (suc j) (suc n) = elim (side j n) [ inl l ↦ inl (omega arith) | inr l ↦ inr (omega arith) ]
 
--- what holds between the parts holds between the wholes
+-- a relation that holds between the parts holds between the wholes
 pub lifted : (R : ℤ → Option Holding → Option Holding → Type 0) (b : Numbers) (s : List Holding) (a b' : Numbers) (s' : List Holding) (a' : Numbers) → AreApart b s a → AreApart b' s' a'
     → ((n : ℤ) → n <ℤ pos 0 → R n (number_at b n) (number_at b' n)) → ((k : ℕ) → k < 2048 → R (pos k) (slice_get s k) (slice_get s' k)) → ((n : ℤ) → pos 2048 ≤ℤ n → R n (number_at a n) (number_at a' n))
     → (n : ℤ) → R n (number_at (numbers_in b s a) n) (number_at (numbers_in b' s' a') n)
@@ -166,7 +166,7 @@ lifted R b s a b' s' a' apart apart' below small above n = elim (part n) [
   | inr (inr l) ↦ subst (λ (both : Option Holding × Option Holding). R n both.0 both.1) (λ i. (sym (at_above b s a n apart l) i, sym (at_above b' s' a' n apart' l) i)) (above n l)
 ]
 
--- a tree keeps its part
+-- changing a tree at a number of its part
 pub apart_below : (b : Numbers) (s : List Holding) (a b' : Numbers) (n : ℤ) → AreApart b s a → n <ℤ pos 0 → KeepsOtherNumbers b n b' → AreApart b' s a
 apart_below b s a b' n apart l others = record {
   under = λ k. others (pos k) (other_number n (pos k) (λ e. omega (arith, ints, e, l))) ∙ apart.under k;
@@ -184,15 +184,15 @@ apart_above b s a a' n apart l others = record {
 pub apart_small : (b : Numbers) (s : List Holding) (a : Numbers) (s' : List Holding) → AreApart b s a → length s' ≤ 2048 → AreApart b s' a
 apart_small b s a s' apart l = record { under = apart.under; few = l; over = apart.over }
 
--- what is set keeps the others
+-- setting a number keeps all other numbers
 pub set_keeps : (ns : Numbers) (n : ℤ) (o : Option Holding) (ms : Numbers) → IsSetAt ns n o ms → KeepsOtherNumbers ns n ms
 set_keeps ns n o ms set m other = set m ∙ ap (λ b. cond b o (number_at ns m)) other
 
--- a number that is not set
+-- a number that is not set is unchanged
 pub unset : (n m : ℤ) (o x : Option Holding) → (n ≡ m → ⊥) → x ≡ cond (is_at (int_cmp n) m) o x
 unset n m o x other = sym (ap (λ b. cond b o x) (other_number n m other))
 
--- a holder is set in the tree of the numbers below 0, in that of those above the list, or in the list
+-- setting a holding in the tree of the numbers below 0, in the tree of the numbers above the list, or in the list
 pub set_below : (b : Numbers) (s : List Holding) (a b' : Numbers) (n : ℤ) (o : Option Holding) → AreApart b s a → n <ℤ pos 0 → IsSetAt b n o b' → IsSetAt (numbers_in b s a) n o (numbers_in b' s a)
 set_below b s a b' n o apart l set = lifted (λ m x y. y ≡ cond (is_at (int_cmp n) m) o x) b s a b' s a apart (apart_below b s a b' n apart l (set_keeps b n o b' set))
     (λ m k. set m) (λ k less. unset n (pos k) o (slice_get s k) (λ e. omega (arith, ints, e, l))) (λ m high. unset n m o (number_at a m) (λ e. omega (arith, ints, e, l, high)))
@@ -201,7 +201,7 @@ pub set_above : (b : Numbers) (s : List Holding) (a a' : Numbers) (n : ℤ) (o :
 set_above b s a a' n o apart l set = lifted (λ m x y. y ≡ cond (is_at (int_cmp n) m) o x) b s a b s a' apart (apart_above b s a a' n apart l (set_keeps a n o a' set))
     (λ m low. unset n m o (number_at b m) (λ e. omega (arith, ints, e, l, low))) (λ k less. unset n (pos k) o (slice_get s k) (λ e. omega (arith, ints, e, l, less))) (λ m high. set m)
 
--- a test of places is one of numbers
+-- comparing places is comparing their numbers
 pub place_test : (j k : ℕ) → (k == j) ≡ is_at (int_cmp (pos j)) (pos k)
 place_test j k = elim (k == j) as (λ b. (k == j) ≡ b → b ≡ is_at (int_cmp (pos j)) (pos k)) [
   | true ↦ λ e. let same : j ≡ k = grind (arith, nat_tests) in sym (own_number (pos j)) ∙ ap (λ (m : ℕ). is_at (int_cmp (pos j)) (pos m)) same
@@ -220,7 +220,7 @@ nothing_there : (o : Option Holding) → is_some o ≡ false → o ≡ None
 nothing_there None h = refl
 nothing_there (Some x) h = cc
 
--- nothing is there if there is nothing new
+-- nothing is there if nothing was there and nothing is new
 pub gone_from : (new old : Option Holding) → (IsSome new → IsSome old) → old ≡ None → new ≡ None
 gone_from None old h none = refl
 gone_from (Some x) old h none = absurd (true≢false (sym (h refl) ∙ ap is_some none))
@@ -234,22 +234,22 @@ unfolding has
 has_key [] n = refl
 has_key (e ∷ ns) n = elim (is_at (int_cmp n) e.0) as (λ b. is_some (cond b (Some e.1) (number_at ns n)) ≡ (b || has n (keys_of ns))) [ true ↦ refl | false ↦ has_key ns n ]
 
--- what has the same keys has no number more
+-- numbers with the same keys have no new number
 pub keyless : (ns ms : Numbers) → keys_of ms ≡ keys_of ns → (n : ℤ) → number_at ns n ≡ None → number_at ms n ≡ None
 keyless ns ms keys n none = nothing_there (number_at ms n) (has_key ms n ∙ ap (has n) keys ∙ sym (has_key ns n) ∙ ap is_some none)
 
--- what is set is put
+-- a number that is set is put
 pub set_put : (ns : Numbers) (n : ℤ) (o : Option Holding) (ms : Numbers) → IsSetAt ns n o ms → IsNumberPut ns n o ms
 set_put ns n o ms set m = like_same _ _ (sym (set m))
 
--- a holder is put into the list
+-- putting a holding into the list
 pub put_small : (b : Numbers) (s : List Holding) (a : Numbers) (s' : List Holding) (j : ℕ) (x : Holding) → AreApart b s a → j < 2048 → length s' ≤ 2048 → IsPlacePut s j x s' → IsNumberPut (numbers_in b s a) (pos j) (Some x) (numbers_in b s' a)
 put_small b s a s' j x apart l few put = lifted (λ m y z. AreLike (cond (is_at (int_cmp (pos j)) m) (Some x) y) z) b s a b s' a apart (apart_small b s a s' apart few)
     (λ m low. like_same _ _ (sym (unset (pos j) m (Some x) (number_at b m) (λ e. omega (arith, ints, e, low)))))
     (λ k less. subst (λ t. AreLike (cond t (Some x) (slice_get s k)) (slice_get s' k)) (place_test j k) (put k))
     (λ m high. like_same _ _ (sym (unset (pos j) m (Some x) (number_at a m) (λ e. omega (arith, ints, e, l, high)))))
 
--- lists that are alike
+-- replacing the list by one that is alike
 pub like_small : (b : Numbers) (s : List Holding) (a : Numbers) (s' : List Holding) → AreApart b s a → length s' ≤ 2048 → ArePlacesLike s s' → AreNumbersLike (numbers_in b s a) (numbers_in b s' a)
 like_small b s a s' apart few like = lifted (λ m y z. AreLike y z) b s a b s' a apart (apart_small b s a s' apart few)
     (λ m low. like_same (number_at b m) (number_at b m) refl) (λ k less. like k) (λ m high. like_same (number_at a m) (number_at a m) refl)
@@ -276,12 +276,12 @@ within_some [] i h = absurd (true≢false (sym h))
 within_some (x ∷ xs) zero h = omega arith
 within_some (x ∷ xs) (suc i) h = let less = within_some xs i h in omega (arith, less)
 
--- what `get_mut` of a list finds
+-- the item that `get_mut` of a list finds
 pub item_mut : {X : Type 0} (r : Option (MutBor X)) (xs : List X) (i : ℕ) → MatchOption r (length xs ≤ i) (λ x. (i < length xs) × HoldsAt (λ y. x.now ≡ y) xs i) → IfSome r (λ x. x.now ≡ get_or xs i x.now) → option_copied_mut r ≡ slice_get xs i
 item_mut None xs i past is = sym (get_past xs i past)
 item_mut (Some x) xs i within is = sym (get_within xs i x.now within.0 is)
 
--- a place of a list that grew
+-- setting a place of a list that grew
 pub put_place : (old grown : List Holding) (j : ℕ) (x : Holding) → ArePlacesLike old grown → j < length grown → IsPlacePut old j x (slice_set grown j x)
 put_place old grown j x like l k = subst (AreLike (cond (k == j) (Some x) (slice_get old k))) (sym (get_set grown j k x l))
     (elim (k == j) as (λ b. AreLike (cond b (Some x) (slice_get old k)) (cond b (Some x) (slice_get grown k))) [ true ↦ like_same (Some x) (Some x) refl | false ↦ like k ])

@@ -85,7 +85,7 @@ numbered_in b s a = numbered_append b (placed 0 s ++ a) ∙ ap (λ es. numbered 
 abbrev Lines : Type 0
 Lines = List (Option Key × ℤ × ℤ)
 
--- the lines that are made of each part in turn are those of all
+-- the lines that are made for each part in turn are the lines of all numbers
 pub number_lines_in : (zero one two three : Lines) (b : Numbers) (s : List Holding) (a : Numbers) → one ≡ zero ++ lines_of (numbered b) → two ≡ one ++ lines_of (numbered (placed 0 s)) → three ≡ two ++ lines_of (numbered a)
     → three ≡ zero ++ lines_of (numbered (numbers_in b s a))
 number_lines_in none one two three b s a first second third =
@@ -102,11 +102,11 @@ all_append : {X : Type 0} (P : X → Type 0) (xs ys : List X) → AllByRecursion
 all_append P [] ys h k = k
 all_append P (x ∷ xs) ys h k = (h.0, all_append P xs ys h.1 k)
 
--- all are topped if those of each part are
+-- all entries are topped if the entries of each part are
 pub numbers_topped : (b : Numbers) (s : List Holding) (a : Numbers) → AllByRecursion IsTopped (numbered b) → AllByRecursion IsTopped (numbered (placed 0 s)) → AllByRecursion IsTopped (numbered a) → AllByRecursion IsTopped (numbered (numbers_in b s a))
 numbers_topped b s a h k l = subst (AllByRecursion IsTopped) (sym (numbered_in b s a)) (all_append IsTopped (numbered b) (numbered (placed 0 s) ++ numbered a) h (all_append IsTopped (numbered (placed 0 s)) (numbered a) k l))
 
--- the numbers from one place on are that of the place and those from the next place on
+-- the numbers from one place on are the number of that place and the numbers from the next place on
 pub placed_step : (hs : List Holding) (k : ℕ) (h : Holding) → k < length hs → h ≡ get_or hs k h → numbered (placed k (drop k hs)) ≡ (Some (Int (pos k)), h) ∷ numbered (placed (k + 1) (drop (k + 1) hs))
 placed_step hs k h l is =
     let next : suc k ≡ k + 1 = omega arith in
@@ -116,7 +116,7 @@ placed_step hs k h l is =
       drop_step (y ∷ xs) zero x l e = ap (λ z. z ∷ xs) (sym e)
       drop_step (y ∷ xs) (suc j) x l e = drop_step xs j x (omega arith) e
 
--- and there are none from the last place on
+-- there are no numbers after the last place
 pub placed_end : (hs : List Holding) (k : ℕ) → length hs ≤ k → numbered (placed k (drop k hs)) ≡ []
 placed_end hs k l = ap (λ ts. numbered (placed k ts)) (drop_end hs k l) where
   drop_end : (xs : List Holding) (j : ℕ) → length xs ≤ j → drop j xs ≡ []

@@ -1,4 +1,4 @@
--- Runs one after another: what one of them changes.
+-- Runs that follow one another, and how all of them change with one of them.
 use Rattle.std.proofs.Common.{◌≡◌, ℕ, zero, suc, ◌<◌, ◌≤◌, ◌+◌, ◌==◌, true, false, cond, [], ◌∷◌, ◌++◌, List, refl, sym, ap, ◌∙◌, arith, Option, None, Some, subst, length, get_or, set, drop}
 use Rattle.std.specs.Prelude.{ℤ}
 use Rattle.far_types.specs.Effects.{join_min_maxes, merge_two}
@@ -14,7 +14,7 @@ mm_at [] i = []
 mm_at (r ∷ rs) zero = r.min_maxes
 mm_at (r ∷ rs) (suc i) = mm_at rs i
 
--- runs from the first one on have nothing before it
+-- runs have no row groups before the bound of the first run
 pub whole_from : (low f : ℕ) (fs : List ℕ) (rs : List RunState) (q : ℕ) → RiseFrom low (f ∷ fs) → AreParts (f ∷ fs) rs → q < f → at (whole rs) q ≡ None
 whole_from low f fs [] q r p l = absurd p
 whole_from low f [] (r ∷ []) q up p l = at-append r.min_maxes [] q ∙ first_none (at r.min_maxes q) ∙ p.0 q l
@@ -30,7 +30,7 @@ none_before (f ∷ fs) rs q r p gap = whole_from 0 f fs rs q r p (gap.after 0 (o
 tail_part : (f : ℕ) (fs : List ℕ) (g i : ℕ) → IsPart (f ∷ fs) g (suc i) → IsPart fs g i
 tail_part f fs g i part = record { in_range = (let l = part.in_range in omega (arith, l)); from = part.from; below = λ l. (let h : g < get_or (f ∷ fs) (suc i + 1) 0 = part.below (omega (arith, l)) in subst (λ n. g < get_or (f ∷ fs) n 0) {x = suc i + 1} {y = suc (i + 1)} (omega arith) h) }
 
--- what stands at a row group stands in its run
+-- the min-max of a row group is the one in its run
 pub at_part : (low : ℕ) (fs : List ℕ) (rs : List RunState) (g i : ℕ) (d : RunState) → RiseFrom low fs → AreParts fs rs → IsPart fs g i → at (whole rs) g ≡ at (get_or rs i d).min_maxes g
 at_part low [] rs g i d up p part = absurd (let l = part.in_range in omega (arith, l))
 at_part low (f ∷ fs) [] g i d up p part = absurd p
@@ -65,7 +65,7 @@ parts_length [] (r ∷ rs) p = absurd p
 parts_length (f ∷ fs) [] p = absurd p
 parts_length (f ∷ fs) (r ∷ rs) p = (let e = parts_length fs rs p.2 in omega (arith, e))
 
--- one run changes at a row group of its own
+-- changing one run at a row group of its own
 pub set_part : (low : ℕ) (fs : List ℕ) (rs : List RunState) (g i : ℕ) (o : Option (ℤ × ℤ)) (d r' : RunState) → RiseFrom low fs → AreParts fs rs → IsPart fs g i → IsSet (get_or rs i d).min_maxes g o r'.min_maxes
     → AreParts fs (set rs i r') × IsSet (whole rs) g o (whole (set rs i r'))
 set_part low [] rs g i o d r' up p part put = absurd (let l = part.in_range in omega (arith, l))
@@ -106,7 +106,7 @@ set_part low (f ∷ h ∷ fs) (r ∷ rs) g (suc i) o d r' up p part put =
         | false ↦ λ e. refl
       ] refl
 
--- all runs from one on, joined
+-- the joined min-max of all runs from one on
 pub top_parts : (low : ℕ) (fs : List ℕ) (rs : List RunState) (i : ℕ) (d : RunState) (a t : Option (ℤ × ℤ)) → RiseFrom low fs → AreParts fs rs → i < length rs → IsTopOf (get_or rs i d).min_maxes a → IsTopOf (whole (drop (suc i) rs)) t → IsTopOf (whole (drop i rs)) (merge_two join_min_maxes a t)
 top_parts low fs [] i d a t up p l ta tt' = absurd (omega arith)
 top_parts low [] (r ∷ rs) i d a t up p l ta tt' = absurd p
@@ -115,7 +115,7 @@ top_parts low (f ∷ []) (r ∷ s ∷ rs) zero d a t up p l ta tt' = absurd p.2
 top_parts low (f ∷ h ∷ fs) (r ∷ rs) zero d a t up p l ta tt' = top-both h r.min_maxes (whole rs) a t p.1 (λ q m. whole_from (f + 1) h fs rs q up.1 p.2 m) ta tt'
 top_parts low (f ∷ fs) (r ∷ rs) (suc i) d a t up p l ta tt' = top_parts (f + 1) fs rs i d a t up.1 p.2 (omega (arith, l)) ta tt'
 
--- a loop that joins all runs
+-- whether a loop that joins all runs has joined the runs before this index
 abbrev pub JoinsFrom : List RunState → ℕ → Option (ℤ × ℤ) → Type 0
 JoinsFrom rs i top = (t : Option (ℤ × ℤ)) → IsTopOf (whole (drop i rs)) t → IsTopOf (whole rs) (merge_two join_min_maxes top t)
 
@@ -141,7 +141,7 @@ no_parts [] [] e h = ((tt, tt, none_joined), refl)
 no_parts [] (x ∷ xs) e h = cc
 no_parts (g ∷ gs) xs e h = cc
 
--- a run that changes at a row group of its own, and all joined again
+-- changing one run at a row group of its own, and joining all runs again
 pub part_changed : (fs : List ℕ) (rs rs' : List RunState) (g i : ℕ) (o : Option (ℤ × ℤ)) (r r' : RunState) → RiseFrom 0 fs → AreParts fs rs → IsPart fs g i → r ≡ get_or rs i r → IsSet r.min_maxes g o r'.min_maxes → rs' ≡ set rs i r'
     → AreParts fs rs' × IsSet (whole rs) g o (whole rs')
 part_changed fs rs rs' g i o r r' up p part is put e =
@@ -151,14 +151,14 @@ part_changed fs rs rs' g i o r r' up p part is put e =
 pub part_in_range : (fs : List ℕ) (rs : List RunState) (g i : ℕ) → AreParts fs rs → IsPart fs g i → i < length rs
 part_in_range fs rs g i p part = (let l = part.in_range in let e = parts_length fs rs p in omega (arith, l, e))
 
--- a row group that stands somewhere stands in its run
+-- a row group in which a key occurs is in its run
 pub part_there : (fs : List ℕ) (rs : List RunState) (g i : ℕ) (r : RunState) → RiseFrom 0 fs → AreParts fs rs → IsPart fs g i → r ≡ get_or rs i r → at (whole rs) g ≡ at r.min_maxes g
 part_there fs rs g i r up p part is = at_part 0 fs rs g i r up p part ∙ ap (λ (s : RunState). at s.min_maxes g) (sym is)
 
 from-both : (n : ℕ) (xs ys : MinMaxes) → IsFrom n (xs ++ ys) → IsFrom n xs × IsFrom n ys
 from-both n xs ys h = (λ q l. (both_none _ _ (sym (at-append xs ys q) ∙ h q l)).0, λ q l. (both_none _ _ (sym (at-append xs ys q) ∙ h q l)).1)
 
--- a run is cut in two
+-- cutting a run in two
 pub parts_cut : (low : ℕ) (fs : List ℕ) (rs : List RunState) (i f group : ℕ) (d r' late : RunState) → RiseFrom low fs → AreParts fs rs → IsPart fs group i → IsCut group (get_or rs i d).min_maxes r'.min_maxes (Some (f, late))
     → (RiseFrom low (insert fs (suc i) f) × AreParts (insert fs (suc i) f) (insert (set rs i r') (suc i) late)) × (whole (insert (set rs i r') (suc i) late) ≡ whole rs)
 parts_cut low [] rs i f group d r' late up p part cut = absurd (let l = part.in_range in omega (arith, l))
@@ -190,7 +190,7 @@ cut_in fs fs' rs rs' i f group r r' late up p part is cut e h =
 pub room_length : (fs : List ℕ) (rs rs' : List RunState) (i : ℕ) (r' : RunState) → AreParts fs rs → rs' ≡ set rs i r' → length rs' ≡ length fs
 room_length fs rs rs' i r' p e = ap length e ∙ length-set rs i r' ∙ parts_length fs rs p
 
--- each list of min-maxes has a joined one, and no two
+-- each list of min-maxes has exactly one joined min-max
 the_top : MinMaxes → Option (ℤ × ℤ)
 the_top mm = joined_to (bounded mm).0 (at mm)
 
@@ -207,7 +207,7 @@ tail_rise low f fs up = up.1
 joined_two : (low f : ℕ) (fs : List ℕ) (r : RunState) (rs : List RunState) (a b : Option (ℤ × ℤ)) → RiseFrom low (f ∷ fs) → AreParts (f ∷ fs) (r ∷ rs) → IsTopOf r.min_maxes a → IsTopOf (whole rs) b → IsTopOf (whole (r ∷ rs)) (merge_two join_min_maxes a b)
 joined_two low f fs r rs a b up p ta tb = top_parts low (f ∷ fs) (r ∷ rs) 0 r a b up p (omega arith) ta tb
 
--- a run changes, and what it joins to does not
+-- a run changes, but its joined min-max does not
 pub same_top : (low : ℕ) (fs : List ℕ) (rs : List RunState) (i : ℕ) (d r' : RunState) (a t : Option (ℤ × ℤ)) → RiseFrom low fs → AreParts fs rs → AreParts fs (set rs i r') → i < length rs → IsTopOf (get_or rs i d).min_maxes a → IsTopOf r'.min_maxes a → IsTopOf (whole rs) t → IsTopOf (whole (set rs i r')) t
 same_top low fs [] i d r' a t up p p' l ta ta' tt' = absurd (omega arith)
 same_top low [] (r ∷ rs) i d r' a t up p p' l ta ta' tt' = absurd p
@@ -254,7 +254,7 @@ pub no_gap : (fs : List ℕ) (g : ℕ) → IsReached fs g → IsGap fs g 0 → �
 no_gap [] g r gap = r
 no_gap (f ∷ fs) g r gap = (let h : g < f = gap.after 0 (omega arith) (omega arith) in let l : f ≤ g = r in omega (arith, h, l))
 
--- a run without row groups goes
+-- removing a run without row groups
 pub parts_gone : (low : ℕ) (fs : List ℕ) (rs : List RunState) (i : ℕ) (d : RunState) → RiseFrom low fs → AreParts fs rs → i < length rs → (get_or rs i d).min_maxes ≡ [] → AreParts (remove fs i) (remove rs i) × (whole (remove rs i) ≡ whole rs)
 parts_gone low fs [] i d up p l none = absurd (omega arith)
 parts_gone low [] (r ∷ rs) i d up p l none = absurd p

@@ -1,4 +1,4 @@
--- How row groups in order change, and their joined min-max.
+-- How the row groups of a run change, and their joined min-max.
 use Rattle.std.proofs.Common.{◌≡◌, ℕ, zero, suc, ◌<◌, ◌≤◌, ◌+◌, ◌==◌, true, false, cond, [], ◌∷◌, List, refl, sym, ap, ◌∙◌, arith, Option, None, Some, inl, inr, subst, length, get_or, set, take, drop, ◌++◌, ◌-◌, length-drop, Result, Ok, Err, IfOk, IfErr}
 use Rattle.std.specs.Prelude.{ℤ, pos, is_ok, is_err, ◌≤ℤ◌, ◌<ℤ◌}
 use Rattle.std.specs.Int.{int_min, int_max}
@@ -17,7 +17,7 @@ use Rattle.far_extrema.specs.Spreads.{MinMaxes, at, IsBelow, IsTopOf, IsSet, joi
 use Rattle.far_extrema.specs.Runs.{RunState, paired, RiseFrom, AreInOrder, IsAt, IsGap, IsKept, IsCut, joined_values}
 use Rattle.far_extrema.proofs.SpreadsLaws.{swap, regroup, off, here, order, set_other, set_here, held-from, held-below}
 
--- row groups that rise are not before the first
+-- ascending row groups are not before their lower bound
 pub floor : (low : ℕ) (gs : List ℕ) (i : ℕ) → RiseFrom low gs → i < length gs → low ≤ get_or gs i 0
 floor low [] i r l = absurd (omega arith)
 floor low (g ∷ gs) zero r l = r.0
@@ -34,7 +34,7 @@ pub lower : (low less : ℕ) (gs : List ℕ) → less ≤ low → RiseFrom low g
 lower low less [] l r = tt
 lower low less (g ∷ gs) l r = (omega (arith, l, r.0), r.1)
 
--- none stands where no row group is
+-- a row group that is not in the list has no min-max
 pub absent : (gs : List ℕ) (xs : List (ℤ × ℤ)) (q : ℕ) → ((k : ℕ) → k < length gs → get_or gs k 0 ≡ q → ⊥) → at (paired gs xs) q ≡ None
 absent [] xs q h = refl
 absent (g ∷ gs) [] q h = refl
@@ -43,7 +43,7 @@ absent (g ∷ gs) (x ∷ xs) q h = ap (λ b. cond b (Some x) (at (paired gs xs) 
 absent_below : (low : ℕ) (gs : List ℕ) (xs : List (ℤ × ℤ)) (q : ℕ) → RiseFrom low gs → q < low → at (paired gs xs) q ≡ None
 absent_below low gs xs q r l = absent gs xs q (λ k m e. let h = floor low gs k r m in omega (arith, h, e, l))
 
--- what stands at a place
+-- the min-max at an index
 pub found : (low : ℕ) (gs : List ℕ) (xs : List (ℤ × ℤ)) (i q : ℕ) (d : ℤ × ℤ) → RiseFrom low gs → length xs ≡ length gs → i < length gs → get_or gs i 0 ≡ q → at (paired gs xs) q ≡ Some (get_or xs i d)
 found low [] xs i q d r n l e = absurd (omega arith)
 found low (g ∷ gs) [] i q d r n l e = absurd (omega arith)
@@ -53,7 +53,7 @@ found low (g ∷ gs) (x ∷ xs) (suc i) q d r n l e =
     ap (λ b. cond b (Some x) (at (paired gs xs) q)) (off q g (λ s. omega (arith, s, e, above)))
     ∙ found (g + 1) gs xs i q d r.1 (omega arith) (omega arith) e
 
--- of two row groups, which is asked first does not matter
+-- the order of two tests for different row groups does not matter
 either_first : (q g h : ℕ) (x y o : Option (ℤ × ℤ)) → (g ≡ h → ⊥) → cond (q == g) x (cond (q == h) y o) ≡ cond (q == h) y (cond (q == g) x o)
 either_first q g h x y o n = elim (q == g) as (λ b. (q == g) ≡ b → cond b x (cond (q == h) y o) ≡ cond (q == h) y (cond b x o)) [
   | true ↦ λ e. sym (ap (λ b. cond b y x) (off q h (λ s. n (sym (here q g e) ∙ s))))
@@ -63,7 +63,7 @@ either_first q g h x y o n = elim (q == g) as (λ b. (q == g) ≡ b → cond b x
 twice : (q g : ℕ) (x y o : Option (ℤ × ℤ)) → cond (q == g) x o ≡ cond (q == g) x (cond (q == g) y o)
 twice q g x y o = elim (q == g) as (λ b. cond b x o ≡ cond b x (cond b y o)) [ true ↦ refl | false ↦ refl ]
 
--- a min-max is written
+-- setting a min-max
 pub set_at : (low : ℕ) (gs : List ℕ) (xs : List (ℤ × ℤ)) (i g : ℕ) (x : ℤ × ℤ) → RiseFrom low gs → length xs ≡ length gs → i < length gs → get_or gs i 0 ≡ g → IsSet (paired gs xs) g (Some x) (paired gs (set xs i x))
 set_at low [] xs i g x r n l e q = absurd (omega arith)
 set_at low (h ∷ gs) [] i g x r n l e q = absurd (omega arith)
@@ -74,7 +74,7 @@ set_at low (h ∷ gs) (y ∷ xs) (suc i) g x r n l e q =
     ap (cond (q == h) (Some y)) (set_at (h + 1) gs xs i g x r.1 (omega arith) (omega arith) e q)
     ∙ either_first q h g (Some y) (Some x) (at (paired gs xs) q) (λ s. omega (arith, s, e, above))
 
--- a row group is inserted
+-- inserting a row group
 pub set_insert : (gs : List ℕ) (xs : List (ℤ × ℤ)) (i g : ℕ) (x : ℤ × ℤ) → length xs ≡ length gs → i ≤ length gs → ((k : ℕ) → k < i → get_or gs k 0 < g) → IsSet (paired gs xs) g (Some x) (paired (insert gs i g) (insert xs i x))
 set_insert gs xs zero g x n l h q = refl
 set_insert [] xs (suc i) g x n l h q = absurd (omega arith)
@@ -84,7 +84,7 @@ set_insert (k ∷ gs) (y ∷ xs) (suc i) g x n l h q =
     ap (cond (q == k) (Some y)) (set_insert gs xs i g x (omega arith) (omega arith) (λ m s. h (suc m) (omega arith)) q)
     ∙ either_first q k g (Some y) (Some x) (at (paired gs xs) q) (λ s. omega (arith, s, less))
 
--- a row group is removed
+-- removing a row group
 pub set_remove : (low : ℕ) (gs : List ℕ) (xs : List (ℤ × ℤ)) (i g : ℕ) → RiseFrom low gs → length xs ≡ length gs → i < length gs → get_or gs i 0 ≡ g → IsSet (paired gs xs) g None (paired (remove gs i) (remove xs i))
 set_remove low [] xs i g r n l e q = absurd (omega arith)
 set_remove low (h ∷ gs) [] i g r n l e q = absurd (omega arith)
@@ -100,7 +100,7 @@ set_remove low (h ∷ gs) (y ∷ xs) (suc i) g r n l e q =
     ap (cond (q == h) (Some y)) (set_remove (h + 1) gs xs i g r.1 (omega arith) (omega arith) e q)
     ∙ either_first q h g (Some y) None (at (paired gs xs) q) (λ s. omega (arith, s, e, above))
 
--- row groups still rise
+-- row groups still ascend
 pub rise_insert : (low : ℕ) (gs : List ℕ) (i g : ℕ) → RiseFrom low gs → low ≤ g → i ≤ length gs → ((k : ℕ) → k < i → get_or gs k 0 < g) → ((k : ℕ) → i ≤ k → k < length gs → g < get_or gs k 0) → RiseFrom low (insert gs i g)
 rise_insert low [] zero g r l m b a = (l, tt)
 rise_insert low (h ∷ gs) zero g r l m b a = let above : g < h = a 0 (omega arith) (omega arith) in (l, (omega (arith, above), r.1))
@@ -114,7 +114,7 @@ rise_remove low [] i r l = absurd (omega arith)
 rise_remove low (h ∷ gs) zero r l = lower (h + 1) low gs (omega (arith, r.0)) r.1
 rise_remove low (h ∷ gs) (suc i) r l = (r.0, rise_remove (h + 1) gs i r.1 (omega arith))
 
--- a binary search finds the place
+-- a binary search finds the index
 pub searched : (gs : List ℕ) (g : ℕ) (r : Result ℕ ℕ) → RiseFrom 0 gs → IsSearchInRange r (length gs) → IsBinarySearchResult (λ y. nat_cmp y g) gs r → (IfOk r (IsAt gs g)) × (IfErr r (IsGap gs g))
 searched gs g (Ok i) r in_range equal = (record { in_range = in_range; is = ranked _ g _ (sym (equal 0)) }, tt)
 searched gs g (Err i) r in_range parted = (
@@ -130,7 +130,7 @@ searched gs g (Err i) r in_range parted = (
       let rise : get_or gs i 0 ≤ get_or gs j 0 = rises 0 gs i j r le l in
       grind (arith, nat_tests))
 
--- all before the end are lower than one that is higher than the last
+-- all row groups are lower than one that is higher than the last
 pub gap_at_end : (gs : List ℕ) (g : ℕ) → RiseFrom 0 gs → ((k : ℕ) → k + 1 ≡ length gs → get_or gs k 0 < g) → IsGap gs g (length gs)
 gap_at_end gs g r h = record { in_range = omega arith; before = below gs h r; after = λ k l m. absurd (omega (arith, l, m)) } where
   below : (gs : List ℕ) → ((k : ℕ) → k + 1 ≡ length gs → get_or gs k 0 < g) → RiseFrom 0 gs → (k : ℕ) → k < length gs → get_or gs k 0 < g
@@ -146,7 +146,7 @@ gap_absent gs xs g i gap = absent gs xs g (λ k l e. elim (order k i) [
   | inr m ↦ let h = gap.after k m l in omega (arith, h, e)
 ])
 
--- where one row group changes, so does what all join to
+-- how the joined min-max changes with one row group
 same_below : (f f' : ℕ → Option (ℤ × ℤ)) (g n : ℕ) → ((q : ℕ) → (q ≡ g → ⊥) → f' q ≡ f q) → n ≤ g → joined_to n f' ≡ joined_to n f
 same_below f f' g zero same l = refl
 same_below f f' g (suc n) same l = λ i. merge_two join_min_maxes (same_below f f' g n same (omega arith) i) (same n (λ e. omega (arith, e, l)) i)
@@ -169,7 +169,7 @@ pub merge_none : (o : Option (ℤ × ℤ)) → merge_two join_min_maxes o None �
 merge_none None = refl
 merge_none (Some x) = refl
 
--- past all of them nothing is joined
+-- past the last row group, the joined min-max stays
 pub joined_past : (xs : MinMaxes) (n m : ℕ) → IsBelow n xs → n ≤ m → joined_to m (at xs) ≡ joined_to n (at xs)
 joined_past xs n zero h l = let e : 0 ≡ n = omega arith in ap (λ k. joined_to k (at xs)) e
 joined_past xs n (suc m) h l = elim (order m n) [
@@ -177,7 +177,7 @@ joined_past xs n (suc m) h l = elim (order m n) [
   | inr k ↦ (λ i. merge_two join_min_maxes (joined_past xs n m h k i) (h m k i)) ∙ merge_none (joined_to n (at xs))
 ]
 
--- a row group more
+-- adding a row group
 pub top_added : (xs xs' : MinMaxes) (g : ℕ) (x : ℤ × ℤ) (top : Option (ℤ × ℤ)) → at xs g ≡ None → IsSet xs g (Some x) xs' → IsTopOf xs top → IsTopOf xs' (merge_two join_min_maxes top (Some x))
 top_added xs xs' g x top none set t n w =
     joined_more (at xs) (at xs') g n (Some x) (λ q d. set_other xs xs' g (Some x) q set d) (set_here xs xs' g (Some x) g set refl ∙ sym (ap (λ o. merge_two join_min_maxes o (Some x)) none)) within
@@ -191,7 +191,7 @@ top_added xs xs' g x top none set t n w =
       below : IsBelow n xs
       below q l = sym (set_other xs xs' g (Some x) q set (λ e. omega (arith, e, l, within))) ∙ w q l
 
--- a row group is replaced or removed, and all others need not be joined anew
+-- replacing or removing a row group without joining all others anew
 pub top_kept : (xs xs' : MinMaxes) (g : ℕ) (y : ℤ × ℤ) (o top : Option (ℤ × ℤ)) → at xs g ≡ Some y → IsSet xs g o xs' → IsTopOf xs top → IsKept top y o → IsTopOf xs' (merge_two join_min_maxes top o)
 top_kept xs xs' g y o top there set t kept n w =
     sym (joined_past xs' n (g + 1 + n) w (omega arith))
@@ -213,7 +213,7 @@ pub none_joined : IsTopOf [] None
 none_joined zero w = refl
 none_joined (suc m) w = ap (λ o. merge_two join_min_maxes o None) (none_joined m (λ q l. refl))
 
--- all of them joined
+-- the joined min-max of all row groups
 pub top_joined : (low : ℕ) (gs : List ℕ) (xs : List (ℤ × ℤ)) → RiseFrom low gs → length xs ≡ length gs → IsTopOf (paired gs xs) (joined_values xs)
 top_joined low [] [] r n = none_joined
 top_joined low [] (x ∷ xs) r n = absurd (omega arith)
@@ -227,7 +227,7 @@ min_of x y l = omega (arith, ints, int_min_is y x, l)
 max_of : (x y : ℤ) → y ≤ℤ x → int_max y x ≡ x
 max_of x y l = omega (arith, ints, int_max_is y x, l)
 
--- what comes in place covers what stood there
+-- the new min-max covers the previous one
 pub kept_covered : (top : Option (ℤ × ℤ)) (y z : ℤ × ℤ) → z.0 ≤ℤ y.0 → y.1 ≤ℤ z.1 → IsKept top y (Some z)
 kept_covered top y z l m rest e =
     let same : merge_two join_min_maxes (Some y) (Some z) ≡ Some z = λ i. Some (min_of z.0 y.0 l i, max_of z.1 y.1 m i) in
@@ -243,7 +243,7 @@ abbrev the_some : Option (ℤ × ℤ) → ℤ × ℤ → ℤ × ℤ
 the_some None d = d
 the_some (Some x) d = x
 
--- what stood there was strictly within
+-- the previous min-max was strictly within
 pub kept_inside : (t y : ℤ × ℤ) (o : Option (ℤ × ℤ)) → t.0 <ℤ y.0 → y.1 <ℤ t.1 → IsKept (Some t) y o
 kept_inside t y o l m None e =
     let same : y.0 ≡ t.0 = ap (λ p. (the_some p t).0) e in
@@ -277,7 +277,7 @@ joined_all_values xs i top e h =
       none_left [] = refl
       none_left (x ∷ xs) = none_left xs
 
--- what an edit at a place does
+-- the result of an edit at an index
 pub not_new : (gs : List ℕ) (xs : List (ℤ × ℤ)) (g i : ℕ) → AreInOrder gs xs → IsAt gs g i → at (paired gs xs) g ≡ None → ⊥
 not_new gs xs g i inside place none =
     let some = found 0 gs xs i g (of_z_pair) inside.0 inside.1 place.in_range place.is in
@@ -316,7 +316,7 @@ pub taken : {T E A : Type 0} (r : Result T E) (xs ys zs : List A) → is_err r �
 taken (Ok t) xs ys zs e h = h
 taken (Err t) xs ys zs e h = let bad : true ≡ false = e in cc
 
--- a row group more, in order
+-- adding a row group, in order
 pub top_inserted : (old : MinMaxes) (gs : List ℕ) (xs : List (ℤ × ℤ)) (g : ℕ) (x : ℤ × ℤ) (top top' : Option (ℤ × ℤ)) → at old g ≡ None → IsSet old g (Some x) (paired gs xs) → IsTopOf old top → top' ≡ merge_two join_min_maxes top (Some x) → IsTopOf (paired gs xs) top'
 top_inserted old gs xs g x top top' none set t is = subst (IsTopOf (paired gs xs)) (sym is) (top_added old (paired gs xs) g x top none set t)
 
@@ -330,7 +330,7 @@ removed_as gs gs' xs xs' g i inside place e h =
     subst (λ ys. AreInOrder ys xs' × IsSet (paired gs xs) g None (paired ys xs')) (sym e)
     (subst (λ ys. AreInOrder (remove gs i) ys × IsSet (paired gs xs) g None (paired (remove gs i) ys)) (sym h) (removed gs xs g i inside place))
 
--- row groups and their min-maxes, cut in two
+-- cutting row groups and their min-maxes in two
 paired-cut : (gs : List ℕ) (xs : List (ℤ × ℤ)) (n : ℕ) → length xs ≡ length gs → paired gs xs ≡ paired (take n gs) (take n xs) ++ paired (drop n gs) (drop n xs)
 paired-cut gs xs zero e = refl
 paired-cut [] xs (suc n) e = refl
@@ -402,7 +402,7 @@ cut_whole gs xs early late early_xs late_xs n first group top inside z l e1 e2 l
       (λ k below less. (let h = held-below k (paired gs xs) (get_or gs n 0) below (there gs xs n inside l) in omega (arith, h, is))),
     )
 
--- the rest of a list, as a slice of it gives it
+-- the rest of a list is a slice of it
 pub rest_of : {A : Type 0} (xs ds ys : List A) (n : ℕ) → ds ≡ xs → ys ≡ take (length ds - n) (drop n ds) → ys ≡ drop n xs
 rest_of xs ds ys n same is = is ∙ ap (λ k. take k (drop n ds)) (sym (length-drop n ds)) ∙ take-length (drop n ds) ∙ ap (drop n) same
 
@@ -413,7 +413,7 @@ first_of_rest gs ys n f rest is l = is ∙ ap (λ zs. get_or zs 0 f) rest ∙ at
   at_start (g ∷ gs) zero f l = refl
   at_start (g ∷ gs) (suc n) f l = at_start gs n f (omega (arith, l))
 
--- a row group after all is added to a part of its own
+-- a row group after all others is added to a part of its own
 pub cut_at_end : (gs : List ℕ) (xs : List (ℤ × ℤ)) (n g : ℕ) (late : RunState) → AreInOrder gs xs → n + 1 ≡ length gs → get_or gs n 0 < g → late.min_maxes ≡ [] → IsCut g (paired gs xs) (paired gs xs) (Some (g, late))
 cut_at_end gs xs n g late inside e l none = (
   sym (ap (λ mm. paired gs xs ++ mm) none ∙ append-nil (paired gs xs)),

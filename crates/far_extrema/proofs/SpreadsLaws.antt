@@ -1,4 +1,4 @@
--- The min-maxes of the row groups of two parts, and their min-max together.
+-- The min-maxes of the row groups of two parts, and the joined min-max of both.
 use Rattle.std.proofs.Common.{◌≡◌, ℕ, zero, suc, ◌<◌, ◌≤◌, ◌+◌, ◌==◌, true, false, cond, [], ◌∷◌, ◌++◌, refl, sym, ap, ◌∙◌, arith, Option, None, Some, ◌⊎◌, inl, inr}
 use Rattle.std.specs.Prelude.{ℤ}
 use Rattle.std.specs.Int.{int_min, int_max}
@@ -37,14 +37,14 @@ regroup (Some s) None q = refl
 regroup (Some s) (Some t) None = refl
 regroup (Some s) (Some t) (Some u) = ap Some (join_regroup s t u)
 
--- of four, which two are joined first does not matter
+-- of four min-maxes that are joined, the middle two can be swapped
 pub exchange : (o p q r : Option (ℤ × ℤ)) → merge_two join_min_maxes (merge_two join_min_maxes o p) (merge_two join_min_maxes q r) ≡ merge_two join_min_maxes (merge_two join_min_maxes o q) (merge_two join_min_maxes p r)
 exchange o p q r =
     regroup o p (merge_two join_min_maxes q r)
     ∙ ap (merge_two join_min_maxes o) (sym (regroup p q r) ∙ ap (λ x. merge_two join_min_maxes x r) (swap p q) ∙ regroup q p r)
     ∙ sym (regroup o q (merge_two join_min_maxes p r))
 
--- the first of two that is there
+-- the first of two min-maxes, or the second one if there is no first
 abbrev pub first_of : Option (ℤ × ℤ) → Option (ℤ × ℤ) → Option (ℤ × ℤ)
 first_of None p = p
 first_of (Some s) p = Some s
@@ -61,11 +61,11 @@ pub first_none : (o : Option (ℤ × ℤ)) → first_of o None ≡ o
 first_none None = refl
 first_none (Some s) = refl
 
--- before the number where two parts meet stands what the first has
+-- before the number where two parts meet, lookups find the min-maxes of the first part
 pub at-before : (s : ℕ) (xs ys : MinMaxes) (q : ℕ) → IsFrom s ys → q < s → at (xs ++ ys) q ≡ at xs q
 at-before s xs ys q h l = at-append xs ys q ∙ ap (first_of (at xs q)) (h q l) ∙ first_none (at xs q)
 
--- and from it on what the second has
+-- from that number on, lookups find the min-maxes of the second part
 pub at-after : (s : ℕ) (xs ys : MinMaxes) (q : ℕ) → IsBelow s xs → s ≤ q → at (xs ++ ys) q ≡ at ys q
 at-after s xs ys q h l = at-append xs ys q ∙ ap (λ o. first_of o (at ys q)) (h q l)
 
@@ -81,7 +81,7 @@ order m zero = inr (omega arith)
 order zero (suc n) = inl (omega arith)
 order (suc m) (suc n) = elim (order m n) [ inl l ↦ inl (omega arith) | inr l ↦ inr (omega arith) ]
 
--- where two parts meet at a number, what stands at each number is what both have there together
+-- where two parts meet at a number, a lookup finds the min-maxes of both parts, joined
 at_both : (s : ℕ) (xs ys : MinMaxes) (q : ℕ) → IsBelow s xs → IsFrom s ys → at (xs ++ ys) q ≡ merge_two join_min_maxes (at xs q) (at ys q)
 at_both s xs ys q h k = at-append xs ys q ∙ disjoint (at xs q) (at ys q) either where
   disjoint : (o p : Option (ℤ × ℤ)) → (o ≡ None) ⊎ (p ≡ None) → first_of o p ≡ merge_two join_min_maxes o p
@@ -102,7 +102,7 @@ joined_both s xs ys h k (suc n) =
     (λ i. merge_two join_min_maxes (joined_both s xs ys h k n i) (at_both s xs ys n h k i))
     ∙ exchange (joined_to n (at xs)) (joined_to n (at ys)) (at xs n) (at ys n)
 
--- the min-max of both parts together
+-- the joined min-max of both parts
 pub top-both : (s : ℕ) (xs ys : MinMaxes) (a b : Option (ℤ × ℤ)) → IsBelow s xs → IsFrom s ys → IsTopOf xs a → IsTopOf ys b → IsTopOf (xs ++ ys) (merge_two join_min_maxes a b)
 top-both s xs ys a b h k t u n w =
     let both = below-both n xs ys w in
@@ -124,7 +124,7 @@ one_to g x (suc n) l = elim (n == g) as (λ b. (n == g) ≡ b → merge_two join
 some_none : (x : ℤ × ℤ) → Some x ≡ None → ⊥
 some_none x h = cc
 
--- one row group's min-max is that of all
+-- the joined min-max of one row group is its own min-max
 pub top-one : (g : ℕ) (x : ℤ × ℤ) → IsTopOf ((g, x) ∷ []) (Some x)
 top-one g x n w = one_to g x n (within n w) where
   own : (g == g) ≡ true
@@ -142,7 +142,7 @@ here q g e = grind (arith, nat_tests)
 pub off : (q g : ℕ) → (q ≡ g → ⊥) → (q == g) ≡ false
 off q g n = grind (arith, nat_tests)
 
--- what is not set there is as it was
+-- a row group that is not set is unchanged
 pub set_other : (xs xs' : MinMaxes) (g : ℕ) (o : Option (ℤ × ℤ)) (q : ℕ) → IsSet xs g o xs' → (q ≡ g → ⊥) → at xs' q ≡ at xs q
 set_other xs xs' g o q set n = set q ∙ ap (λ b. cond b o (at xs q)) (off q g n)
 
@@ -157,7 +157,7 @@ from-set low xs xs' g o h l set q k = set_other xs xs' g o q set (λ e. omega ar
 pub below-set : (high : ℕ) (xs xs' : MinMaxes) (g : ℕ) (o : Option (ℤ × ℤ)) → IsBelow high xs → g < high → IsSet xs g o xs' → IsBelow high xs'
 below-set high xs xs' g o h l set q k = set_other xs xs' g o q set (λ e. omega arith) ∙ h q k
 
--- a row group in which a key occurs is not before all
+-- a row group in which a key occurs is not before the first one
 pub held-from : (low : ℕ) (xs : MinMaxes) (g : ℕ) → IsFrom low xs → (at xs g ≡ None → ⊥) → low ≤ g
 held-from low xs g h held = elim (order g low) [ inl l ↦ absurd (held (h g l)) | inr l ↦ l ]
 
@@ -178,7 +178,7 @@ none_below f (suc n) h q l =
       | inr m ↦ let e : q ≡ n = omega arith in ap f e ∙ both.1
     ]
 
--- past some number there is none
+-- from some number on, there are no row groups
 pub bounded : (xs : MinMaxes) → (n : ℕ) × IsBelow n xs
 bounded [] = (0, λ q l. refl)
 bounded (x ∷ xs) =
@@ -187,7 +187,7 @@ bounded (x ∷ xs) =
       λ q l. ap (λ b. cond b (Some x.1) (at xs q)) (off q x.0 (λ e. omega arith)) ∙ rest.1 q (omega arith),
     )
 
--- if no min-max is joined there is none
+-- without a joined min-max there are no row groups
 pub vacant : (xs : MinMaxes) → IsTopOf xs None → (q : ℕ) → at xs q ≡ None
 vacant xs t q =
     let n = (bounded xs).0 in
@@ -203,18 +203,18 @@ without-before xs ys t q = sym (at-append xs ys q ∙ ap (λ o. first_of o (at y
 pub without-after : (xs ys : MinMaxes) → IsTopOf ys None → AreSame (xs ++ ys) xs
 without-after xs ys t q = sym (at-append xs ys q ∙ ap (first_of (at xs q)) (vacant ys t q) ∙ first_none (at xs q))
 
--- if the last row group went, none is left
+-- if no row group is left after a removal, the result is an empty list
 pub gone-last : (old new : MinMaxes) (g : ℕ) → IsSet old g None new → IsTopOf new None → IsSet old g None []
 gone-last old new g set t q = sym (vacant new t q) ∙ set q
 
--- what stands already is put again
+-- setting the min-max that is there already changes nothing
 pub put-again : (xs : MinMaxes) (g : ℕ) (x : ℤ × ℤ) → at xs g ≡ Some x → IsSet xs g (Some x) xs
 put-again xs g x there q = elim (q == g) as (λ b. (q == g) ≡ b → at xs q ≡ cond b (Some x) (at xs q)) [
   | true ↦ λ e. ap (at xs) (here q g e) ∙ there
   | false ↦ λ e. refl
 ] refl
 
--- a list of which nothing stands anywhere is empty
+-- a list without a joined min-max is empty
 pub empty_of : (xs : MinMaxes) → IsTopOf xs None → xs ≡ []
 empty_of [] t = refl
 empty_of (x ∷ xs) t =

@@ -1,4 +1,4 @@
--- How extrema change with one more min-max under a key.
+-- How extrema change when the min-max under a key changes.
 use Rattle.std.specs.Prelude.{ℤ, List, Option, None, Some}
 use Rattle.std.specs.Option.{option_map_or}
 use Rattle.std.specs.FinMap as fin
@@ -6,11 +6,11 @@ use Rattle.far_types.specs.declared.key.Key.{Key}
 use Rattle.far_types.specs.Answers.{Extrema}
 use Rattle.far_types.specs.Effects.{join_min_maxes}
 
--- the extrema of entries
+-- the extrema from entries
 abbrev pub extrema_of : List (Option Key × (ℤ × ℤ)) → Extrema
 extrema_of entries = fin.from_entries entries
 
--- extrema with one more min-max under a key
+-- extrema with a min-max joined to the one under a key
 abbrev pub with_min_max : Extrema → Option Key → ℤ × ℤ → Extrema
 with_min_max extrema key more = fin.insert extrema key
     (option_map_or (λ min_max. join_min_maxes min_max more) (fin.get extrema key) more)

@@ -4,7 +4,7 @@ use Rattle.std.specs.Prelude.{◌≡◌, ◌<◌, ℤ, pos, ◌<ℤ◌, ◌≤�
 use Rattle.far_extrema.specs.declared.numbers.Part.{Part}
 use Rattle.far_extrema.specs.declared.numbers.Part.TheVariants.{Below, At, Above}
 
--- a number is below 0, at this place of the list, or above the list
+-- whether a number is below 0, at this place of the list, or above the list
 abbrev pub IsPart : ℤ → Part → Type 0
 IsPart n Below = n <ℤ pos 0
 IsPart n (At place) = (n ≡ pos place) × (place < 2048)

@@ -24,7 +24,7 @@ pub fn get(dense: &Dense, place: usize) -> Option<&Holder>
     None
 }
 
-/// Extends a list to at least `len` places. The new ones are vacant. Refused with `NoMemory` (1) alone. Then some may be new.
+/// Extends a list to at least `len` places. The new places are vacant. Refused only with `NoMemory` (1). Then it may have some new places.
 fn grow(dense: &mut Dense, len: usize) -> Result<(), Refusal>
     requires { len ≤ 2048 }
     ensures same { ArePlacesLike dense.old.items dense.new.items }
@@ -38,7 +38,7 @@ fn grow(dense: &mut Dense, len: usize) -> Result<(), Refusal>
     Ok(())
 }
 
-/// Puts a holder at a place. Extends the list if the place is new. Refused with `NoMemory` (1) alone. Then no number occurs more or less.
+/// Puts a holder at a place. Extends the list if the place is new. Refused only with `NoMemory` (1). Then the same numbers occur as before.
 pub fn put(dense: &mut Dense, place: usize, holder: Holder) -> Result<(), Refusal>
     requires { place < 2048 }
     ensures ok { OnOk result (IsPlacePut dense.old.items place holder dense.new.items) }
@@ -74,7 +74,7 @@ pub fn count_of(dense: &Dense) -> usize
     count
 }
 
-/// Returns the key of a place's number.
+/// Returns the number of a place as a key.
 fn key_at(place: usize) -> Option<Key>
     requires { place < 2048 }
     ensures { result ≡ Some (Key.Int (pos place)) }

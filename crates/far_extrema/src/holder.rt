@@ -14,7 +14,7 @@ use std::marker::Model;
 
 /// The row groups in which a key occurs, and whether memory for one more of them is reserved. A key that is only reserved occurs in none.
 ///
-/// The last row group that was added stands beside the others. Its place is the reserved memory.
+/// The last row group that was added is kept apart from the others. Its place is the reserved memory.
 #[derive(Drop)]
 pub struct Holder {
     last: Option<(u32, MinMax)>,
@@ -40,7 +40,7 @@ impl Model for Holder {
         × (holder.reserved ≡ true → holder.last ≡ None) };
 }
 
-/// Returns whether it is this row group.
+/// Returns whether the last row group is this one.
 fn is_at(last: &Option<(u32, MinMax)>, group: u32) -> bool
     ensures { result ≡ is_of last.now group }
 {
@@ -50,7 +50,7 @@ fn is_at(last: &Option<(u32, MinMax)>, group: u32) -> bool
     }
 }
 
-/// Adds a row group to the others. Refused with `NoMemory` (1) alone. Then nothing is changed.
+/// Adds a row group to the others. Refused only with `NoMemory` (1). Then nothing is changed.
 fn add_to(
     others: &mut Option<Box<Runs>>,
     alloc: Global,
@@ -74,7 +74,7 @@ fn add_to(
     }
 }
 
-/// Adds the last row group to the others, if there is one. Refused with `NoMemory` (1) alone. Then nothing is changed.
+/// Adds the last row group to the others, if there is one. Refused only with `NoMemory` (1). Then nothing is changed.
 fn settle(
     last: &Option<(u32, MinMax)>,
     others: &mut Option<Box<Runs>>,
@@ -206,7 +206,7 @@ impl Holder {
         self.last.is_none() && !self.reserved && self.others.is_none()
     }
 
-    /// Reserves memory for one more row group. Refused with `NoMemory` (1) alone. Then nothing is changed.
+    /// Reserves memory for one more row group. Refused only with `NoMemory` (1). Then nothing is changed.
     pub fn reserve(&mut self, alloc: Global) -> Result<(), Refusal>
         ensures min_maxes { AreSame self.old.min_maxes self.new.min_maxes }
         ensures reserved { OnOk result (self.new.reserved ≡ true) }
@@ -219,7 +219,7 @@ impl Holder {
         Ok(())
     }
 
-    /// Adds a row group, and leaves the reserved memory as it is. Refused with `NoMemory` (1) alone. Then nothing is changed.
+    /// Adds a row group, and leaves the reserved memory as it is. Refused only with `NoMemory` (1). Then nothing is changed.
     fn add(&mut self, alloc: Global, group: u32, min_max: MinMax) -> Result<(), Refusal>
         requires { at self.old.min_maxes group ≡ None }
         ensures ok { OnOk result
@@ -252,7 +252,7 @@ impl Holder {
     /// Observes a value in a row group, and leaves the reserved memory as it is. Returns the previous min-max there, or `None` if the key
     /// did not occur.
     ///
-    /// Refused with `NoMemory` (1) alone, and only if the key is new there. Then nothing is changed.
+    /// Refused only with `NoMemory` (1), and only if the key is new there. Then nothing is changed.
     pub fn observe(
         &mut self,
         alloc: Global,
@@ -316,8 +316,8 @@ impl Holder {
         leave_in(&mut self.others, group);
     }
 
-    /// Removes a value from a row group. `rows` are the rows that are left, which it reads only if the value was the least or the greatest.
-    /// Returns the min-max that is left, or `None` if the key no longer occurs there. Allocates nothing.
+    /// Removes a value from a row group. `rows` are the remaining rows, which it reads only if the value was the least or the greatest.
+    /// Returns the remaining min-max, or `None` if the key no longer occurs there. Allocates nothing.
     pub fn shrink<R: RowsLeft>(&mut self, group: u32, value: i64, rows: &R) -> Option<MinMax>
         requires at_hand { R.at_hand rows.now }
         requires previous { at self.old.min_maxes group
@@ -355,7 +355,7 @@ impl Holder {
     }
 }
 
-/// Removes a row group from a key, if the key occurs in it. Returns whether the key stays: it has a row group left, or is reserved.
+/// Removes a row group from a key, if the key occurs in it. Returns whether to keep the key: it has a row group left, or is reserved.
 pub fn clear(holder: &mut Holder, group: u32) -> bool
     ensures { IsCleared group holder.old result holder.new }
 {

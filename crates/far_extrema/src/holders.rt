@@ -1,4 +1,4 @@
-// The row groups in which each key occurs: those of no key, those of numbers, and those of texts.
+// The row groups in which each key occurs, by the kind of key: no key, numbers, and texts.
 ghost use Rattle.std.specs.Prelude.{◌≡◌, ◌≢◌, None, Some, OnOk, IfErr, OnErr, IfOk, Option};
 ghost use Rattle.std.specs.List.{AllByRecursion};
 ghost use Rattle.far_types.specs.declared.key.Key.{Key};
@@ -19,9 +19,9 @@ use std::alloc::Global;
 use std::collections::BTreeMap;
 use std::marker::Model;
 
-/// The row groups by key. No key needs no search. A number is an index into a list, or is looked up in a tree that compares words alone.
+/// The row groups by key. The holder of no key is a field. A number is an index into a list, or is looked up in a tree of bare numbers.
 ///
-/// Contracts see what is held of each key.
+/// Contracts see the holding of each key.
 #[derive(Drop)]
 pub struct Holders {
     plain: Option<Holder>,
@@ -41,7 +41,7 @@ impl Model for Holders {
     ghost view = { λ h. holders_of (entries_in h.plain h.numbers h.texts.entries) };
 }
 
-/// Removes a row group from no key. Allocates nothing.
+/// Removes a row group from the holder of no key. Removes the holder too if it is then vacant. Allocates nothing.
 fn clear_plain(plain: &mut Option<Holder>, group: u32)
     ensures { AreCleared group plain.old plain.new }
 {
@@ -53,7 +53,7 @@ fn clear_plain(plain: &mut Option<Holder>, group: u32)
     *plain = None;
 }
 
-/// Adds the line of no key, if there is one.
+/// Adds the line for no key, if there is one.
 fn add_plain_line(lines: &mut Lines, plain: &Option<Holder>) -> Result<(), Refusal>
     ensures ok { OnOk result (Adds lines.old.items (plain_entries plain.now) lines.new.items) }
     ensures topped { AllByRecursion IsTopped (plain_entries plain.now) }
@@ -74,7 +74,7 @@ impl Holders {
     ghost use Rattle.std.specs.FinMap as fin;
     ghost use Rattle.far_extrema.specs.Lending.{lends_holder};
 
-    /// Makes holders of no key at all. Allocates nothing.
+    /// Makes an empty collection: no key has a holder. Allocates nothing.
     pub fn new(alloc: Global) -> Holders
         ensures { result ≡ fin.empty }
     {
@@ -110,7 +110,7 @@ impl Holders {
         }
     }
 
-    /// Adds or replaces the holder of a key. Clones the key. Refused with `NoMemory` (1) alone. Then no key occurs more or less.
+    /// Adds or replaces the holder of a key. Clones the key. Refused only with `NoMemory` (1). Then the same keys occur as before.
     fn insert(&mut self, key: &Option<Key>, holder: Holder) -> Result<(), Refusal>
         ensures ok { OnOk result (AreAlike (fin.insert self.old key.now holder) self.new) }
         ensures err { OnErr result (AreAlike self.old self.new) }
@@ -126,7 +126,7 @@ impl Holders {
         }
     }
 
-    /// Removes the vacant holder of a key, unless a list has it. Allocates nothing.
+    /// Removes the vacant holder of a key. A vacant holder in a list stays. Allocates nothing.
     fn remove(&mut self, key: &Option<Key>)
         requires { IsVacant (fin.get self.old key.now) }
         ensures { AreAlike (fin.remove self.old key.now) self.new }
@@ -138,7 +138,7 @@ impl Holders {
         }
     }
 
-    /// Removes a row group from all keys. A key goes with its last row group, unless it is reserved. Allocates nothing.
+    /// Removes a row group from all keys. Also removes a key without any row group left, unless it is reserved. Allocates nothing.
     pub fn clear(&mut self, group: u32)
         ensures min_maxes { IsGroup self.old group fin.empty self.new }
         ensures reserved { HaveSameReserved self.old self.new }
@@ -148,13 +148,14 @@ impl Holders {
         texts::clear_all(&mut self.texts, group);
     }
 
-    /// Returns how many keys have a holder, or fewer if they are too many to be counted.
+    /// Returns how many keys occur or are reserved, or `usize::MAX` if there are more.
     fn len(&self) -> usize {
         let keys = self.numbers.len().saturating_add(self.texts.len());
         keys.saturating_add(self.plain.is_some() as usize)
     }
 
-    /// Makes the lines of the joined min-maxes of all row groups, by key. Clones the keys. A key that is only reserved has no line.
+    /// Makes an answer's lines, ascending by key: each has a key and its joined min-max of all row groups. Clones the keys. A key that is
+    /// only reserved has no line.
     pub fn lines(&self, alloc: Global) -> Result<Lines, Refusal>
         ensures ok { IfOk result (λ lines. lines.items ≡ lines_of (fin.entries self.now)) }
         ensures ordered { OnOk result (IsStrictlySortedBy line_cmp (fin.keys self.now)) }
@@ -169,7 +170,7 @@ impl Holders {
     }
 }
 
-/// Returns the min-max of a key in a row group. Allocates nothing.
+/// Returns the min-max of a key in a row group, or `None` if it does not occur there. Allocates nothing.
 pub fn min_max_in(holders: &Holders, group: u32, key: &Option<Key>) -> Option<MinMax>
     ensures { result ≡ min_max_at holders.now group key.now }
 {
@@ -182,7 +183,7 @@ pub fn min_max_in(holders: &Holders, group: u32, key: &Option<Key>) -> Option<Mi
 /// Observes a value under a key in a row group, with one look-up if the key is known. Clones the key if it is new. Returns the previous
 /// min-max there, or `None`.
 ///
-/// Refused with `NoMemory` (1) alone, and only if the key is new in the row group. Then no min-max is changed, and no reserved key.
+/// Refused only with `NoMemory` (1), and only if the key is new in the row group. Then no min-max and no reserved key is changed.
 pub fn observe_in(
     holders: &mut Holders,
     alloc: Global,
@@ -190,7 +191,8 @@ pub fn observe_in(
     key: &Option<Key>,
     value: i64,
 ) -> Result<Option<MinMax>, Refusal>
-    ensures previous { IfOk result (λ previous. previous ≡ min_max_at holders.old group key.now) }
+    ensures previous { IfOk result
+        (λ previous. previous ≡ min_max_at holders.old group key.now) }
     ensures ok { OnOk result (IsObserved holders.old group key.now value holders.new) }
     ensures reserved { OnOk result (HaveSameReserved holders.old holders.new) }
     ensures err { OnErr result (AreAlike holders.old holders.new) }
@@ -218,7 +220,7 @@ pub fn set_in(holders: &mut Holders, group: u32, key: &Option<Key>, min_max: Min
     }
 }
 
-/// Removes a row group from a key. The key goes with its last row group, unless it is reserved. Allocates nothing.
+/// Removes a row group from a key. Also removes the key if it has no row group left, unless it is reserved. Allocates nothing.
 pub fn leave_in(holders: &mut Holders, group: u32, key: &Option<Key>)
     requires { min_max_at holders.old group key.now ≢ None }
     ensures min_maxes { IsPut holders.old group key.now None holders.new }
@@ -236,10 +238,10 @@ pub fn leave_in(holders: &mut Holders, group: u32, key: &Option<Key>)
     holders.remove(key);
 }
 
-/// Removes a value under a key in a row group. `rows` are the rows that are left, which it reads only if the value was the least or the
-/// greatest. Returns the min-max that is left, or `None`. Allocates nothing.
+/// Removes a value under a key in a row group. `rows` are the remaining rows, which it reads only if the value was the least or the
+/// greatest. Returns the remaining min-max, or `None`. Allocates nothing.
 ///
-/// The key goes with its last row group, unless it is reserved. One look-up finds the key, and one more removes it.
+/// Removes the key if it has no row group left, unless it is reserved. One look-up finds the key, and one more removes it.
 pub fn shrink_in<R: RowsLeft>(
     holders: &mut Holders,
     group: u32,
@@ -266,7 +268,7 @@ pub fn shrink_in<R: RowsLeft>(
     None
 }
 
-/// Reserves memory for one more row group of a key. Refused with `NoMemory` (1) alone.
+/// Reserves memory for one more row group of a key. Refused only with `NoMemory` (1).
 fn reserve_in(holders: &mut Holders, alloc: Global, key: &Option<Key>) -> Result<(), Refusal>
     ensures min_maxes { HaveSameMinMaxes holders.old holders.new }
     ensures kept { KeepsReserved holders.old holders.new }
@@ -282,7 +284,7 @@ fn reserve_in(holders: &mut Holders, alloc: Global, key: &Option<Key>) -> Result
     }
 }
 
-/// Reserves memory for one more row group of each of these keys. Refused with `NoMemory` (1) alone. Then some may be reserved.
+/// Reserves memory for one more row group of each of these keys. Refused only with `NoMemory` (1). Then some may be reserved.
 pub fn reserve_all(
     holders: &mut Holders,
     alloc: Global,
@@ -311,7 +313,7 @@ fn fill_in(holders: &mut Holders, group: u32, key: &Option<Key>, min_max: MinMax
     }
 }
 
-/// Sets the min-maxes of a row group in which no key occurs yet. Each of their keys must be reserved. Allocates nothing.
+/// Sets the min-maxes of a row group in which no key occurs yet. Each key of them must be reserved. Allocates nothing.
 pub fn fill_all(holders: &mut Holders, group: u32, min_maxes: &MinMaxes)
     requires reserved { AreReservedFor (extrema_of min_maxes.now.entries) holders.old }
     requires new { (q : Option Key) → min_max_at holders.old group q ≡ None }

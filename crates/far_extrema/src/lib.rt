@@ -1,7 +1,7 @@
 #![tactic(auto)]
 //! Extrema by key that are kept up to date: the least and the greatest value of the rows folded under each key.
 //!
-//! They are kept row group by row group. So if a row group loses a row, only its rows are read again.
+//! They are kept for each row group. So if a row group loses a row, only its rows are read again.
 
 mod dense;
 pub mod group_extrema;

@@ -4,10 +4,10 @@ ghost use Rattle.std.specs.Prelude.{◌≡◌, ◌++◌, ◌∷◌, [], OnOk, If
 use super::min_max::MinMax;
 use far_types::{Key, Refusal};
 
-/// The lines of an answer: a key, the least value and the greatest.
+/// The lines of an answer: each has a key, the least value and the greatest value.
 pub type Lines = Vec<(Option<Key>, i64, i64)>;
 
-/// Adds the line of a key. Refused with `NoMemory` (1) alone.
+/// Adds the line of a key. Refused only with `NoMemory` (1).
 pub fn add_line(lines: &mut Lines, key: Option<Key>, top: MinMax) -> Result<(), Refusal>
     ensures ok { OnOk result (lines.new.items ≡ lines.old.items ++ (key, top.0, top.1) ∷ []) }
     ensures memory { IfErr result (λ e. e ≡ Refusal.NoMemory) }

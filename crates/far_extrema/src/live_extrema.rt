@@ -15,10 +15,10 @@ use std::marker::Model;
 /// The least and the greatest value under each key, kept up to date row group by row group. It also counts the row groups that are pending:
 /// not yet scanned.
 ///
-/// Each key has the row groups in which it occurs in runs of at most 64. So a changed min-max costs a look-up by key, a search for the run,
-/// and one in it. The cost of an answer does not depend on the row groups.
+/// Each key keeps the row groups in which it occurs in runs of at most 64. So a changed min-max costs a look-up by key, a search for the
+/// run, and a search in the run. The cost of an answer does not depend on the number of row groups.
 ///
-/// Contracts see how many row groups are pending. For each row group that is reserved, in their order, they see the extrema of its rows.
+/// Contracts see how many row groups are pending. For each reserved row group, in their order, they see the extrema of its rows.
 #[derive(Drop)]
 pub struct LiveExtrema {
     left: u32,
@@ -71,7 +71,7 @@ impl LiveExtrema {
         self.left
     }
 
-    /// Reserves the row groups up to this one. New ones have no row. Allocates nothing.
+    /// Reserves the row groups up to this one. New row groups have no rows. Allocates nothing.
     pub fn make_room(&mut self, group: u32)
         ensures { self.new ≡ record self.old { groups = after_reserve group self.old.groups } }
     {
@@ -81,7 +81,7 @@ impl LiveExtrema {
     /// Reserves as `make_room` does, and reserves memory for each key of these extrema, so that `set_group` or `merge` can take them for
     /// the row group. A key that is only reserved is in no answer.
     ///
-    /// Refused with `NoMemory` (1) alone. Then no other row group is reserved, but some of the keys may be.
+    /// Refused only with `NoMemory` (1). Then no more row groups are reserved, but some of the keys may be.
     pub fn reserve_for(&mut self, group: u32, extrema: &GroupExtrema) -> Result<(), Refusal>
         ensures left { self.new.left ≡ self.old.left }
         ensures groups { OnOk result (self.new.groups ≡ after_reserve group self.old.groups) }
@@ -95,9 +95,9 @@ impl LiveExtrema {
     }
 
     /// Observes one folded row in a row group. Returns the previous min-max of its key there, or `None` if the key did not occur.
-    /// `put_min_max` of that undoes the row.
+    /// `put_min_max` with that min-max undoes the row.
     ///
-    /// Costs one look-up, if the key occurs in some row group. Clones the key if it is new. Refused with `NoMemory` (1) alone, and only if
+    /// Costs one look-up, if the key occurs in some row group. Clones the key if it is new. Refused only with `NoMemory` (1), and only if
     /// the key is new in the row group. Then nothing is changed.
     pub fn observe_under(
         &mut self,
@@ -115,14 +115,15 @@ impl LiveExtrema {
                   (with_observed (group_at self.old.groups group) (key.now, value));
             }) }
         ensures err { OnErr result (self.new ≡ self.old) }
-        ensures only_new { OnErr result (fin.get (group_at self.old.groups group) key.now ≡ None) }
+        ensures only_new { OnErr result
+            (fin.get (group_at self.old.groups group) key.now ≡ None) }
         ensures memory { IfErr result (λ e. e ≡ Refusal.NoMemory) }
     {
         observe_in(&mut self.holders, self.alloc, group, key, value)
     }
 
-    /// Does what `observe_under` does, for a caller that knows the key's min-max in the row group. A value within it costs no look-up.
-    /// Allocates nothing.
+    /// Observes one folded row, as `observe_under` does, for a caller that knows the key's min-max in the row group. A value within that
+    /// min-max costs no look-up. Allocates nothing.
     pub fn observe_over(&mut self, group: u32, key: &Option<Key>, value: i64, previous: MinMax)
         requires reserved { group < length self.old.groups }
         requires previous { fin.get (group_at self.old.groups group) key.now ≡ Some previous }
@@ -139,15 +140,15 @@ impl LiveExtrema {
         set_in(&mut self.holders, group, key, wide);
     }
 
-    /// Returns the least and the greatest value under a key in a row group, or `None` if it does not occur there. In a row group that is
-    /// not reserved no key occurs. Allocates nothing.
+    /// Returns the least and the greatest value under a key in a row group, or `None` if it does not occur there. No key occurs in a row
+    /// group that is not reserved. Allocates nothing.
     pub fn min_max(&self, group: u32, key: &Option<Key>) -> Option<MinMax>
         ensures { result ≡ fin.get (group_at self.now.groups group) key.now }
     {
         min_max_in(&self.holders, group, key)
     }
 
-    /// Replaces the min-max of a key that occurs in a row group. `None` removes the key there. With the previous min-max, this undoes
+    /// Replaces the min-max of a key that occurs in a row group. `None` removes the key there. With the previous min-max, this call undoes
     /// `observe_under`. Allocates nothing.
     pub fn put_min_max(&mut self, group: u32, key: &Option<Key>, min_max: Option<MinMax>)
         requires reserved { group < length self.old.groups }
@@ -164,10 +165,10 @@ impl LiveExtrema {
         }
     }
 
-    /// Removes one folded row from a row group. `rows` are the rows that are left under its key, which it reads only if the value was the
-    /// least or the greatest there. Returns the min-max that is left, or `None` if the key goes. Allocates nothing.
+    /// Removes one folded row from a row group. `rows` are the remaining rows under its key, which it reads only if the value was the least
+    /// or the greatest there. Returns the remaining min-max, or `None` if the key no longer occurs there. Allocates nothing.
     ///
-    /// Costs one look-up, and one more if the key goes with its last row group.
+    /// Costs one look-up, and one more if the key then occurs in no row group.
     pub fn shrink<R: RowsLeft>(
         &mut self,
         group: u32,
@@ -216,11 +217,11 @@ impl LiveExtrema {
     }
 
     /// Returns the keys that occur in any row group, ascending, each with its least and its greatest value. The cost does not depend on the
-    /// row groups.
+    /// number of row groups.
     ///
     /// Refused with:
-    /// - `Building` (15), which says how many row groups are pending, exactly if that is not 0;
-    /// - else `NoMemory` (1) alone.
+    /// - `Building` (15) exactly if row groups are pending; it says how many;
+    /// - else only `NoMemory` (1).
     pub fn answer(&self, alloc: Global) -> Result<Answer, Refusal>
         ensures ok { IfOk result
             (λ answer. answer ≡ Answer.Extrema (extrema_lines (all_groups self.now.groups))) }

@@ -6,7 +6,7 @@ use std::marker::Model;
 
 /// The least and the greatest of some values.
 ///
-/// Contracts see the pair of the two.
+/// Contracts see the pair of least and greatest value.
 #[derive(Clone, Copy, Debug, PartialEq, Eq)]
 pub struct MinMax {
     /// The least value.
@@ -58,7 +58,7 @@ impl MinMax {
         }
     }
 
-    /// Returns whether a value is within the min-max, its ends included. Then it changes nothing there.
+    /// Returns whether a value is within the min-max, its ends included. Such a value does not change the min-max.
     #[inline(always)]
     pub fn is_within(self, value: i64) -> bool
         ensures { IsTrue result ↔ ((self.0 ≤ℤ value) × (value ≤ℤ self.1)) }
@@ -66,7 +66,7 @@ impl MinMax {
         self.min <= value && value <= self.max
     }
 
-    /// Returns whether a value is strictly within the min-max, its ends excluded. Then the min-max stays if the value goes.
+    /// Returns whether a value is strictly within the min-max, its ends excluded. Removing such a value does not change the min-max.
     #[inline(always)]
     pub fn is_strictly_within(self, value: i64) -> bool
         ensures { IsTrue result ↔ ((self.0 <ℤ value) × (value <ℤ self.1)) }
@@ -91,7 +91,7 @@ impl MinMax {
     }
 }
 
-/// Joins two min-maxes, as far as they are there.
+/// Joins two min-maxes. If either is `None`, returns the other one.
 pub fn either(min_max: Option<MinMax>, more: Option<MinMax>) -> Option<MinMax>
     ensures { result ≡ merge_two join_min_maxes min_max more }
 {

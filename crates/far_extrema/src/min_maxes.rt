@@ -15,7 +15,7 @@ use std::collections::BTreeMap;
 /// The min-maxes by key.
 pub type MinMaxes = BTreeMap<Option<Key>, MinMax>;
 
-/// Joins a min-max to that under a key, if the key is there. Returns whether it is. Allocates nothing.
+/// Joins a min-max to the one under a key, if the map has the key. Returns whether it has. Allocates nothing.
 fn widen(min_maxes: &mut MinMaxes, key: &Option<Key>, more: MinMax) -> bool
     ensures there { result ≡ is_some (fin.get (extrema_of min_maxes.old.entries) key.now) }
     ensures widened { IsTrue result
@@ -32,7 +32,7 @@ fn widen(min_maxes: &mut MinMaxes, key: &Option<Key>, more: MinMax) -> bool
     }
 }
 
-/// Joins a min-max to that under a key. If the key is there already, drops the given one.
+/// Joins a min-max to the one under a key, or inserts it. If the key is in already, drops the given key.
 pub fn observe(min_maxes: &mut MinMaxes, key: Option<Key>, more: MinMax) -> Result<(), Refusal>
     ensures ok { OnOk result
         (extrema_of min_maxes.new.entries
@@ -47,7 +47,7 @@ pub fn observe(min_maxes: &mut MinMaxes, key: Option<Key>, more: MinMax) -> Resu
     Ok(())
 }
 
-/// Joins a min-max to that under a key. Clones the key if it is new.
+/// Joins a min-max to the one under a key, or inserts it. Clones the key if it is new.
 pub fn observe_under(
     min_maxes: &mut MinMaxes,
     key: &Option<Key>,
@@ -66,14 +66,14 @@ pub fn observe_under(
     Ok(())
 }
 
-/// Returns the min-max under a key. Allocates nothing.
+/// Returns the min-max under a key, or `None` if the map does not have the key. Allocates nothing.
 pub fn min_max_under(min_maxes: &MinMaxes, key: &Option<Key>) -> Option<MinMax>
     ensures { result ≡ fin.get (extrema_of min_maxes.now.entries) key.now }
 {
     min_maxes.get(key).copied()
 }
 
-/// Replaces the min-max under a key that is there. `None` removes the key. Allocates nothing.
+/// Replaces the min-max under a key that the map has. `None` removes the key. Allocates nothing.
 pub fn put(min_maxes: &mut MinMaxes, key: &Option<Key>, min_max: Option<MinMax>)
     requires { fin.get (extrema_of min_maxes.old.entries) key.now ≢ None }
     ensures { extrema_of min_maxes.new.entries
@@ -90,7 +90,7 @@ pub fn put(min_maxes: &mut MinMaxes, key: &Option<Key>, min_max: Option<MinMax>)
     }
 }
 
-/// Makes the lines of the min-maxes, by their keys. Clones the keys.
+/// Makes an answer's lines, ascending by key. Clones the keys.
 pub fn lines(alloc: Global, min_maxes: &MinMaxes) -> Result<Vec<(Option<Key>, i64, i64)>, Refusal>
     ensures ok { IfOk result
         (λ lines. lines.items

@@ -1,4 +1,4 @@
-// The row groups by number, in a tree map of bare numbers. A look-up compares words alone.
+// The row groups by number, in a tree map of bare numbers. A look-up compares only machine words.
 ghost use Rattle.std.specs.Prelude.{◌≡◌, Some, None, OnOk, OnErr, IfErr};
 ghost use Rattle.std.specs.BTreeMap.{IsOrdered};
 ghost use Rattle.std.specs.List.{AllByRecursion};
@@ -15,7 +15,7 @@ use std::collections::BTreeMap;
 /// The row groups by number.
 pub type NumberTree = BTreeMap<i64, Holder>;
 
-/// Adds or replaces the holder of a number. Refused with `NoMemory` (1) alone. Then nothing is changed.
+/// Adds or replaces the holder of a number. Refused only with `NoMemory` (1). Then nothing is changed.
 pub fn put(tree: &mut NumberTree, number: &i64, holder: Holder) -> Result<(), Refusal>
     ensures ok { OnOk result (IsSetAt tree.old.entries number.now (Some holder) tree.new.entries) }
     ensures err { OnErr result (tree.new.entries ≡ tree.old.entries) }
@@ -33,7 +33,7 @@ pub fn remove(tree: &mut NumberTree, number: &i64)
     tree.remove(number);
 }
 
-/// Removes a row group from all numbers. A number goes with its last row group, unless it is reserved. Allocates nothing.
+/// Removes a row group from all numbers. Also removes a number without any row group left, unless it is reserved. Allocates nothing.
 pub fn clear_all(tree: &mut NumberTree, group: u32)
     ensures cleared { AreNumbersCleared group tree.old.entries tree.new.entries }
     ensures gone { HasNoNewNumber tree.old.entries tree.new.entries }

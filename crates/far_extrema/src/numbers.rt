@@ -1,4 +1,4 @@
-// The row groups by number: those of the numbers from 0 on in a list, up to a bound, and those of the others in two trees.
+// The row groups by number. The numbers from 0 to a bound are in a list, and the numbers below and above it are in two trees.
 ghost use Rattle.std.specs.Prelude.{◌≡◌, ◌≤◌, ℤ, Some, None, length, OnOk, OnErr, IfErr};
 ghost use Rattle.std.specs.Ordering.{int_cmp};
 ghost use Rattle.std.specs.List.{AllByRecursion};
@@ -13,10 +13,10 @@ use std::alloc::Global;
 use std::collections::BTreeMap;
 use std::marker::Model;
 
-/// The numbers from 0 to 2,047 are kept in the list. Its places take 96 KB, if it has all.
+/// The numbers from 0 to 2,047 are kept in the list. With all its places, it takes 96 KB.
 const PLACES: i64 = 2048;
 
-/// Where a number is kept: in the tree of the numbers below 0, at a place of the list, or in the tree of those above it.
+/// Where a number is kept: in the tree of the numbers below 0, at a place of the list, or in the tree of the numbers above the list.
 enum Part {
     Below,
     At(usize),
@@ -39,7 +39,7 @@ fn part_of(number: &i64) -> Part
 
 /// The row groups by number. A number within the list is in no tree.
 ///
-/// Contracts see what is held of each number, ascending. A number that does not occur may have a vacant holder.
+/// Contracts see the holding of each number, ascending. A number that does not occur may have a vacant holder.
 #[derive(Drop)]
 pub struct Numbers {
     below: NumberTree,
@@ -70,7 +70,7 @@ impl Numbers {
     ghost use Rattle.far_extrema.specs.Numbers.{number_at, IsNumberPut, AreNumbersLike, AreNumbersCleared};
     ghost use Rattle.far_extrema.specs.LendingNumbers.{lends_number};
 
-    /// Makes holders of no number. Allocates nothing.
+    /// Makes an empty collection: no number has a holder. Allocates nothing.
     pub fn new(alloc: Global) -> Numbers
         ensures { result ≡ [] }
     {
@@ -106,7 +106,7 @@ impl Numbers {
         }
     }
 
-    /// Adds or replaces the holder of a number. Refused with `NoMemory` (1) alone. Then no number occurs more or less.
+    /// Adds or replaces the holder of a number. Refused only with `NoMemory` (1). Then the same numbers occur as before.
     pub fn insert(&mut self, number: &i64, holder: Holder) -> Result<(), Refusal>
         ensures ok { OnOk result (IsNumberPut self.old number.now (Some holder) self.new) }
         ensures err { OnErr result (AreNumbersLike self.old self.new) }
@@ -119,7 +119,7 @@ impl Numbers {
         }
     }
 
-    /// Removes the vacant holder of a number, unless the list has it. Allocates nothing.
+    /// Removes the vacant holder of a number. A vacant holder in the list stays. Allocates nothing.
     pub fn remove(&mut self, number: &i64)
         requires { IsVacant (number_at self.old number.now) }
         ensures { IsNumberPut self.old number.now None self.new }
@@ -140,7 +140,7 @@ impl Numbers {
         number_tree::clear_all(&mut self.above, group);
     }
 
-    /// Returns how many numbers occur or are reserved, or fewer if they are too many to be counted.
+    /// Returns how many numbers occur or are reserved, or `usize::MAX` if there are more.
     pub fn len(&self) -> usize
         ensures { result ≤ length self.now }
     {

@@ -30,7 +30,7 @@ impl Model for Run {
         × IsTopOf (paired run.groups.items run.values.items) run.top };
 }
 
-/// Returns the place of a row group, or the place at which it would stand.
+/// Returns the index of a row group, or the index at which to insert it.
 pub fn search(groups: &[u32], group: u32) -> Result<usize, usize>
     requires { RiseFrom 0 groups.now }
     ensures found { IfOk result (IsAt groups.now group) }
@@ -39,7 +39,7 @@ pub fn search(groups: &[u32], group: u32) -> Result<usize, usize>
     groups.binary_search(&group)
 }
 
-/// Returns what `search` does, at once for a row group after all others. Most new ones are such.
+/// Returns what `search` does, but without a search for a row group after all others. Most new row groups are after all others.
 fn place_of(groups: &[u32], group: u32) -> Result<usize, usize>
     requires { RiseFrom 0 groups.now }
     ensures found { IfOk result (IsAt groups.now group) }
@@ -63,7 +63,7 @@ fn joined(values: &[MinMax]) -> Option<MinMax>
     top
 }
 
-/// Returns whether the joined min-max of all needs only what comes in place of one of them.
+/// Returns whether the joined min-max can be kept and joined with `now`, which replaces `previous`. Else it is computed anew.
 fn is_kept(top: &Option<MinMax>, previous: MinMax, now: &Option<MinMax>) -> bool
     ensures { IsTrue result → IsKept top.now previous now.now }
 {
@@ -78,7 +78,7 @@ fn is_kept(top: &Option<MinMax>, previous: MinMax, now: &Option<MinMax>) -> bool
     }
 }
 
-/// Returns the joined min-max of all once one of them was replaced or removed.
+/// Returns the joined min-max of all row groups once one of the min-maxes was replaced or removed.
 fn top_after(
     groups: &[u32],
     values: &[MinMax],
@@ -98,7 +98,7 @@ fn top_after(
     joined(values)
 }
 
-/// Inserts a row group in memory that is there. Allocates nothing.
+/// Inserts a row group into vectors that have capacity for it. Allocates nothing.
 fn insert_in(groups: &mut Vec<u32>, values: &mut Vec<MinMax>, group: u32, min_max: MinMax)
     requires order { AreInOrder groups.old.items values.old.items }
     requires new { at (paired groups.old.items values.old.items) group ≡ None }
@@ -123,7 +123,7 @@ fn insert_in(groups: &mut Vec<u32>, values: &mut Vec<MinMax>, group: u32, min_ma
 }
 
 impl Run {
-    /// Makes a run of no row group. Allocates nothing.
+    /// Makes a run without row groups. Allocates nothing.
     pub fn new(alloc: Global) -> Run
         ensures { result.min_maxes ≡ [] }
     {
@@ -134,10 +134,10 @@ impl Run {
         }
     }
 
-    /// Cuts a run that is full in two, so that a row group can be added: this keeps the first part. Returns the first row group of the second
-    /// part, and the part. A row group that is after all leaves the run full: the second part is empty.
+    /// Cuts a full run in two, so that a row group can be added. `self` keeps the first part. Returns the least row group that the second
+    /// part may have, and the second part. If the new row group is after all others, the run stays full and the second part is empty.
     ///
-    /// Returns `None` if the run is not full. Refused with `NoMemory` (1) alone. Then nothing is changed.
+    /// Returns `None` if the run is not full. Refused only with `NoMemory` (1). Then nothing is changed.
     pub fn cut_if_full(&mut self, alloc: Global, group: u32) -> Result<Option<(u32, Run)>, Refusal>
         ensures kept { IfOk result (λ late. late ≡ None → self.new ≡ self.old) }
         ensures cut { IfOk result (IsCut group self.old.min_maxes self.new.min_maxes) }
@@ -154,7 +154,7 @@ impl Run {
         self.cut(alloc)
     }
 
-    /// Cuts a run in two halves: this keeps the first one.
+    /// Cuts a run in two halves. `self` keeps the first half.
     fn cut(&mut self, alloc: Global) -> Result<Option<(u32, Run)>, Refusal>
         ensures kept { IfOk result (λ late. late ≡ None → self.new ≡ self.old) }
         ensures cut { (group : ℕ)
@@ -209,7 +209,7 @@ impl Run {
         self.groups.is_empty()
     }
 
-    /// Adds a row group. Refused with `NoMemory` (1) alone. Then nothing is changed.
+    /// Adds a row group. Refused only with `NoMemory` (1). Then nothing is changed.
     pub fn add(&mut self, group: u32, min_max: MinMax) -> Result<(), Refusal>
         requires { at self.old.min_maxes group ≡ None }
         ensures ok { OnOk result

@@ -1,4 +1,4 @@
-// The row groups of one key in runs, one after another.
+// The row groups of one key, in runs that follow one another.
 ghost use Rattle.std.specs.Prelude.{◌≡◌, ◌≢◌, ℕ, ◌+◌, ◌<◌, ◌≤◌, [], Option, None, Some, IsTrue, OnOk, OnErr, IfOk, IfErr, IfSome, false, length, suc, vec_len, vec_capacity};
 ghost use Rattle.std.specs.List.{insert};
 ghost use Rattle.far_types.specs.Effects.{join_min_maxes, merge_two};
@@ -17,8 +17,8 @@ pub struct Runs {
     firsts: Vec<u32>,
     runs: Vec<Run>,
     top: Option<MinMax>,
-    /// The place of a run that changed, and what all others are joined to. A queue takes its least values from one run after another, so
-    /// the others are mostly not joined anew.
+    /// The index of a run that changed, and the joined min-max of all other runs. A queue takes its least values from one run after
+    /// another, so the others are mostly not joined anew.
     apart: Option<(usize, Option<MinMax>)>,
 }
 
@@ -36,7 +36,7 @@ impl Model for Runs {
         × IsApartFrom s.firsts.items s.runs.items s.apart };
 }
 
-/// Joins two min-maxes, as far as they are there.
+/// Joins two min-maxes. If either is `None`, returns the other one.
 fn joined_two(one: &Option<MinMax>, other: &Option<MinMax>) -> Option<MinMax>
     ensures { result ≡ merge_two join_min_maxes one.now other.now }
 {
@@ -58,7 +58,7 @@ fn are_same(one: &Option<MinMax>, other: &Option<MinMax>) -> bool
     }
 }
 
-/// Returns the place of the run in which a row group would be.
+/// Returns the index of the run that has a row group or would have it, or `None` if the row group is before all runs.
 fn part_of(firsts: &[u32], group: u32) -> Option<usize>
     requires { RiseFrom 0 firsts.now }
     ensures some { IfSome result (IsPart firsts.now group) }
@@ -97,7 +97,7 @@ fn joined_others(firsts: &[u32], runs: &[Run], place: usize) -> Option<MinMax>
     )
 }
 
-/// Returns what stands apart if it is of this place.
+/// Returns `apart` if it belongs to the run at this index.
 fn apart_at(
     apart: &Option<(usize, Option<MinMax>)>,
     place: usize,
@@ -111,7 +111,7 @@ fn apart_at(
     }
 }
 
-/// Returns what all runs but one are joined to: it is available if that run stands apart.
+/// Returns the joined min-max of all runs but one. Computes it unless that run is kept apart.
 fn others_of(
     apart: &Option<(usize, Option<MinMax>)>,
     firsts: &[u32],
@@ -131,7 +131,7 @@ fn others_of(
     }
 }
 
-/// Puts a run after another one, in memory that is there. Allocates nothing.
+/// Inserts a run after another one, into vectors that have capacity for it. Allocates nothing.
 fn put_after(firsts: &mut Vec<u32>, runs: &mut Vec<Run>, place: usize, first: u32, run: Run)
     requires in_range { place < length firsts.old.items }
     requires same { length runs.old.items ≡ length firsts.old.items }
@@ -145,7 +145,7 @@ fn put_after(firsts: &mut Vec<u32>, runs: &mut Vec<Run>, place: usize, first: u3
     }
 }
 
-/// Cuts a run that is full, so that a row group can be added. Refused with `NoMemory` (1) alone.
+/// Cuts a run if it is full, so that a row group can be added. Refused only with `NoMemory` (1).
 fn make_room(
     firsts: &mut Vec<u32>,
     runs: &mut Vec<Run>,
@@ -170,7 +170,7 @@ fn make_room(
     Ok(())
 }
 
-/// Makes the first run, of the row groups from 0 on. Refused with `NoMemory` (1) alone.
+/// Inserts an empty first run, for the row groups from 0 on. Refused only with `NoMemory` (1).
 fn start(firsts: &mut Vec<u32>, runs: &mut Vec<Run>, alloc: Global) -> Result<(), Refusal>
     requires rise { RiseFrom 1 firsts.old.items }
     requires parts { AreParts firsts.old.items runs.old.items }
@@ -189,7 +189,7 @@ fn start(firsts: &mut Vec<u32>, runs: &mut Vec<Run>, alloc: Global) -> Result<()
     Ok(())
 }
 
-/// Makes room for a row group in its run. Refused with `NoMemory` (1) alone.
+/// Makes room for a row group in its run. Refused only with `NoMemory` (1).
 fn ready(
     firsts: &mut Vec<u32>,
     runs: &mut Vec<Run>,
@@ -210,7 +210,7 @@ fn ready(
     }
 }
 
-/// Returns the place of the run for a row group that is added, which is not full. Refused with `NoMemory` (1) alone.
+/// Makes room for a new row group, and returns the index of its run. Refused only with `NoMemory` (1).
 fn place_for(
     firsts: &mut Vec<u32>,
     runs: &mut Vec<Run>,
@@ -232,7 +232,7 @@ fn place_for(
     }
 }
 
-/// Drops a run in which no row group is left, and returns whether it did. Allocates nothing.
+/// Drops a run if it has no row group left. Returns whether it did. Allocates nothing.
 fn drop_if_empty(firsts: &mut Vec<u32>, runs: &mut Vec<Run>, place: usize) -> bool
     requires rise { RiseFrom 0 firsts.old.items }
     requires parts { AreParts firsts.old.items runs.old.items }
@@ -252,7 +252,7 @@ fn drop_if_empty(firsts: &mut Vec<u32>, runs: &mut Vec<Run>, place: usize) -> bo
 }
 
 impl Runs {
-    /// Makes runs of no row group. Allocates nothing.
+    /// Makes runs without row groups. Allocates nothing.
     pub fn new(alloc: Global) -> Runs
         ensures { result.min_maxes ≡ [] }
     {
@@ -292,7 +292,7 @@ impl Runs {
         }
     }
 
-    /// Adds a row group. Refused with `NoMemory` (1) alone. Then nothing is changed.
+    /// Adds a row group. Refused only with `NoMemory` (1). Then nothing is changed.
     pub fn add(&mut self, alloc: Global, group: u32, min_max: MinMax) -> Result<(), Refusal>
         requires { at self.old.min_maxes group ≡ None }
         ensures ok { OnOk result
@@ -329,7 +329,7 @@ impl Runs {
         }
     }
 
-    /// Removes a row group, and its run with the last one there. Allocates nothing.
+    /// Removes a row group, and its run too if that has no row group left. Allocates nothing.
     pub fn leave(&mut self, group: u32)
         requires { at self.old.min_maxes group ≢ None }
         ensures { IsSet self.old.min_maxes group None self.new.min_maxes }

@@ -15,7 +15,7 @@ use std::collections::BTreeMap;
 /// The row groups by text.
 pub type Texts = BTreeMap<Text, Holder>;
 
-/// Adds or replaces the holder of a text. Clones the text. Refused with `NoMemory` (1) alone. Then nothing is changed.
+/// Adds or replaces the holder of a text. Clones the text. Refused only with `NoMemory` (1). Then nothing is changed.
 pub fn put(texts: &mut Texts, text: &Text, holder: Holder) -> Result<(), Refusal>
     ensures ok { OnOk result (IsTextAt texts.old.entries text.now (Some holder) texts.new.entries) }
     ensures err { OnErr result (texts.new.entries ≡ texts.old.entries) }
@@ -32,7 +32,7 @@ pub fn remove(texts: &mut Texts, text: &Text)
     texts.remove(text);
 }
 
-/// Removes a row group from all texts. A text goes with its last row group, unless it is reserved. Allocates nothing.
+/// Removes a row group from all texts. Also removes a text without any row group left, unless it is reserved. Allocates nothing.
 pub fn clear_all(texts: &mut Texts, group: u32)
     ensures { AreEntriesCleared group (texted texts.old.entries) (texted texts.new.entries) }
 {

@@ -1,4 +1,4 @@
--- What stands under no key, as the lines of one key.
+-- Counts and sums under no key, as a list with one line.
 use Rattle.std.proofs.Common.{◌≡◌, ◌+◌, ◌-◌, ◌^◌, ◌≤◌, ℕ, false, [], ◌∷◌, length, refl, sym, ap, ◌∙◌, subst, Option, None, Some, IsSome, arith}
 use Rattle.std.specs.Prelude.{ℤ, ◌-ℤ◌, is_some}
 use Rattle.std.specs.List.Sorted.{IsStrictlySortedBy}
@@ -16,7 +16,7 @@ use Rattle.far_groups.specs.ByKey.{plain_totals}
 use Rattle.far_groups.proofs.CountSumsLaws.{if_found, AreCountSums-empty, AreCountSums-insert, retracted_whole, retracted_part}
 use Rattle.far_groups.proofs.NumbersLaws.{Numbers}
 
--- the one line
+-- the one line, under no key
 abbrev pub one_line : ℕ × ℤ → Entries (ℕ × ℤ)
 one_line count_sum = (None, count_sum) ∷ []
 
@@ -24,7 +24,7 @@ pub one_ascends : (t : ℕ × ℤ) → IsStrictlySortedBy line_cmp (keys_of (one
 unfolding IsStrictlySortedBy
 one_ascends t = (tt, tt)
 
--- under no key stands what is there, and under a key nothing
+-- the line is found under no key, and nothing is found under any other key
 pub get_plain : (t : ℕ × ℤ) → fin.get (plain_totals t) None ≡ Some t
 get_plain t = get_at (one_line t) None
 
@@ -32,12 +32,12 @@ pub get_under_key : (t : ℕ × ℤ) (q : Option Key) → IsSome q → fin.get (
 get_under_key t None h = cc
 get_under_key t (Some k) h = get_at (one_line t) (Some k)
 
--- one line is another with what it has set
+-- the line with another count and sum is the line with these set under no key
 pub set_plain : (t u : ℕ × ℤ) → IsSet (one_line t) (one_line u) None (Some u)
 set_plain t u None = refl
 set_plain t u (Some k) = refl
 
--- and none is that with nothing set
+-- no line is the line with nothing set under no key
 gone_plain : (t : ℕ × ℤ) → IsSet (one_line t) [] None None
 gone_plain t None = refl
 gone_plain t (Some k) = refl
@@ -48,13 +48,13 @@ plain_valid_sums t h = AreCountSums-insert fin.empty None t AreCountSums-empty h
 pub count_sum_there : (t : ℕ × ℤ) → AreCountSums (plain_totals t) → IsCountSum t
 count_sum_there t all = if_found _ _ (get_plain t) (all None)
 
--- what comes under no key
+-- adding a count and a sum under no key
 pub plain_added : (t more : ℕ × ℤ) → plain_totals (add_count_sums t more) ≡ with_count_sum (plain_totals t) None more
 plain_added t more =
     set_inserts (one_line t) (one_line (add_count_sums t more)) None (add_count_sums t more) (set_plain t (add_count_sums t more))
     ∙ ap (λ o. fin.insert (plain_totals t) None (with_more add_count_sums more o)) (sym (get_plain t))
 
--- of numbers of which there are none
+-- a list of length 0 is empty
 none_there : (es : Numbers) → length es ≡ 0 → es ≡ []
 none_there [] h = refl
 none_there (e ∷ es) h = absurd (omega arith)
@@ -63,17 +63,17 @@ no_key : (q : Option Key) → is_some q ≡ false → q ≡ None
 no_key None h = refl
 no_key (Some k) h = cc
 
--- what first comes under no key
+-- adding the first count and sum, under no key
 pub plain_first : (es : Numbers) (q : Option Key) (more : ℕ × ℤ) → length es ≡ 0 → is_some q ≡ false → plain_totals more ≡ with_count_sum (by_number es) q more
 plain_first es q more empty none =
     ap (λ o. fin.insert fin.empty None (with_more add_count_sums more o)) (sym (get_at {V = ℕ × ℤ} [] None))
     ∙ (λ i. with_count_sum (by_number (sym (none_there es empty) i)) (sym (no_key q none) i) more)
 
--- and what is joined by them
+-- joining an empty list changes nothing
 pub joined_none : (m : Totals) (es : Numbers) → length es ≡ 0 → m ≡ joined_totals m (by_number es)
 joined_none m es empty = sym (joined-empty add_count_sums m) ∙ ap (λ (lines : Numbers). joined_totals m (by_number lines)) (sym (none_there es empty))
 
--- what can be retracted is under no key
+-- rows can be retracted only under no key
 pub retracted_key : (t less : ℕ × ℤ) (q : Option Key) → LeavesCountSum less (fin.get (plain_totals t) q) → q ≡ None
 retracted_key t less None h = refl
 retracted_key t less (Some k) h = absurd (subst (LeavesCountSum less) (get_under_key t (Some k) refl) h)
@@ -81,22 +81,22 @@ retracted_key t less (Some k) h = absurd (subst (LeavesCountSum less) (get_under
 pub retracted_leaves : (t less : ℕ × ℤ) (q : Option Key) → LeavesCountSum less (fin.get (plain_totals t) q) → LeavesCountSum less (Some t)
 retracted_leaves t less q h = subst (LeavesCountSum less) (ap (fin.get (plain_totals t)) (retracted_key t less q h) ∙ get_plain t) h
 
--- if nothing is left of it, nothing is left
+-- if the remaining count is 0, no line is left
 pub plain_gone : (t less rest : ℕ × ℤ) (q : Option Key) → rest ≡ (t.0 - less.0, t.1 -ℤ less.1) → LeavesCountSum less (fin.get (plain_totals t) q) → rest.0 ≡ 0 → totals_of [] ≡ without_count_sum (plain_totals t) q less
 plain_gone t less rest q is there none =
     retracted_whole (one_line t) (one_line t) [] None less t rest refl (set_plain t t) (gone_plain t) is (retracted_leaves t less q there) none
     ∙ ap (λ k. without_count_sum (plain_totals t) k less) (sym (retracted_key t less q there))
 
--- and else the rest
+-- if the remaining count is not 0, the line has the rest
 pub plain_subtracted : (t less rest : ℕ × ℤ) (q : Option Key) → rest ≡ (t.0 - less.0, t.1 -ℤ less.1) → LeavesCountSum less (fin.get (plain_totals t) q) → (rest.0 ≡ 0 → ⊥) → plain_totals rest ≡ without_count_sum (plain_totals t) q less
 plain_subtracted t less rest q is there some =
     retracted_part (one_line t) (one_line rest) None less t rest refl (set_plain t rest) is some
     ∙ ap (λ k. without_count_sum (plain_totals t) k less) (sym (retracted_key t less q there))
 
--- the space that a join has under no key
+-- a join has capacity for the line under no key
 pub plain_capacity : (m : Totals) (t : ℕ × ℤ) → CanJoin m (plain_totals t) → count_in (fin.get m None) + t.0 ≤ 2 ^ 26
 plain_capacity m t can = subst (λ o. count_in (fin.get m None) + count_in o ≤ 2 ^ 26) (get_plain t) (can None)
 
--- and what comes of it
+-- joining the line is adding its count and sum under no key
 pub plain_joined : (m : Totals) (t : ℕ × ℤ) → with_count_sum m None t ≡ joined_totals m (plain_totals t)
 plain_joined m t = joined-one add_count_sums m None t

@@ -1,4 +1,4 @@
--- Totals that are made anew of their entries, one after another.
+-- Totals that are made anew from their entries, one after another.
 use Rattle.std.proofs.Common.{◌≡◌, ℕ, ◌^◌, ◌≤◌, refl, ap, ◌∙◌, Option, None, Some, arith}
 use Rattle.std.specs.Prelude.{ℤ, IfSome}
 use Rattle.std.specs.FinMap as fin
@@ -15,7 +15,7 @@ merged_none : (o : Option (ℕ × ℤ)) → merge_two add_count_sums None o ≡ 
 merged_none None = refl
 merged_none (Some t) = refl
 
--- what is joined to nothing
+-- totals that are joined to empty totals are unchanged
 joined_alone : (n : Totals) → joined_totals fin.empty n ≡ n
 joined_alone n = same _ _ (λ q. get-joined add_count_sums fin.empty n q ∙ ap (λ o. merge_two add_count_sums o (fin.get n q)) (fin.get-empty line_cmp q) ∙ merged_none (fin.get n q))
 

@@ -1,4 +1,4 @@
--- Totals with a count and a sum more or less under one key, and with all of another's joined.
+-- Totals with a count and a sum added or subtracted under one key, and totals that are joined.
 use Rattle.std.proofs.Common.{◌≡◌, ℕ, ◌+◌, ◌-◌, ◌^◌, ◌≤◌, ◌==◌, Bool, true, false, cond, refl, sym, ap, ◌∙◌, subst, Option, None, Some, arith}
 use Rattle.std.specs.Prelude.{ℤ, ◌-ℤ◌, IfSome}
 use Rattle.std.specs.Ordering.{eq_by_cmp}
@@ -28,7 +28,7 @@ less_of_one m k v (Some t) = refl
 pub without_count_sum-one : (m : Totals) (k : Option Key) (v : ℤ) → without_count_sum m k (1, v) ≡ without_pair m (k, v)
 without_count_sum-one m k v = less_of_one m k v (fin.get m k)
 
--- the count that a body reads is that of the pair
+-- the count that a body reads is the count of the pair
 pub no_count : {t : ℕ × ℤ} {count : ℕ} {sum : ℤ} → (count, sum) ≡ t → count ≡ 0 → t.0 ≡ 0
 no_count is none = ap (λ (u : ℕ × ℤ). u.0) (sym is) ∙ none
 
@@ -62,7 +62,7 @@ AreCountSums-with m k more all h capacity = AreCountSums-insert m k (with_more a
   more_valid_sums None there capacity = h
   more_valid_sums (Some t) there capacity = sum_valid_sums t more there h capacity
 
--- what goes with a count of which nothing is left, and what stays else
+-- a key whose remaining count is 0 is removed, and any other key keeps the rest
 pub last_goes : (m : Totals) (k : Option Key) (less t rest : ℕ × ℤ) → rest ≡ (t.0 - less.0, t.1 -ℤ less.1) → less.0 ≤ t.0 → rest.0 ≡ 0 → fin.remove m k ≡ without_less m k less (Some t)
 last_goes m k less t rest is low none =
     let same_count : t.0 - less.0 ≡ 0 = sym (ap (λ (r : ℕ × ℤ). r.0) is) ∙ none in
@@ -87,7 +87,7 @@ AreCountSums-without m k less all there = at_key (fin.get m k) (all k) there whe
   at_key None h there = all
   at_key (Some t) h there = rest_valid_sums _ m k less t refl all h there.0 there.1
 
--- what was set last is removed, if nothing is left of it
+-- the entry that was set last is removed, if its remaining count is 0
 pub retracted_whole : (old mid new : Entries (ℕ × ℤ)) (k : Option Key) (less t rest : ℕ × ℤ) → Some t ≡ at old k → IsSet old mid k (Some t) → IsSet mid new k None → rest ≡ (t.0 - less.0, t.1 -ℤ less.1) → LeavesCountSum less (at old k) → rest.0 ≡ 0 → totals_of new ≡ without_count_sum (totals_of old) k less
 retracted_whole old mid new k less t rest found set gone is there none =
     let has = subst (LeavesCountSum less) (sym found) there in
@@ -95,7 +95,7 @@ retracted_whole old mid new k less t rest found set gone is there none =
     ∙ last_goes (totals_of old) k less t rest is has.0 none
     ∙ ap (without_less (totals_of old) k less) (found ∙ sym (get_at old k))
 
--- and if something is left, that is set
+-- the rest is set, if its count is not 0
 pub retracted_part : (old new : Entries (ℕ × ℤ)) (k : Option Key) (less t rest : ℕ × ℤ) → Some t ≡ at old k → IsSet old new k (Some rest) → rest ≡ (t.0 - less.0, t.1 -ℤ less.1) → (rest.0 ≡ 0 → ⊥) → totals_of new ≡ without_count_sum (totals_of old) k less
 retracted_part old new k less t rest found set is some =
     set_inserts old new k rest set

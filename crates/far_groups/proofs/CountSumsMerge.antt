@@ -1,4 +1,4 @@
--- Totals to which another's entries are added one after another, and from which they are retracted again.
+-- Totals to which the entries of other totals are added one after another, and from which they are retracted again.
 use Rattle.std.proofs.Common.{◌≡◌, ℕ, ◌+◌, ◌-◌, ◌^◌, ◌≤◌, ◌==◌, true, false, cond, [], ◌∷◌, ◌++◌, refl, sym, ap, ◌∙◌, subst, Option, None, Some, arith, zero, suc, take, drop}
 use Rattle.std.specs.Prelude.{ℤ, ◌+ℤ◌, ◌-ℤ◌, IfSome}
 use Rattle.std.specs.Ordering.{eq_by_cmp}
@@ -16,18 +16,18 @@ use Rattle.far_types.proofs.AnswersByKeyMaps.{Entries, with_more, with_all, with
 use Rattle.far_groups.specs.Live.{CanJoin}
 use Rattle.far_groups.specs.CountSums.{totals_of, IsCountSum, AreCountSums, with_count_sum, LeavesCountSum, without_less, without_count_sum, CanRetractAll, without_all}
 
--- the entries of another map can be added one after another
+-- whether the entries of another map can be added one after another
 abbrev pub CanAddAll : Totals → Entries (ℕ × ℤ) → Type 0
 CanAddAll totals [] = Unit {0}
 CanAddAll totals (entry ∷ entries) =
     IsCountSum entry.1 × (count_in (fin.get totals entry.0) + entry.1.0 ≤ 2 ^ 26) × CanAddAll (with_count_sum totals entry.0 entry.1) entries
 
--- the first entries of some that begin with e
+-- the first entries of a list that begins with e
 pub take_split : (n : ℕ) (es rest : Entries (ℕ × ℤ)) (e : Option Key × (ℕ × ℤ)) → es ≡ e ∷ rest → (n ≡ 0 → ⊥) → take n es ≡ e ∷ take (n - 1) rest
 take_split zero es rest e is some = absurd (some refl)
 take_split (suc n) es rest e is some = ap (take (suc n)) is ∙ ap (λ k. e ∷ take k rest) (omega arith)
 
--- the first entries with one more
+-- the first n + 1 entries are the first n entries and the next one
 take_suc : (n : ℕ) (es rest : Entries (ℕ × ℤ)) (e : Option Key × (ℕ × ℤ)) → drop n es ≡ e ∷ rest → (take (suc n) es ≡ take n es ++ e ∷ []) × (drop (suc n) es ≡ rest)
 take_suc zero es rest e is = (ap (take 1) is, ap (drop 1) is)
 take_suc (suc n) [] rest e is = cc
@@ -36,7 +36,7 @@ take_suc (suc n) (x ∷ es) rest e is = (ap (λ ys. x ∷ ys) (take_suc n es res
 pub take_more : (n : ℕ) (es rest : Entries (ℕ × ℤ)) (e : Option Key × (ℕ × ℤ)) → drop n es ≡ e ∷ rest → (take (n + 1) es ≡ take n es ++ e ∷ []) × (drop (n + 1) es ≡ rest)
 take_more n es rest e is = let one : n + 1 ≡ suc n = omega arith in (ap (λ k. take k es) one ∙ (take_suc n es rest e is).0, ap (λ k. drop k es) one ∙ (take_suc n es rest e is).1)
 
--- an entry that was added last is undone
+-- retracting the entry that was added last undoes it
 undone_at : (m : Totals) (k : Option Key) (t : ℕ × ℤ) (o : Option (ℕ × ℤ)) → fin.get m k ≡ o → IfSome o IsCountSum → without_less (fin.insert m k (with_more add_count_sums t o)) k t (Some (with_more add_count_sums t o)) ≡ m
 undone_at m k t None is h =
     let test : (t.0 == t.0) ≡ true = grind (arith, nat_tests) in
@@ -56,7 +56,7 @@ pub leaves : (t : ℕ × ℤ) (o : Option (ℕ × ℤ)) → IfSome o IsCountSum 
 leaves t None h = (omega arith, (omega (arith, ints), omega (arith, ints)))
 leaves t (Some x) h = (omega arith, (omega (arith, ints), omega (arith, ints)))
 
--- all that were joined can be retracted one after another, and then what was there before is left
+-- all joined entries can be retracted one after another, which restores the previous totals
 pub all_undone : (m : Totals) (es : Entries (ℕ × ℤ)) → HaveDistinctKeys es → AreCountSums m → CanRetractAll (joined_totals m (totals_of es)) es × (without_all (joined_totals m (totals_of es)) es ≡ m)
 all_undone m [] h all = (tt, joined-empty add_count_sums m)
 all_undone m (e ∷ es) h all =
@@ -93,7 +93,7 @@ rest_joins m n k t none can q =
       | false ↦ λ h capacity. capacity
     ] refl (subst (λ o. count_in (fin.get m q) + count_in o ≤ 2 ^ 26) (fin.get-insert line_total n k t q) (can q)))
 
--- entries can be added one after another if all can be joined
+-- entries can be added one after another if their totals can be joined
 pub can_add : (m : Totals) (es : Entries (ℕ × ℤ)) → HaveDistinctKeys es → AreCountSums (totals_of es) → CanJoin m (totals_of es) → CanAddAll m es
 can_add m [] h all can = tt
 can_add m (e ∷ es) h all can =
@@ -104,11 +104,11 @@ can_add m (e ∷ es) h all can =
       can_add (with_count_sum m e.0 e.1) es h.1 (rest_count_sums (totals_of es) e.0 e.1 none all) (rest_joins m (totals_of es) e.0 e.1 none can),
     )
 
--- if nothing is left, the first entries are all
+-- if no entry remains, the first entries are all entries
 pub take_whole : (n : ℕ) (es : Entries (ℕ × ℤ)) → drop n es ≡ [] → take n es ≡ es
 take_whole n es none = sym (append-nil (take n es)) ∙ ap (λ rest. take n es ++ rest) (sym none) ∙ take-append-drop n es
 
--- what was added of some entries can be retracted again, and then what was there before is left
+-- the added entries can be retracted again, which restores the previous totals
 pub undone : (m now : Totals) (n : ℕ) (es : Entries (ℕ × ℤ)) → HaveDistinctKeys es → AreCountSums m → now ≡ with_all add_count_sums m (take n es) → CanRetractAll now (take n es) × (without_all now (take n es) ≡ m)
 undone m now n es distinct all is =
     let first = take_distinct n es distinct in

@@ -19,7 +19,7 @@ use Rattle.far_groups.specs.Folds.{with_pairs, CanFoldAll}
 use Rattle.far_groups.proofs.CountSumsLaws.{with_count_sum-one, AreCountSums-with}
 use Rattle.far_groups.proofs.CountSumsMerge.{leaves, with_undone}
 
--- a value comes to a count and a sum either way
+-- a value can be added to either of two counts and sums before they are merged
 both_added : (v : ℤ) (o t : Option (ℕ × ℤ)) → merge_two add_count_sums (Some (count_sum_with v o)) t ≡ merge_two add_count_sums o (Some (count_sum_with v t))
 both_added v None None = refl
 both_added v None (Some y) = let n : 1 + y.0 ≡ y.0 + 1 = omega arith in let s : v +ℤ y.1 ≡ y.1 +ℤ v = omega (arith, ints) in λ i. Some (n i, s i)
@@ -29,7 +29,7 @@ both_added v (Some x) (Some y) =
     let s : (x.1 +ℤ v) +ℤ y.1 ≡ x.1 +ℤ (y.1 +ℤ v) = omega (arith, ints) in
     λ i. Some (n i, s i)
 
--- one pair more in either is one more in both joined
+-- a pair can be added to either of two totals before they are joined
 pair_moved : (m n : Totals) (p : Pair) → joined_totals (with_pair m p) n ≡ joined_totals m (with_pair n p)
 pair_moved m n p = same _ _ (λ q.
     get-joined add_count_sums (with_pair m p) n q
@@ -45,7 +45,7 @@ pair_moved m n p = same _ _ (λ q.
     ∙ ap (merge_two add_count_sums (fin.get m q)) (sym (fin.get-insert line_total n p.0 (count_sum_with p.1 (fin.get n p.0)) q))
     ∙ sym (get-joined add_count_sums m (with_pair n p) q))
 
--- pairs that are folded one after another are joined
+-- folding pairs one after another is joining their totals
 pub with_pairs-joined : (m : Totals) (ps : List Pair) → with_pairs m ps ≡ joined_totals m (totals ps)
 with_pairs-joined m [] = sym (joined-empty add_count_sums m)
 with_pairs-joined m (p ∷ ps) = with_pairs-joined (with_pair m p) ps ∙ pair_moved m (totals ps) p ∙ ap (joined_totals m) (sym (totals-cons p ps))
@@ -54,7 +54,7 @@ count-added : (v : ℤ) (o : Option (ℕ × ℤ)) → (count_sum_with v o).0 ≡
 count-added v None = refl
 count-added v (Some t) = refl
 
--- with a pair of the second folded into the first, the rest can be joined
+-- totals can still be joined if a pair of the second is folded into the first
 rest_joins : (m n : Totals) (p : Pair) → CanJoin m (with_pair n p) → CanJoin (with_pair m p) n
 rest_joins m n p can q =
     subst (λ o. count_in o + count_in (fin.get n q) ≤ 2 ^ 26) (sym (fin.get-insert line_total m p.0 (count_sum_with p.1 (fin.get m p.0)) q))
@@ -78,14 +78,14 @@ can_fold m (p ∷ ps) fits can =
     let capacity = joins p.0 in
     (fits.0, omega arith, can_fold (with_pair m p) ps fits.1 (rest_joins m (totals ps) p joins))
 
--- the count and the sum of one value are some that rows can have
+-- the count and the sum of one value are valid
 valid_sums : (v : ℤ) → FitsSigned w64 v → IsCountSum (1, v)
 valid_sums v h = (omega arith, omega arith, (omega (arith, ints), omega (arith, ints)))
 
 same_some : (p q : Pair) → Some p ≡ Some q → p ≡ q
 same_some p q e = cc
 
--- when a pair comes, those before it are in, and it may come
+-- at a pair's turn, all pairs before it are folded in, and it can be folded
 pub can_at : (m : Totals) (ps : List Pair) (i : ℕ) (p : Pair) → slice_get ps i ≡ Some p → CanFoldAll m ps → FitsSigned w64 p.1 × (count_in (fin.get (with_pairs m (take i ps)) p.0) < 2 ^ 26)
 can_at m [] i p here can = cc
 can_at m (q ∷ ps) zero p here can = subst (λ (r : Pair). FitsSigned w64 r.1 × (count_in (fin.get m r.0) < 2 ^ 26)) (same_some q p here) (can.0, can.1)
@@ -99,20 +99,20 @@ pairs-suc m (q ∷ ps) (suc i) p here = pairs-suc (with_pair m q) ps i p here
 pub pairs-next : (m : Totals) (ps : List Pair) (n i : ℕ) (p : Pair) → slice_get ps i ≡ Some p → n ≡ i + 1 → with_pairs m (take n ps) ≡ with_pair (with_pairs m (take i ps)) p
 pairs-next m ps n i p here next = let one : n ≡ suc i = omega (arith, next) in ap (λ k. with_pairs m (take k ps)) one ∙ pairs-suc m ps i p here
 
--- the first pairs may come if all may
+-- the first pairs can be folded if all pairs can
 pub first_fold : (m : Totals) (ps : List Pair) (i : ℕ) → CanFoldAll m ps → CanFoldAll m (take i ps)
 first_fold m ps zero can = tt
 first_fold m [] (suc i) can = tt
 first_fold m (p ∷ ps) (suc i) can = (can.0, can.1, first_fold (with_pair m p) ps i can.2)
 
--- and so may fewer of them
+-- fewer of the first pairs can be folded, too
 pub fewer_fold : (m : Totals) (ps : List Pair) (n c : ℕ) → n ≤ c → CanFoldAll m (take c ps) → CanFoldAll m (take n ps)
 fewer_fold m ps zero c less can = tt
 fewer_fold m [] (suc n) c less can = tt
 fewer_fold m (p ∷ ps) (suc n) zero less can = absurd (omega arith)
 fewer_fold m (p ∷ ps) (suc n) (suc c) less can = (can.0, can.1, fewer_fold (with_pair m p) ps n c (omega arith) can.2)
 
--- each of them is a number of 64 bits
+-- each value of the first pairs is a number of 64 bits
 pub fits_at : (m : Totals) (ps : List Pair) (n c : ℕ) (p : Pair) → slice_get ps n ≡ Some p → n < c → CanFoldAll m (take c ps) → FitsSigned w64 p.1
 fits_at m [] n c p here less can = cc
 fits_at m (q ∷ ps) n zero p here less can = absurd (omega arith)
@@ -122,12 +122,12 @@ fits_at m (q ∷ ps) (suc n) (suc c) p here less can = fits_at (with_pair m q) p
 with_one : (m : Totals) (p : Pair) → FitsSigned w64 p.1 → count_in (fin.get m p.0) < 2 ^ 26 → AreCountSums m → AreCountSums (with_pair m p)
 with_one m p fits few all = subst AreCountSums (with_count_sum-one m p.0 p.1) (AreCountSums-with m p.0 (1, p.1) all (valid_sums p.1 fits) (omega arith))
 
--- they all are counts and sums that rows can have
+-- folding pairs keeps all counts and sums valid
 pub folded_count_sums : (m : Totals) (ps : List Pair) → AreCountSums m → CanFoldAll m ps → AreCountSums (with_pairs m ps)
 folded_count_sums m [] all can = all
 folded_count_sums m (p ∷ ps) all can = folded_count_sums (with_pair m p) ps (with_one m p can.0 can.1 all) can.2
 
--- the pair that was folded last can be retracted, and then what was there before is left
+-- the pair that was folded last can be retracted, which restores the previous totals
 pub last_leaves : (m : Totals) (p : Pair) → AreCountSums m → LeavesCountSum (1, p.1) (fin.get (with_pair m p) p.0)
 last_leaves m p all = subst (λ t. LeavesCountSum (1, p.1) (fin.get t p.0)) (with_count_sum-one m p.0 p.1) (subst (LeavesCountSum (1, p.1)) (sym (get_inserted m p.0 _)) (leaves (1, p.1) (fin.get m p.0) (all p.0)))
 

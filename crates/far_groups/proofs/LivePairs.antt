@@ -1,4 +1,4 @@
--- What the conditions of a call come to if the totals are those of pairs.
+-- The conditions of a call, for totals made from pairs.
 use Rattle.std.proofs.Common.{◌≡◌, ℕ, suc, ◌+◌, ◌^◌, ◌≤◌, Bool, true, false, cond, List, [], ◌∷◌, length, sym, ap, ◌∙◌, subst, Option, None, Some, arith}
 use Rattle.std.specs.Prelude.{ℤ, IfSome, FitsSigned}
 use Rattle.std.specs.Int.{w64}
@@ -29,7 +29,7 @@ count-added : (v : ℤ) (o : Option (ℕ × ℤ)) (n : ℕ) → count_in o ≤ n
 count-added v None n h = omega arith
 count-added v (Some t) n h = omega arith
 
--- no more pairs stand under a key than are in
+-- whether each key has at most n pairs
 abbrev pub AreFew : Totals → ℕ → Type 0
 AreFew m n = (k : Option Key) → count_in (fin.get m k) ≤ n
 
@@ -46,7 +46,7 @@ pub counted : (ps : List Pair) (k : Option Key) → count_in (fin.get (totals ps
 counted [] k = AreFew-empty k
 counted (p ∷ ps) k = subst (λ m. count_in (fin.get m k) ≤ suc (length ps)) (sym (totals-cons p ps)) (AreFew-with_pair (totals ps) p (length ps) (counted ps) k)
 
--- a sum is one that so many numbers can have
+-- whether a sum is one that so many numbers can have
 abbrev SumFits : Option (ℕ × ℤ) → Type 0
 SumFits o = IfSome o (λ t. IsSumOf t.0 t.1)
 
@@ -69,10 +69,10 @@ pub can_retract : (p : Pair) (ps : List Pair) → PairsFit (p ∷ ps) → CanRet
 can_retract p ps h =
     subst (CanRetract p.1) (sym (ap (λ m. fin.get m p.0) (totals-cons p ps) ∙ get_inserted (totals ps) p.0 (count_sum_with p.1 (fin.get (totals ps) p.0)))) (leaves p.1 (fin.get (totals ps) p.0) (sums_fit ps h.1 p.0))
 
--- those of at most 2^26 pairs can be joined
+-- totals of at most 2^26 pairs, both counted together, can be joined
 pub can_join : (ps qs : List Pair) → length ps + length qs ≤ 2 ^ 26 → CanJoin (totals ps) (totals qs)
 can_join ps qs few k = let one = counted ps k in let other = counted qs k in omega arith
 
--- what at most 2^26 numbers come to is a count and a sum that rows can have
+-- the count and the sum of at most 2^26 numbers are valid
 pub folded : (v : ℤ) (vs : List ℤ) → AllByRecursion (FitsSigned w64) (v ∷ vs) → length (v ∷ vs) ≤ 2 ^ 26 → IsCountSum (count_sum (v ∷ vs))
 folded v vs fits few = (omega arith, few, (int_sum-low (v ∷ vs) fits, int_sum-high (v ∷ vs) fits))

@@ -19,7 +19,7 @@ use Rattle.far_groups.specs.Numbers.{numbered, by_number, number_key, number_of,
 abbrev pub Numbers : Type 0
 Numbers = List (ℤ × (ℕ × ℤ))
 
--- what a tree map of numbers finds
+-- the count and the sum that a tree map of numbers finds
 abbrev pub number_at : Numbers → ℤ → Option (ℕ × ℤ)
 number_at es n = lookup (is_at (int_cmp n)) es
 
@@ -38,13 +38,13 @@ at_text (e ∷ es) t = at_text es t
 pub get_number : (es : Numbers) (n : ℤ) → fin.get (by_number es) (number_key n) ≡ number_at es n
 get_number es n = get_at (numbered es) (number_key n) ∙ at_number es n
 
--- under a key that is no number there is nothing
+-- a key that is not a number finds nothing
 pub get_other : (es : Numbers) (k : Option Key) → number_of k ≡ None → fin.get (by_number es) k ≡ None
 get_other es None h = get_at (numbered es) None ∙ at_none es
 get_other es (Some (Int n)) h = cc
 get_other es (Some (Text t)) h = get_at (numbered es) (Some (Text t)) ∙ at_text es t
 
--- at the number n the new lines have o, and at each other number what the old ones have
+-- whether the new lines have o at the number n, and are unchanged at each other number
 abbrev pub IsPut : Numbers → Numbers → ℤ → Option (ℕ × ℤ) → Type 0
 IsPut old new n o = (m : ℤ) → number_at new m ≡ cond (is_at (int_cmp n) m) o (number_at old m)
 
@@ -64,7 +64,7 @@ below : (n : ℤ) (es : Numbers) → AllByRecursion (λ m. int_cmp n m ≡ Less)
 below n [] h = tt
 below n (e ∷ es) h = (h.0, below n es h.1)
 
--- numbers that ascend are keys that ascend
+-- ascending numbers are ascending keys
 pub ascend : (es : Numbers) → IsStrictlySortedBy int_cmp (keys_of es) → IsStrictlySortedBy line_cmp (keys_of (numbered es))
 unfolding IsStrictlySortedBy
 ascend [] h = tt

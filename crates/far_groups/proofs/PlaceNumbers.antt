@@ -61,7 +61,7 @@ side zero rank = inr (omega arith)
 side (suc below) zero = inl (omega arith)
 side (suc below) (suc rank) = elim (side below rank) [ inl l ↦ inl (omega arith) | inr l ↦ inr (omega arith) ]
 
--- of a rank in the list the place is in the list
+-- a rank within the list has a place within the list
 pub rank_within : (n rank : ℕ) → rank < n → rank_place (n / 2) rank < n
 rank_within n rank l = elim (side (n / 2) rank) [
   | inl low ↦ let is = rank_low (n / 2) rank low in omega (arith, is, low)
@@ -80,7 +80,7 @@ rank_apart below i j l e = elim (side below i) [
   odd_even : (x y : ℕ) → 0 < x → x * 2 - 1 ≡ y * 2 → ⊥
   odd_even x y z h = let parity : (x * 2 - 1) % 2 ≡ 1 = omega (arith, z) in omega (arith, parity, h)
 
--- each place in the list has a rank there
+-- each place within the list has a rank within the list
 pub ranked_place : (n k : ℕ) → k < n → (rank : ℕ) × (rank < n) × (k ≡ rank_place (n / 2) rank)
 ranked_place n k l = elim (halves k) [
   | inl e ↦ (n / 2 + k / 2, omega (arith, e, l), (let is = rank_high (n / 2) (n / 2 + k / 2) (omega arith) in omega (arith, is, e)))

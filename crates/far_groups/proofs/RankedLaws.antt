@@ -1,4 +1,4 @@
--- The entries of places in the order of their numbers: what is found there, and that they ascend.
+-- The entries of a list in ascending order of their numbers: lookups, and that the numbers ascend.
 use Rattle.std.proofs.Common.{◌≡◌, ℕ, zero, suc, ◌+◌, ◌-◌, ◌/◌, ◌≤◌, ◌<◌, ◌==◌, Bool, true, false, cond, List, [], ◌∷◌, ◌++◌, length, get_or, refl, sym, ap, ◌∙◌, subst, Option, None, Some, arith, inl, inr}
 use Rattle.std.specs.Prelude.{ℤ, pos, ◌<ℤ◌}
 use Rattle.std.specs.List.{AllByRecursion}
@@ -21,7 +21,7 @@ use Rattle.far_groups.proofs.NumbersLaws.{get_other}
 use Rattle.far_groups.proofs.DenseLaws.{Places, lines_from, other_place, none_behind, none_elsewhere, at_place}
 use Rattle.far_groups.proofs.PlaceNumbers.{number_place, number_there, side, rank_within, rank_apart, ranked_place, rank_number_low, rank_number_high}
 
--- the count and the sum of a rank
+-- the count and the sum at a rank
 abbrev pub of_rank : Places → ℕ → ℕ × ℤ
 of_rank ts rank = get_or ts (rank_place (length ts / 2) rank) (0, pos 0)
 
@@ -32,7 +32,7 @@ either : (b : Bool) (o : Option (ℕ × ℤ)) → cond b o o ≡ o
 either true o = refl
 either false o = refl
 
--- where the place is of none of the ranks nothing is found
+-- a place that has none of these ranks finds nothing
 module _ (ts : Places) (k : ℕ) where
   none_ranked : (rank more : ℕ) → ((j : ℕ) → rank ≤ j → j < rank + more → k ≡ rank_place (length ts / 2) j → ⊥) → at (numbered (ranked ts rank more)) (place_key k) ≡ None
   none_ranked rank zero other = refl
@@ -62,7 +62,7 @@ module _ (ts : Places) (k : ℕ) where
         ∙ found_ranked (rank + 1) more j (omega (arith, high)) (omega (arith, m)) is
   ]
 
-  -- in the order of the numbers the same is found as in that of the places
+  -- a lookup finds the same in the order of numbers as in the order of places
   found_alike : at (numbered (in_order ts)) (place_key k) ≡ at (lines_from 0 ts) (place_key k)
   found_alike = elim (side (length ts) k) [
     | inl within ↦
@@ -75,7 +75,7 @@ module _ (ts : Places) (k : ℕ) where
         ∙ sym (none_behind 0 k ts (omega (arith, behind)))
   ]
 
--- their totals are those of the places
+-- entries in ascending order have the totals of the list
 pub in_order_totals : (ts : Places) → by_number (in_order ts) ≡ by_place ts
 in_order_totals ts = same _ _ alike where
   alike : (q : Option Key) → fin.get (by_number (in_order ts)) q ≡ fin.get (by_place ts) q
@@ -119,20 +119,20 @@ ranked_ascend ts rank (suc more) =
 pub in_order_ascends : (ts : Places) → IsStrictlySortedBy line_cmp (keys_of (numbered (in_order ts)))
 in_order_ascends ts = ranked_ascend ts 0 (length ts)
 
--- the lines of the first ranks, and those behind them
+-- whether these are the lines of all lower ranks
 abbrev pub LinesBefore : Places → ℕ → List (Option Key × ℕ × ℤ) → Type 0
 LinesBefore ts rank lines = lines ++ number_lines (ranked ts rank (length ts - rank)) ≡ number_lines (in_order ts)
 
 next_ranked : (ts : Places) (rank : ℕ) → rank < length ts → ranked ts rank (length ts - rank) ≡ entry_of (rank_place (length ts / 2) rank) (of_rank ts rank) ++ ranked ts (rank + 1) (length ts - (rank + 1))
 next_ranked ts rank l = let more : length ts - rank ≡ suc (length ts - (rank + 1)) = omega (arith, l) in ap (ranked ts rank) more
 
--- a place at which nothing stands has no line
+-- a place whose count is 0 has no line
 pub no_line : (ts : Places) (rank : ℕ) (lines : List (Option Key × ℕ × ℤ)) → rank < length ts → (of_rank ts rank).0 ≡ 0 → LinesBefore ts rank lines → LinesBefore ts (rank + 1) lines
 no_line ts rank lines l none before =
     let entry : entry_of (rank_place (length ts / 2) rank) (of_rank ts rank) ≡ [] = ap (λ (n : ℕ). cond (n == 0) [] ((place_number (rank_place (length ts / 2) rank), of_rank ts rank) ∷ [])) none in
     sym (ap (λ es. lines ++ number_lines es) (next_ranked ts rank l ∙ ap (λ es. es ++ ranked ts (rank + 1) (length ts - (rank + 1))) entry)) ∙ before
 
--- and one at which something does has one
+-- a place with another count has one line
 pub one_line_more : (ts : Places) (rank : ℕ) (t : ℕ × ℤ) (lines : List (Option Key × ℕ × ℤ)) → rank < length ts → of_rank ts rank ≡ t → (t.0 == 0) ≡ false → LinesBefore ts rank lines → LinesBefore ts (rank + 1) (lines ++ (place_key (rank_place (length ts / 2) rank), t.0, t.1) ∷ [])
 one_line_more ts rank t lines l is some before =
     let place = rank_place (length ts / 2) rank in

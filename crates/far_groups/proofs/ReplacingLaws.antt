@@ -21,7 +21,7 @@ use Rattle.far_groups.proofs.DenseLaws.{Places, lines_from, set_place}
 use Rattle.far_groups.proofs.DensePlaces.{get_place, stands, gone, by_count}
 use Rattle.far_groups.proofs.ByKeyLaws.{one_line, get_plain, get_under_key, set_plain}
 
--- what is set last stays
+-- of two inserts under a key, the last one counts
 insert_over : (m : Totals) (k : Option Key) (x y : ℕ × ℤ) → fin.insert (fin.insert m k x) k y ≡ fin.insert m k y
 insert_over m k x y = same _ _ (λ q.
     fin.get-insert line_total (fin.insert m k x) k y q
@@ -34,7 +34,7 @@ one_less from to t =
     let count : t.0 + 1 - 1 ≡ t.0 = omega arith in
     λ i. (count i, (t.1 +ℤ to) -ℤ from)
 
--- of the values under a key, as many stay
+-- replacing a value keeps the count
 pub replaced_inserts : (m : Totals) (k : Option Key) (from to : ℤ) (t : ℕ × ℤ) → fin.get m k ≡ Some t → 1 ≤ t.0 → fin.insert m k (replaced from to t) ≡ with_replaced m k from to
 replaced_inserts m k from to t there some =
     let added = count_sum_with to (Some t) in
@@ -50,11 +50,11 @@ replaced_inserts m k from to t there some =
 pub replaced_valid_sums : (t : ℕ × ℤ) (from to : ℤ) → IsCountSum t → CanRetract from (Some t) → FitsSigned w64 to → IsCountSum (replaced from to t)
 replaced_valid_sums t from to valid_sums there fits = (valid_sums.0, valid_sums.1, (omega (arith, ints, valid_sums, there, fits), omega (arith, ints, valid_sums, there, fits)))
 
--- a value that can be replaced stands at its place
+-- a place where a value can be replaced has a count and a sum
 pub replacing_stands : (from : ℤ) (t : ℕ × ℤ) → CanRetract from (standing t) → standing t ≡ Some t
 replacing_stands from t there = by_count t (standing t ≡ Some t) (λ none. absurd (subst (CanRetract from) (gone t none) there)) (stands t)
 
--- a count and a sum that are set at a place
+-- setting a count and a sum at a place
 pub place_written : (ts : Places) (k : ℕ) (u : ℕ × ℤ) → k < length ts → IsCountSum u → by_place (slice_set ts k u) ≡ fin.insert (by_place ts) (place_key k) u
 place_written ts k u within valid_sums =
     set_inserts (lines_from 0 ts) (lines_from 0 (slice_set ts k u)) (place_key k) u
@@ -70,7 +70,7 @@ place_replaced ts k t u from to within is made valid_sums there =
     ∙ ap (fin.insert (by_place ts) (place_key k)) made
     ∙ replaced_inserts (by_place ts) (place_key k) from to t some one
 
--- a value that can be replaced under no key alone has no key
+-- under no key alone, a value can be replaced only under no key
 replaced_key : (t : ℕ × ℤ) (from : ℤ) (q : Option Key) → CanRetract from (fin.get (plain_totals t) q) → q ≡ None
 replaced_key t from None there = refl
 replaced_key t from (Some k) there = absurd (subst (CanRetract from) (get_under_key t (Some k) refl) there)

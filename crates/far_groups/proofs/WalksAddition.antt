@@ -1,4 +1,4 @@
--- What is added under each key of a map while a walk goes along another.
+-- The result of adding under each key of a map while a walk goes along another map.
 use Rattle.std.proofs.Common.{◌≡◌, ap, ◌∙◌, sym, refl, subst, Bool, true, false, cond, Option, None, Some, [], ◌∷◌}
 use Rattle.std.specs.Prelude.{ℕ, ℤ, IfSome}
 use Rattle.std.specs.Map.Calls.{RetainsPairs}
@@ -13,7 +13,7 @@ use Rattle.far_groups.specs.CountSums.{IsAddend}
 use Rattle.far_groups.specs.Walks.{Lines, count_sum_at, added_to}
 use Rattle.far_groups.proofs.WalksLaws.{Ascend, Finds, rest_ascend, finds_rest}
 
--- what all keys have is so
+-- whether P holds for the counts and sums of all keys
 abbrev pub All_have : (ℕ × ℤ → Type 0) → Lines → Type 0
 All_have P es = (q : Option Key) → IfSome (count_sum_at es q) P
 
@@ -26,7 +26,7 @@ tail_has P e es up h q = at_test (is_at (line_cmp q) e.0) refl (h q) where
   at_test true is own = subst (λ o. IfSome o P) (sym (ap (count_sum_at es) (same_key q e.0 is) ∙ (sorted_distinct (e ∷ es) up).0)) tt
   at_test false is own = own
 
--- what a call leaves of a value, if the walk finds this
+-- whether a call writes this value, if the walk finds this count and sum
 abbrev pub IsAdded : ℕ × ℤ → Option (ℕ × ℤ) → ℕ × ℤ → Type 0
 IsAdded old None new = new ≡ old
 IsAdded old (Some more) new = IsAddend old → IsAddend more → new ≡ add_count_sums old more
@@ -35,7 +35,7 @@ exact : (old new : ℕ × ℤ) (o : Option (ℕ × ℤ)) → IsAddend old → If
 exact old new None fits more is = ap Some is
 exact old new (Some x) fits more is = ap Some (is fits more)
 
--- T is a call of the closure, which keeps the pair, writes what the walk finds more, and leaves the walk past the key
+-- T is a call of the closure: it keeps the pair, adds the count and the sum that the walk finds, and leaves the walk after the key
 module _ {F : Type 0} (T : F → Option Key → ℕ × ℤ → Bool → ℕ × ℤ → F → Type 0) (walk : F → Lines)
     (calls : (f : F) (k : Option Key) (v : ℕ × ℤ) (b : Bool) (w : ℕ × ℤ) (g : F) → T f k v b w g → (b ≡ true) × IsAdded v (count_sum_at (walk f) k) w × ((q : Option Key) → line_cmp k q ≡ Less → count_sum_at (walk g) q ≡ count_sum_at (walk f) q)) (others : Lines) (fit : All_have IsAddend others) where
   pub all_added : (f : F) (es retained : Lines) → Ascend es → All_have IsAddend es → Finds (walk f) others es → RetainsPairs T f es retained → (q : Option Key) → count_sum_at retained q ≡ added_to (count_sum_at others q) (count_sum_at es q)

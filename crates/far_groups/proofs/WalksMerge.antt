@@ -1,4 +1,4 @@
--- New keys with a count of 0, and then more under each key of both, come to both maps joined.
+-- Inserting the new keys with a count of 0, and then adding under each key, joins two maps.
 use Rattle.std.proofs.Common.{◌≡◌, ◌+◌, ◌^◌, ◌≤◌, ap, ◌∙◌, sym, refl, subst, Option, None, Some, arith}
 use Rattle.std.specs.Prelude.{ℕ, ℤ, pos, ◌+ℤ◌, IfSome}
 use Rattle.std.proofs.lemmas.Int.{ints}
@@ -33,7 +33,7 @@ others_addend : (b : Option (ℕ × ℤ)) → IfSome b IsCountSum → IfSome b I
 others_addend None h = tt
 others_addend (Some u) h = (h.1, h.2)
 
--- of a map in which the new keys are reserved
+-- for a map in which the new keys are reserved
 module _ (old mid others : Lines) (reserved : totals_of mid ≡ joined_totals (totals_of old) (totals_of (new_lines old others))) where
   mid_at : (q : Option Key) → count_sum_at mid q ≡ merge_two add_count_sums (count_sum_at old q) (new_count_sum (count_sum_at old q) (count_sum_at others q))
   mid_at q =
@@ -41,14 +41,14 @@ module _ (old mid others : Lines) (reserved : totals_of mid ≡ joined_totals (t
       ∙ (λ i. merge_two add_count_sums (get_at old q i) (get_at (new_lines old others) q i))
       ∙ ap (merge_two add_count_sums (count_sum_at old q)) (new_at old others q)
 
-  -- sums under each key of both fit
+  -- the counts and sums of both maps can be added under each key
   pub addends_fit : AreCountSums (totals_of old) → AreCountSums (totals_of others) → (q : Option Key) → AreAddends (count_sum_at mid q) (count_sum_at others q)
   addends_fit all others_all q = (
     subst (λ o. IfSome o IsAddend) (sym (mid_at q)) (addend (count_sum_at old q) (count_sum_at others q) (subst (λ o. IfSome o IsCountSum) (get_at old q) (all q))),
     others_addend (count_sum_at others q) (subst (λ o. IfSome o IsCountSum) (get_at others q) (others_all q)),
   )
 
-  -- and when all are added, both are merged
+  -- adding all of them joins both maps
   pub walked_join : (now : Lines) → ((q : Option Key) → count_sum_at now q ≡ added_to (count_sum_at others q) (count_sum_at mid q)) → totals_of now ≡ joined_totals (totals_of old) (totals_of others)
   walked_join now added = same _ _ (λ q.
       get_at now q ∙ added q ∙ ap (added_to (count_sum_at others q)) (mid_at q) ∙ both (count_sum_at old q) (count_sum_at others q)

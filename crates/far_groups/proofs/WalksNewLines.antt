@@ -1,4 +1,4 @@
--- What the lines of new keys have under a key.
+-- The counts and sums that the lines of new keys have under a key.
 use Rattle.std.proofs.Common.{◌≡◌, ap, ◌∙◌, sym, refl, subst, not, Bool, true, false, cond, Option, None, Some, [], ◌∷◌, map, filter}
 use Rattle.std.specs.Prelude.{ℕ, ℤ, pos, is_some}
 use Rattle.std.specs.Option.{option_or}
@@ -22,7 +22,7 @@ use Rattle.far_groups.specs.Walks.{Lines, count_sum_at, new_lines}
 use Rattle.far_groups.proofs.WalksLaws.{Ascend, new_here, known_here}
 use Rattle.far_groups.proofs.WalksReserve.{AreAbsent}
 
--- nothing if the key is there, or if it does not come
+-- the line of a new key: none if the map has the key, or if the other map does not
 abbrev pub new_count_sum : Option (ℕ × ℤ) → Option (ℕ × ℤ) → Option (ℕ × ℤ)
 new_count_sum there None = None
 new_count_sum None (Some more) = Some (0, pos 0)
@@ -32,7 +32,7 @@ none_known : (t : ℕ × ℤ) (o : Option (ℕ × ℤ)) → new_count_sum (Some 
 none_known t None = refl
 none_known t (Some more) = refl
 
--- by whether the key of the first line is there
+-- proof by cases: the map has the key of the first line, or it does not
 at_first : (es : Lines) (k : Option Key) → (P : Type 0) → (count_sum_at es k ≡ None → P) → ((t : ℕ × ℤ) → count_sum_at es k ≡ Some t → P) → P
 at_first es k P new known = by_count_sum (count_sum_at es k) refl where
   by_count_sum : (o : Option (ℕ × ℤ)) → count_sum_at es k ≡ o → P
@@ -63,7 +63,7 @@ new_absent es (e ∷ others) = at_first es e.0 _
     (λ none. subst (AreAbsent es) (sym (new_here es others e none)) ((none, refl), new_absent es others))
     (λ t some. subst (AreAbsent es) (sym (known_here es others e (not_none _ t some))) (new_absent es others))
 
--- their keys are those of the others that are not there
+-- the keys of the new lines are the keys that only the other map has
 keys_new : (es others : Lines) → keys_of (new_lines es others) ≡ filter (λ k. not (is_some (count_sum_at es k))) (keys_of others)
 keys_new es [] = refl
 keys_new es (e ∷ others) = at_test (not (is_some (count_sum_at es e.0))) (keys_new es others) where
@@ -76,12 +76,12 @@ keys_new es (e ∷ others) = at_test (not (is_some (count_sum_at es e.0))) (keys
 pub new_ascend : (es others : Lines) → Ascend others → Ascend (new_lines es others)
 new_ascend es others up = subst (IsStrictlySortedBy line_cmp) (sym (keys_new es others)) (IsStrictlySortedBy-filter line_cmp _ (keys_of others) up)
 
--- lines whose keys ascend are known by what they have under each key
+-- lists of lines whose keys ascend are equal if lookups find the same
 same_lines : (xs ys : Lines) → Ascend xs → Ascend ys → ((q : Option Key) → count_sum_at xs q ≡ count_sum_at ys q) → xs ≡ ys
 same_lines xs ys up also h =
     sym (entries-by_key xs up) ∙ ap fin.entries (same (totals_of xs) (totals_of ys) (λ q. get_at xs q ∙ h q ∙ sym (get_at ys q))) ∙ entries-by_key ys also
 
--- a map that is made of lines whose keys ascend has these
+-- a map that is made from lines whose keys ascend has these lines
 pub made_of : (lines : Lines) (m : BTreeMap (Option Key) (ℕ × ℤ)) → Ascend lines → IsFromIterResult line_cmp lines m → m.entries ≡ lines
 made_of lines m up made =
     same_lines m.entries lines made.1 up (λ q. made.0 q ∙ update_all_none (eq_by_cmp_equiv line_total) (eq_by_cmp line_cmp) (λ x y. refl) lines q (IsDistinct-from_sorted line_cmp (keys_of lines) up))
@@ -92,7 +92,7 @@ put_or_there None (Some u) = refl
 put_or_there (Some t) None = refl
 put_or_there (Some t) (Some u) = refl
 
--- the new lines put into what is there are both joined
+-- inserting the new lines joins them to the map
 pub new_joined : (es now others : Lines) → Ascend others → ((q : Option Key) → count_sum_at now q ≡ update_all (eq_by_cmp line_cmp) (count_sum_at es) (new_lines es others) q) → totals_of now ≡ joined_totals (totals_of es) (totals_of (new_lines es others))
 new_joined es now others up put = same _ _ (λ q.
     let lines = new_lines es others in

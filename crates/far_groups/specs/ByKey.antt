@@ -1,4 +1,4 @@
--- Counts and sums by key: under no key alone, in a list by small number, in a tree of numbers, or in one of keys.
+-- Counts and sums by key: under no key alone, in a list by small number, in a tree of numbers, or in a tree of keys.
 use Rattle.std.specs.Prelude.{ℕ, ℤ, [], ◌∷◌, Option, None, IsSome}
 use Rattle.far_types.specs.declared.key.Key.{Key}
 use Rattle.far_types.specs.Answers.{Totals}
@@ -24,7 +24,7 @@ in_form (Keyed keys) = totals_of keys.entries
 abbrev pub totals_in : ByKey → Totals
 totals_in by_key = in_form by_key.form
 
--- a count and a sum under a key may need another form, unless both they and those that are there stand under no key
+-- whether a count and a sum under a key may need another form; a form without keys needs one only for an actual key
 abbrev pub MayBeElsewhere : Form → Option Key → Type 0
 MayBeElsewhere (Plain count_sum) key = IsSome key
 MayBeElsewhere (Dense dense) key = Unit {0}

@@ -8,18 +8,18 @@ use Rattle.far_types.specs.Answers.{Totals}
 use Rattle.far_types.specs.Effects.{with_pair, count_in}
 use Rattle.far_groups.specs.CountSums.{AreCountSums}
 
--- totals with some pairs more
+-- totals with pairs folded into them
 abbrev pub with_pairs : Totals → List Pair → Totals
 with_pairs totals [] = totals
 with_pairs totals (pair ∷ pairs) = with_pairs (with_pair totals pair) pairs
 
--- pairs can be folded one after another. Each value is a number of 64 bits, and its key has fewer than 2^26 values when its turn comes
+-- whether pairs can be folded one after another: each value is a number of 64 bits, and its key has fewer than 2^26 values by then
 abbrev pub CanFoldAll : Totals → List Pair → Type 0
 CanFoldAll totals [] = Unit {0}
 CanFoldAll totals (pair ∷ pairs) = FitsSigned w64 pair.1
     × (count_in (fin.get totals pair.0) < 2 ^ 26) × CanFoldAll (with_pair totals pair) pairs
 
--- totals are those of a start with some pairs folded into it
+-- whether totals result from a start with pairs folded into it
 abbrev pub HasFolded : Totals → List Pair → Totals → Type 0
 HasFolded start pairs totals = AreCountSums start × CanFoldAll start pairs
     × (totals ≡ with_pairs start pairs)

@@ -9,7 +9,7 @@ use Rattle.far_groups.specs.CountSums.{totals_of}
 abbrev pub number_key : ℤ → Option Key
 number_key number = Some (Int number)
 
--- the number of a key that is one
+-- the number of a key that is a number
 abbrev pub number_of : Option Key → Option ℤ
 number_of None = None
 number_of (Some (Int number)) = Some number
@@ -19,14 +19,14 @@ number_of (Some (Text text)) = None
 abbrev pub numbered : List (ℤ × (ℕ × ℤ)) → List (Option Key × (ℕ × ℤ))
 numbered entries = map (λ (entry : ℤ × (ℕ × ℤ)). (number_key entry.0, entry.1)) entries
 
--- their totals
+-- the totals of entries by number
 abbrev pub by_number : List (ℤ × (ℕ × ℤ)) → Totals
 by_number entries = totals_of (numbered entries)
 
--- a line of an answer
+-- an entry by number, as a line of an answer
 abbrev pub number_line : ℤ × (ℕ × ℤ) → Option Key × ℕ × ℤ
 number_line entry = (number_key entry.0, entry.1.0, entry.1.1)
 
--- the lines of an answer, in the order of their numbers
+-- entries by number, as the lines of an answer
 abbrev pub number_lines : List (ℤ × (ℕ × ℤ)) → List (Option Key × ℕ × ℤ)
 number_lines entries = map number_line entries

@@ -8,25 +8,25 @@ use Rattle.far_types.specs.declared.key.Key.{Key}
 use Rattle.far_types.specs.Keys.{line_cmp}
 use Rattle.far_types.specs.Effects.{add_count_sums, merge_two}
 
--- keys, each with a count and a sum, as a map has them
+-- the lines of a map: keys, each with a count and a sum
 abbrev pub Lines : Type 0
 Lines = List (Option Key × (ℕ × ℤ))
 
--- the lines of a map that a walk has ahead of it: the one where it is, and those after it
+-- the lines that a walk has not passed: the current one, and all after it
 abbrev pub ahead : Option (Bor (Option Key) × Bor (ℕ × ℤ)) → Lines → Lines
 ahead None rest = []
 ahead (Some next) rest = (next.0.now, next.1.now) ∷ rest
 
--- the count and the sum of lines under a key
+-- the count and the sum that lines have under a key
 abbrev pub count_sum_at : Lines → Option Key → Option (ℕ × ℤ)
 count_sum_at lines key = lookup (is_at (line_cmp key)) lines
 
--- the keys that are only in the others, each with a count of 0 and a sum of 0
+-- the keys that only the other lines have, each with a count of 0 and a sum of 0
 abbrev pub new_lines : Lines → Lines → Lines
 new_lines lines others = map (λ line. (line.0, (0, pos 0)))
     (filter (λ line. not (is_some (count_sum_at lines line.0))) others)
 
--- a count and a sum with more added, if there is more; a key that is not there is not added
+-- a count and a sum with more added, if there is more; a key without a count and a sum still has none
 abbrev pub added_to : Option (ℕ × ℤ) → Option (ℕ × ℤ) → Option (ℕ × ℤ)
 added_to more None = None
 added_to more (Some count_sum) = merge_two add_count_sums (Some count_sum) more

@@ -1,5 +1,5 @@
-// Counts and sums by key, in one of four forms. Mostly there is the one key of an aggregate without key column, or all keys are small
-// numbers.
+// Counts and sums by key, in one of four forms. Mostly there is only the one key of an aggregate without key column, or all keys are
+// small numbers.
 ghost use Rattle.std.specs.Prelude.{ℕ, ◌≡◌, ◌+◌, ◌^◌, ◌≤◌, ◌<◌, ◌∷◌, [], pos, None, unwrap_or, IsSome, IfSome, IfNone, IfOk, IfErr, OnOk, OnErr};
 ghost use Rattle.std.specs.Option.{option_copied};
 ghost use Rattle.std.specs.FinMap as fin;
@@ -29,7 +29,7 @@ enum Form {
     Plain(CountSum),
     /// A list by number, in which a look-up is an index.
     Dense(Dense),
-    /// A tree of bare numbers, in which a look-up takes a third of the time.
+    /// A tree of bare numbers. A look-up takes a third of the time that it takes in a tree of keys.
     Numbered(Numbers),
     /// A tree of keys.
     Keyed(CountSums),
@@ -37,22 +37,22 @@ enum Form {
 
 /// Counts and sums by key. They begin as an empty list:
 /// - A row under no key replaces the empty list. Its count and sum change without a look-up.
-/// - A number without a place in the list moves all into a tree of numbers.
-/// - A tree of many numbers that lie close together becomes a list again (`settle`).
-/// - Any other key without a place in a form moves all into a tree of keys. That stays one.
+/// - A number without a place in the list moves everything into a tree of numbers.
+/// - A tree of many numbers that are close together becomes a list again (`settle`).
+/// - Any other key without a place in a form moves everything into a tree of keys, for good.
 #[derive(Drop)]
 pub struct ByKey {
     alloc: Global,
     form: Form,
-    /// How many numbers a tree needs before it may become a list: twice as many as the last time. So moving them to and fro takes constant
-    /// time a number, on average.
+    /// How many numbers a tree needs before it may become a list: twice as many as the last time. So moving them back and forth takes
+    /// constant time per number, on average.
     many: usize,
 }
 
-/// The first time, a tree needs so many numbers. Smaller ones are as good as lists.
+/// A tree needs this many numbers to become a list for the first time. Smaller trees are as good as lists.
 const MANY: usize = 512;
 
-/// It is asked each time when so many numbers are new.
+/// A tree tries to become a list only when its length is a multiple of this.
 const ASK_EACH: usize = 64;
 
 /// Makes empty counts and sums: no key has any. Allocates nothing.
@@ -66,7 +66,7 @@ pub fn nothing(alloc: Global) -> ByKey
     }
 }
 
-/// Returns the number of a key that is one.
+/// Returns the number of a key that is a number, or `None` for any other key.
 fn number_of(key: &Option<Key>) -> Option<&i64>
     ensures number { option_copied result ≡ number_of key.now }
     ensures key { IfSome result (λ number. key.now ≡ number_key number.now) }
@@ -77,7 +77,7 @@ fn number_of(key: &Option<Key>) -> Option<&i64>
     }
 }
 
-/// Returns the place of a key that is a number.
+/// Returns the place of a key that is a number, or `None` for any other key.
 #[inline(always)]
 fn place_in(key: &Option<Key>) -> Option<usize>
     ensures some { IfSome result (λ place. key.now ≡ place_key place) }
@@ -121,7 +121,7 @@ fn plain_with_key(
     Ok(keys)
 }
 
-/// Moves counts and sums by number into a tree of keys, and adds a count and a sum under a key that is no number.
+/// Moves counts and sums by number into a tree of keys, and adds a count and a sum under a key that is not a number.
 fn with_key(
     alloc: Global,
     numbers: &Numbers,
@@ -144,7 +144,7 @@ fn with_key(
     Ok(Form::Keyed(keys))
 }
 
-/// Adds a count and a sum under a key to counts and sums by number. Returns a tree of numbers, or one of keys.
+/// Adds a count and a sum under a key to counts and sums by number. Returns a tree of numbers, or a tree of keys for any other key.
 fn in_tree(
     alloc: Global,
     mut numbers: Numbers,
@@ -168,7 +168,8 @@ fn in_tree(
     }
 }
 
-/// Adds a count and a sum under a key without a place to counts and sums by place. Without places and without a key, it allocates nothing.
+/// Adds a count and a sum under a key that has no place in a list, and returns another form. Allocates nothing if the list is empty and
+/// there is no key.
 fn with_new_key(
     alloc: Global,
     dense: &Dense,
@@ -189,7 +190,7 @@ fn with_new_key(
     in_tree(alloc, numbers_of(alloc, dense)?, key, more)
 }
 
-/// Returns the place that a key has in a list, or gets there.
+/// Returns the place that a key has in a list or may get in it.
 fn place_for(dense: &Dense, key: &Option<Key>) -> Option<usize>
     ensures some { IfSome result (λ place. (key.now ≡ place_key place) × (place < 2 ^ 63)) }
     ensures none { IfNone result (fin.get (by_place dense.now.items) key.now ≡ None) }
@@ -206,7 +207,7 @@ fn place_for(dense: &Dense, key: &Option<Key>) -> Option<usize>
     }
 }
 
-/// Adds a count and a sum under a key. If the key is there already, drops the given one.
+/// Adds a count and a sum under a key. If the key is in already, drops the given key.
 pub fn add(by_key: &mut ByKey, key: Option<Key>, more: CountSum) -> Result<(), Refusal>
     requires valid_sums { AreCountSums (totals_in by_key.old) }
     requires more_valid_sums { IsCountSum more }
@@ -260,7 +261,7 @@ pub fn add_under(by_key: &mut ByKey, key: &Option<Key>, more: CountSum) -> Resul
 
 /// Adds a count and a sum under a key that may have no place yet.
 ///
-/// It is a function of its own, so that `add_under` stays short. It takes the count and the sum as two numbers, which need no memory.
+/// It is a separate function so that `add_under` stays short. It takes the count and the sum as two numbers, which need no memory.
 #[inline(never)]
 fn add_elsewhere(
     by_key: &mut ByKey,
@@ -310,7 +311,7 @@ fn add_elsewhere(
     }
 }
 
-/// Turns a tree of numbers into a list, if it has many and they lie close together. If memory runs out, it stays a tree.
+/// Turns a tree into a list if it has many numbers and they are close together. If memory runs out, it stays a tree.
 #[inline(never)]
 fn settle(by_key: &mut ByKey)
     requires valid_sums { AreCountSums (totals_in by_key.old) }
@@ -328,10 +329,11 @@ fn settle(by_key: &mut ByKey)
     }
 }
 
-/// Copies a tree of numbers into a list. Returns `None` if they lie too far apart, or if memory runs out.
+/// Copies a tree of numbers into a list. Returns `None` if the numbers are too far apart, or if memory runs out.
 fn listed(alloc: Global, numbers: &Numbers) -> Option<Dense>
     requires valid_sums { AreCountSums (by_number numbers.now.entries) }
-    ensures same { IfSome result (λ dense. by_place dense.items ≡ by_number numbers.now.entries) }
+    ensures same { IfSome result
+        (λ dense. by_place dense.items ≡ by_number numbers.now.entries) }
 {
     match places_for(numbers) {
         Some(places) => match dense_of(alloc, numbers, places) {
@@ -377,7 +379,8 @@ pub fn replace(by_key: &mut ByKey, key: &Option<Key>, from: i64, to: i64)
     requires valid_sums { AreCountSums (totals_in by_key.old) }
     requires there { CanRetract from (fin.get (totals_in by_key.old) key.now) }
     ensures valid_sums { AreCountSums (totals_in by_key.new) }
-    ensures replaced { totals_in by_key.new ≡ with_replaced (totals_in by_key.old) key.now from to }
+    ensures replaced { totals_in by_key.new
+        ≡ with_replaced (totals_in by_key.old) key.now from to }
 {
     match &mut by_key.form {
         Form::Plain(count_sum) => *count_sum = count_sum.replace(from, to),
@@ -403,7 +406,7 @@ fn plain_line(alloc: Global, count_sum: CountSum) -> Result<Vec<(Option<Key>, u6
     Ok(lines)
 }
 
-/// Makes the lines by key, ascending.
+/// Makes an answer's lines, one for each key, ascending.
 pub fn lines(alloc: Global, by_key: &ByKey) -> Result<Vec<(Option<Key>, u64, i128)>, Refusal>
     ensures ok { IfOk result (λ lines. lines.items ≡ total_lines (totals_in by_key.now)) }
     ensures memory { IfErr result (λ e. e ≡ Refusal.NoMemory) }
@@ -428,7 +431,7 @@ pub fn plain(by_key: &ByKey) -> CountSum
     }
 }
 
-/// Returns the count and the sum under a key, or `None` if nothing is there. Costs a look-up. Allocates nothing.
+/// Returns the count and the sum under a key, or `None` if it has no rows. Costs a look-up. Allocates nothing.
 pub fn get(by_key: &ByKey, key: &Option<Key>) -> Option<CountSum>
     ensures { result ≡ fin.get (totals_in by_key.now) key.now }
 {

@@ -8,7 +8,7 @@ use std::marker::Model;
 
 /// How many values there are, and their sum.
 ///
-/// Contracts see the pair of the two.
+/// Contracts see the pair of count and sum.
 #[derive(Clone, Copy, Debug, PartialEq, Eq)]
 pub struct CountSum {
     /// How many values there are.
@@ -27,7 +27,7 @@ impl Model for CountSum {
     ghost inverse = { λ pair. record { count = pair.0; sum = pair.1 } };
 }
 
-/// The count and the sum of no value.
+/// The count and the sum of no values.
 pub const NO_VALUES: CountSum = CountSum { count: 0, sum: 0 };
 
 impl CountSum {

@@ -16,7 +16,7 @@ use std::collections::BTreeMap;
 /// Counts and sums by key. No key has a count of 0.
 pub type CountSums = BTreeMap<Option<Key>, CountSum>;
 
-/// Adds a count and a sum under a key, if it is there. Returns whether it is. Allocates nothing.
+/// Adds a count and a sum under a key, if the map has it. Returns whether the map has it. Allocates nothing.
 pub fn add_existing(count_sums: &mut CountSums, key: &Option<Key>, more: CountSum) -> bool
     requires valid_sums { AreCountSums (totals_of count_sums.old.entries) }
     requires more_valid_sums { IsCountSum more }
@@ -38,7 +38,7 @@ pub fn add_existing(count_sums: &mut CountSums, key: &Option<Key>, more: CountSu
     }
 }
 
-/// Adds a count and a sum under a key. If the key is there already, drops the given one.
+/// Adds a count and a sum under a key. If the key is in already, drops the given key.
 pub fn add(count_sums: &mut CountSums, key: Option<Key>, more: CountSum) -> Result<(), Refusal>
     requires valid_sums { AreCountSums (totals_of count_sums.old.entries) }
     requires more_valid_sums { IsCountSum more }
@@ -119,7 +119,7 @@ pub fn replace(count_sums: &mut CountSums, key: &Option<Key>, from: i64, to: i64
     }
 }
 
-/// Subtracts the first `count` entries of another map from these. Allocates nothing.
+/// Subtracts the first `count` entries of another map from this one. Allocates nothing.
 fn retract_first(count_sums: &mut CountSums, other: &CountSums, count: usize)
     requires valid_sums { AreCountSums (totals_of count_sums.old.entries) }
     requires there { CanRetractAll (totals_of count_sums.old.entries)
@@ -137,7 +137,7 @@ fn retract_first(count_sums: &mut CountSums, other: &CountSums, count: usize)
     }
 }
 
-/// Joins the counts and sums of another map to these. If it is refused, it undoes what it did.
+/// Joins the counts and sums of another map to these. If memory runs out, it undoes what it did.
 pub fn join(count_sums: &mut CountSums, other: &CountSums) -> Result<(), Refusal>
     requires valid_sums { AreCountSums (totals_of count_sums.old.entries) }
     requires other_valid_sums { AreCountSums (totals_of other.now.entries) }
@@ -163,7 +163,7 @@ pub fn join(count_sums: &mut CountSums, other: &CountSums) -> Result<(), Refusal
     Ok(())
 }
 
-/// Makes the lines of the counts and sums, by their keys.
+/// Makes an answer's lines, ascending by key.
 pub fn lines(
     alloc: Global,
     count_sums: &CountSums,

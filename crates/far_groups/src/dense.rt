@@ -1,5 +1,5 @@
-// Counts and sums by number, in a list with a place for each number, from 0 on to both sides. A look-up is an index. The numbers are small,
-// or so many that the list takes little more memory than a tree.
+// Counts and sums by number, in a list with a place for each number, from 0 outwards. A look-up is an index. The numbers are small, or so
+// many that the list takes little more memory than a tree.
 ghost use Rattle.std.specs.Prelude.{◌≡◌, ◌+◌, ◌*◌, ◌^◌, ◌≤◌, ◌<◌, None, false, true, IsTrue, IfSome, IfOk, IfErr, OnOk, OnErr, length};
 ghost use Rattle.std.specs.Option.{option_map_or};
 ghost use Rattle.std.specs.FinMap as fin;
@@ -15,16 +15,16 @@ use far_types::{Key, Refusal};
 use std::alloc::Global;
 use std::collections::BTreeMap;
 
-/// Counts and sums by number: of 0, -1, 1, -2, and so on. A count of 0 says that the number does not occur.
+/// Counts and sums of the numbers 0, -1, 1, -2, and so on. A count of 0 says that the number does not occur.
 pub type Dense = Vec<CountSum>;
 
-/// A number from -1,024 to 1,023 always gets a place. A list of as many places takes 64 KB.
+/// A number from -1,024 to 1,023 always gets a place. A list of this many places takes 64 KB.
 const PLACES: usize = 2048;
 
-/// A tree of numbers becomes a list if the list has at most so many places for each number. A place takes 32 bytes.
+/// A tree of numbers becomes a list if the list has at most this many places for each number. A place takes 32 bytes.
 const PLACES_A_NUMBER: usize = 4;
 
-/// A list that was a tree has at most so many places: as many as all rows of a table could need.
+/// A list that was a tree has at most this many places: as many as all rows of a table could need.
 const MOST_PLACES: usize = 1 << 28;
 
 /// Returns the place of a number.
@@ -48,7 +48,7 @@ fn number_at(place: usize) -> i64
     if place % 2 == 0 { half } else { -half - 1 }
 }
 
-/// Returns whether a list has a place, or may get it: one of the first, or one for which the list has memory already.
+/// Returns whether a list has a place or may get it. It may get the first 2,048 places, and those for which it has memory already.
 pub fn may_place(dense: &Dense, place: usize) -> bool
     ensures may_not { result ≡ false → length dense.now.items ≤ place }
     ensures fits { IsTrue result → place < 2 ^ 63 }
@@ -56,7 +56,7 @@ pub fn may_place(dense: &Dense, place: usize) -> bool
     place < PLACES || place < dense.len() || place < dense.capacity().min(MOST_PLACES)
 }
 
-/// Adds a count and a sum to those of a place.
+/// Adds a count and a sum to the count and the sum at a place.
 #[inline(always)]
 fn added(count_sum: CountSum, more: CountSum) -> CountSum
     requires valid_sums { IfSome (standing count_sum) IsCountSum }
@@ -119,7 +119,8 @@ pub fn add(dense: &mut Dense, place: usize, more: CountSum) -> Result<(), Refusa
         (by_place dense.new.items
         ≡ with_count_sum (by_place dense.old.items) (place_key place) more) }
     ensures err { OnErr result (by_place dense.new.items ≡ by_place dense.old.items) }
-    ensures only_new { OnErr result (fin.get (by_place dense.old.items) (place_key place) ≡ None) }
+    ensures only_new { OnErr result
+        (fin.get (by_place dense.old.items) (place_key place) ≡ None) }
     ensures memory { IfErr result (λ e. e ≡ Refusal.NoMemory) }
 {
     if !add_existing(dense, place, more) {
@@ -171,7 +172,7 @@ pub fn get(dense: &Dense, place: usize) -> Option<CountSum>
     Some(found)
 }
 
-/// Joins another list to this one. Extends this one first, and only that can be refused.
+/// Joins another list to this one. Extends this one first: only this step can be refused.
 pub fn join(dense: &mut Dense, other: &Dense) -> Result<(), Refusal>
     requires valid_sums { AreCountSums (by_place dense.old.items) }
     requires other_valid_sums { AreCountSums (by_place other.now.items) }
@@ -209,7 +210,7 @@ pub fn numbers_of(alloc: Global, dense: &Dense) -> Result<Numbers, Refusal>
     Ok(numbers)
 }
 
-/// Returns whether the number of an entry has a place among the first so many. It does if there is no entry.
+/// Returns whether an entry's number has one of the first `places` places. Returns `true` if there is no entry.
 fn is_within(entry: Option<(&i64, &CountSum)>, places: usize) -> bool {
     match entry {
         Some((number, _)) => place_of(*number) < places,
@@ -219,7 +220,7 @@ fn is_within(entry: Option<(&i64, &CountSum)>, places: usize) -> bool {
 
 /// Returns how many places a tree of numbers may have as a list, or `None` if that is too few for its numbers.
 ///
-/// It looks at the least and the greatest number alone.
+/// It looks only at the least and the greatest number.
 pub fn places_for(numbers: &Numbers) -> Option<usize>
     ensures fits { IfSome result (λ places. places ≤ 2 ^ 28) }
 {
@@ -230,7 +231,7 @@ pub fn places_for(numbers: &Numbers) -> Option<usize>
     None
 }
 
-/// Copies a tree of numbers into a list with memory for so many places. Returns `None` if a number has a place beyond.
+/// Copies a tree of numbers into a list with capacity for `places` places. Returns `None` if a number's place is not one of them.
 pub fn dense_of(alloc: Global, numbers: &Numbers, places: usize) -> Result<Option<Dense>, Refusal>
     requires valid_sums { AreCountSums (by_number numbers.now.entries) }
     requires fits { places ≤ 2 ^ 28 }
@@ -262,7 +263,7 @@ fn count_of(dense: &Dense) -> usize
     count
 }
 
-/// Makes the line of a place.
+/// Makes an answer's line for a place.
 fn line(place: usize, count_sum: CountSum) -> (Option<Key>, u64, i128)
     requires { place < 2 ^ 63 }
     ensures { result ≡ (place_key place, count_sum.0, count_sum.1) }
@@ -274,7 +275,7 @@ fn line(place: usize, count_sum: CountSum) -> (Option<Key>, u64, i128)
     )
 }
 
-/// Returns the place of the number that has `rank` lower ones, if `below` numbers are below 0.
+/// Returns the place of the number at index `rank` in ascending order, if `below` numbers of the list are below 0.
 #[inline(always)]
 fn place_of_rank(below: usize, rank: usize) -> usize
     requires inside { rank ≤ below * 2 }
@@ -288,7 +289,7 @@ fn place_of_rank(below: usize, rank: usize) -> usize
     }
 }
 
-/// Makes the lines of the places with a count above 0, by their numbers.
+/// Makes an answer's lines for the places with a count above 0, ascending by number.
 pub fn lines(alloc: Global, dense: &Dense) -> Result<Vec<(Option<Key>, u64, i128)>, Refusal>
     ensures ok { IfOk result (λ lines. lines.items ≡ number_lines (in_order dense.now.items)) }
     ensures memory { IfErr result (λ e. e ≡ Refusal.NoMemory) }

@@ -9,10 +9,10 @@ use super::by_key::{ByKey, add_under, take};
 use super::count_sum::CountSum;
 use far_types::{Key, Refusal};
 
-/// A folded row: its key, none in an aggregate without key column, and its value.
+/// A folded row: its key, which is `None` in an aggregate without key column, and its value.
 pub type Pair = (Option<Key>, i64);
 
-/// Undoes the folding of the first `count` pairs into counts and sums, the last of them first. Allocates nothing.
+/// Subtracts the first `count` pairs from counts and sums again, the last one first. Allocates nothing.
 fn undo_first(count_sums: &mut ByKey, pairs: &[Pair], count: usize)
     requires within { count ≤ length pairs.now }
     requires valid_sums { AreCountSums (totals_in count_sums.old) }
@@ -27,7 +27,7 @@ fn undo_first(count_sums: &mut ByKey, pairs: &[Pair], count: usize)
     }
 }
 
-/// Folds pairs into counts and sums. If it is refused, it undoes what it did.
+/// Folds pairs into counts and sums. If memory runs out, it undoes what it did.
 pub fn fold_all(count_sums: &mut ByKey, pairs: &[Pair]) -> Result<(), Refusal>
     requires valid_sums { AreCountSums (totals_in count_sums.old) }
     requires can { CanFoldAll (totals_in count_sums.old) pairs.now }

@@ -17,11 +17,11 @@ use std::cmp::Ordering;
 use std::collections::btree_map::Iter;
 use std::marker::Model;
 
-/// The other map has few keys if it has fewer than one for this many keys here. Then a look-up for each of its keys costs less than walks
-/// along both maps (measured).
+/// If the other map has fewer than one key for each so many keys here, a look-up for each of its keys costs less than walks along both
+/// maps (measured).
 const WALKED: usize = 4;
 
-/// A walk along the lines of a map, for keys that ascend. Contracts see the lines ahead of it.
+/// A walk along the lines of a map, which looks keys up in ascending order. Contracts see the lines that it has not passed.
 #[derive(Drop)]
 struct Walk<'a> {
     next: Option<(&'a Option<Key>, &'a CountSum)>,
@@ -38,7 +38,8 @@ impl<'a> Model for Walk<'a> {
 
     ghost view = { λ walk. ahead walk.next walk.rest };
 
-    ghost invariant = { λ walk. IsStrictlySortedBy line_cmp (keys_of (ahead walk.next walk.rest)) };
+    ghost invariant = { λ walk.
+        IsStrictlySortedBy line_cmp (keys_of (ahead walk.next walk.rest)) };
 }
 
 impl<'a> Walk<'a> {
@@ -51,7 +52,7 @@ impl<'a> Walk<'a> {
         Walk { next, rest }
     }
 
-    /// Goes past the lines below a key and that of the key. Returns the key's count and sum.
+    /// Advances past all lines below a key and past the key's line. Returns the key's count and sum, or `None` if it has no line.
     fn find(&mut self, key: &Option<Key>) -> Option<CountSum>
         ensures found { result ≡ count_sum_at self.old key.now }
         ensures rest { (above : Option Key) → line_cmp key.now above ≡ Less
@@ -92,7 +93,7 @@ fn new_lines(
     Ok(lines)
 }
 
-/// Makes a map of lines whose keys ascend.
+/// Makes a map from lines whose keys ascend.
 pub fn map_of(alloc: Global, lines: Vec<(Option<Key>, CountSum)>) -> Result<CountSums, Refusal>
     ensures ok { IfOk result (IsFromIterResult line_cmp lines.items) }
     ensures memory { IfErr result (λ e. e ≡ Refusal.NoMemory) }
@@ -123,7 +124,7 @@ fn reserve_keys(alloc: Global, count_sums: &mut CountSums, other: &CountSums) ->
     }
 }
 
-/// Adds two counts and sums. The result is exact if the counts are so small that the sum fits.
+/// Adds two counts and sums. The result is exact if the counts are at most 2^26 and so many numbers of 64 bits can have the sums.
 fn added(count_sum: CountSum, more: CountSum) -> CountSum
     ensures { IsAddend count_sum → IsAddend more → result ≡ add_count_sums count_sum more }
 {
@@ -140,7 +141,8 @@ fn add_all_existing(count_sums: &mut CountSums, other: &CountSums)
         (count_sum_at other.now.entries key) }
     ensures { (key : Option Key)
         → count_sum_at count_sums.new.entries key
-        ≡ added_to (count_sum_at other.now.entries key) (count_sum_at count_sums.old.entries key) }
+        ≡ added_to (count_sum_at other.now.entries key)
+        (count_sum_at count_sums.old.entries key) }
 {
     let mut walk = Walk::new(other);
     count_sums.retain(|key, count_sum| {
@@ -151,7 +153,7 @@ fn add_all_existing(count_sums: &mut CountSums, other: &CountSums)
     });
 }
 
-/// Joins the counts and sums of another map to these, by walks along both. Inserts the new keys first, and only that can be refused.
+/// Joins the counts and sums of another map to these, by walks along both. Inserts the new keys first: only this step can be refused.
 fn join_walking(alloc: Global, count_sums: &mut CountSums, other: &CountSums) -> Result<(), Refusal>
     requires valid_sums { AreCountSums (totals_of count_sums.old.entries) }
     requires other_valid_sums { AreCountSums (totals_of other.now.entries) }
@@ -169,7 +171,7 @@ fn join_walking(alloc: Global, count_sums: &mut CountSums, other: &CountSums) ->
     Ok(())
 }
 
-/// Joins the counts and sums of another map to these: by walks along both, or by look-ups if the other has few keys.
+/// Joins the counts and sums of another map to these: by walks along both, or by look-ups if the other map has few keys.
 pub fn join_all(alloc: Global, count_sums: &mut CountSums, other: &CountSums) -> Result<(), Refusal>
     requires valid_sums { AreCountSums (totals_of count_sums.old.entries) }
     requires other_valid_sums { AreCountSums (totals_of other.now.entries) }

@@ -1,4 +1,4 @@
-// The conditions of live totals, if the totals are those of pairs.
+// When the conditions of live totals' calls hold, for totals made from pairs.
 ghost use Rattle.std.specs.Prelude.{◌≡◌, ◌+◌, ◌^◌, ◌≤◌, ℤ, List, ◌∷◌, length, map, Option, FitsSigned};
 ghost use Rattle.std.specs.Int.{w64};
 ghost use Rattle.std.specs.List.{AllByRecursion};
@@ -10,10 +10,10 @@ ghost use Rattle.far_types.specs.Effects.{count_in};
 ghost use Rattle.far_groups.specs.Live.{CanRetract, CanJoin};
 ghost use Rattle.far_groups.specs.CountSums.{IsCountSum};
 
-/// If the totals are those of some pairs, whose values are numbers of 64 bits:
+/// Says what holds of totals made from pairs whose values are numbers of 64 bits:
 /// - A pair that was added can be retracted.
-/// - No more values stand under a key than there are pairs.
-/// - The totals of at most 2^26 pairs can be joined.
+/// - A key has at most as many values as there are pairs.
+/// - Totals of at most 2^26 pairs, both counted together, can be joined.
 pub fn pairs_meet_the_conditions()
     ensures retractable { (pair : Pair) → (pairs : List Pair) → PairsFit (pair ∷ pairs)
         → CanRetract pair.1 (fin.get (totals (pair ∷ pairs)) pair.0) }
@@ -23,13 +23,14 @@ pub fn pairs_meet_the_conditions()
         → length some + length others ≤ 2 ^ 26 → CanJoin (totals some) (totals others) }
 {}
 
-/// Rows that all stand under one key, as `add_rows` takes them: their totals are their count and their sum under that key. Rows can have
-/// such a count and such a sum.
+/// Says what holds of rows that all have one key, as `add_rows` takes them. Their totals are their count and their sum under that key.
+/// At most 2^26 values of 64 bits meet the condition of `add_rows`.
 pub fn rows_under_one_key_are_folded()
     ensures totals { (key : Option Key) → (value : ℤ) → (values : List ℤ)
         → totals (map (λ each. (key, each)) (value ∷ values))
         ≡ fin.insert fin.empty key (count_sum (value ∷ values)) }
     ensures valid_sums { (value : ℤ) → (values : List ℤ)
-        → AllByRecursion (FitsSigned w64) (value ∷ values) → length (value ∷ values) ≤ 2 ^ 26
+        → AllByRecursion (FitsSigned w64) (value ∷ values)
+        → length (value ∷ values) ≤ 2 ^ 26
         → IsCountSum (count_sum (value ∷ values)) }
 {}

@@ -11,8 +11,8 @@ use std::marker::Model;
 /// The count and the sum of the rows under each key, kept up to date row by row. It also counts the row groups that are still pending.
 /// Without a key column all rows have the key `None`. A sum is exact: at most 2^26 numbers of 64 bits have one key.
 ///
-/// Contracts see how many row groups are pending, and the totals of the pairs that are in. Each key has a count of at least 1 and a sum.
-/// The lists of pairs with these totals follow each call by the laws of `far_types::laws`.
+/// Contracts see how many row groups are pending, and the totals of the folded pairs. Each key has a count of at least 1 and a sum.
+/// The laws of `far_types::laws` relate each call to the lists of pairs that have these totals.
 #[derive(Drop)]
 pub struct LiveTotals {
     left: u32,
@@ -59,9 +59,9 @@ impl LiveTotals {
         self.left
     }
 
-    /// Adds a folded row. If its key is there already, it drops the given key and allocates nothing.
+    /// Adds a folded row. If its key is in already, it drops the given key and allocates nothing.
     ///
-    /// Refused with `NoMemory` (1) alone, and only if the key is new. Then nothing is changed.
+    /// Refused only with `NoMemory` (1), and only if the key is new. Then nothing is changed.
     pub fn add(&mut self, key: Option<Key>, value: i64) -> Result<(), Refusal>
         requires { count_in (fin.get self.old.totals key) < 2 ^ 26 }
         ensures ok { OnOk result
@@ -86,8 +86,8 @@ impl LiveTotals {
         add_under(&mut self.count_sums, key, CountSum::of(value))
     }
 
-    /// Adds folded rows, at least one, all under one key: their count and their sum, which the caller computed. Refused as `add` is. Then
-    /// nothing is changed.
+    /// Adds one or more folded rows, all under one key, by their count and their sum, which the caller computed. Refused only with
+    /// `NoMemory` (1), and only if the key is new. Then nothing is changed.
     pub fn add_rows(&mut self, key: Option<Key>, count_sum: CountSum) -> Result<(), Refusal>
         requires valid_sums { IsCountSum count_sum }
         requires capacity { count_in (fin.get self.old.totals key) + count_sum.0 ≤ 2 ^ 26 }
@@ -103,7 +103,7 @@ impl LiveTotals {
         add(&mut self.count_sums, key, count_sum)
     }
 
-    /// Removes a folded row, one of those that are in. If no row is left under its key, removes the key too. Allocates nothing.
+    /// Removes one of the folded rows. If its key has no rows left, removes the key too. Allocates nothing.
     #[inline(always)]
     pub fn take(&mut self, key: &Option<Key>, value: i64)
         requires { CanRetract value (fin.get self.old.totals key.now) }
@@ -113,8 +113,7 @@ impl LiveTotals {
         take(&mut self.count_sums, key, CountSum::of(value));
     }
 
-    /// Replaces the value of a folded row, one of those that are in, by another one. Its key stays, and is searched for once. Allocates
-    /// nothing.
+    /// Replaces the value of one of the folded rows by another value, under the same key. Looks the key up once. Allocates nothing.
     #[inline(always)]
     pub fn replace(&mut self, key: &Option<Key>, from: i64, to: i64)
         requires { CanRetract from (fin.get self.old.totals key.now) }
@@ -124,12 +123,12 @@ impl LiveTotals {
         replace(&mut self.count_sums, key, from, to);
     }
 
-    /// Joins the rows of another to these, key by key. One row group less is pending. Of the other it reads nothing else. Refused with
-    /// `NoMemory` (1) alone. Then nothing is changed.
+    /// Joins the rows of other totals to these, key by key. One row group less is pending. It does not read how many row groups `other`
+    /// has pending. Refused only with `NoMemory` (1). Then nothing is changed.
     ///
     /// What it costs:
-    /// - If the keys are numbers: a look-up for each key of the other.
-    /// - Else, if the other has less than a quarter as many keys as there are here: a look-up for each of them.
+    /// - If the keys are numbers: a look-up for each key of `other`.
+    /// - Else, if `other` has less than a quarter as many keys as there are here: a look-up for each key of `other`.
     /// - Else two walks along the keys of both. If the keys that are new here are at most a quarter as many as the keys here, also a
     ///   look-up for each new key.
     pub fn merge(&mut self, other: &LiveTotals) -> Result<(), Refusal>
@@ -149,9 +148,9 @@ impl LiveTotals {
         Ok(())
     }
 
-    /// Adds the folded rows of a row group. One row group less is pending. Refused with `NoMemory` (1) alone. Then nothing is changed.
+    /// Adds the folded rows of a row group. One row group less is pending. Refused only with `NoMemory` (1). Then nothing is changed.
     ///
-    /// Costs a look-up for each row. `merge` costs one for each key, once the rows are folded by themselves.
+    /// Costs a look-up for each row. `merge` costs a look-up for each key, once the rows are folded into totals of their own.
     pub fn fold_in(&mut self, pairs: &[Pair]) -> Result<(), Refusal>
         requires left { self.old.left ≢ 0 }
         requires fits { PairsFit pairs.now }
@@ -173,10 +172,11 @@ impl LiveTotals {
     /// Returns the keys that occur, ascending, each with its count and its sum. Without a key column and without rows there is no line.
     ///
     /// Refused with:
-    /// - `Building` (15), which says how many row groups are pending, exactly if that is not 0;
-    /// - else `NoMemory` (1) alone.
+    /// - `Building` (15) exactly if row groups are pending; it says how many;
+    /// - else only `NoMemory` (1).
     pub fn answer(&self, alloc: Global) -> Result<Answer, Refusal>
-        ensures ok { IfOk result (λ answer. answer ≡ Answer.Totals (total_lines self.now.totals)) }
+        ensures ok { IfOk result
+            (λ answer. answer ≡ Answer.Totals (total_lines self.now.totals)) }
         ensures all_scanned { OnOk result (self.now.left ≡ 0) }
         ensures building { self.now.left ≢ 0 → result ≡ Err (Refusal.Building self.now.left) }
         ensures memory { self.now.left ≡ 0 → IfErr result (λ e. e ≡ Refusal.NoMemory) }

@@ -1,4 +1,4 @@
-// Counts and sums by number, in a tree map of bare numbers. A look-up compares words alone.
+// Counts and sums by number, in a tree map of bare numbers. A look-up compares only machine words.
 ghost use Rattle.std.specs.Prelude.{◌≡◌, ◌+◌, ◌^◌, ◌≤◌, None, false, IsTrue, is_some, IfOk, IfErr, OnOk, OnErr, take};
 ghost use Rattle.std.specs.BTreeMap.{IsOrdered};
 ghost use Rattle.std.specs.Ordering.{int_cmp};
@@ -18,7 +18,7 @@ use std::collections::BTreeMap;
 /// Counts and sums by number. No number has a count of 0.
 pub type Numbers = BTreeMap<i64, CountSum>;
 
-/// Adds a count and a sum under a number, if it is there. Returns whether it is. Allocates nothing.
+/// Adds a count and a sum under a number, if the map has it. Returns whether the map has it. Allocates nothing.
 fn add_existing(numbers: &mut Numbers, number: &i64, more: CountSum) -> bool
     requires valid_sums { AreCountSums (by_number numbers.old.entries) }
     requires more_valid_sums { IsCountSum more }
@@ -101,7 +101,7 @@ pub fn replace(numbers: &mut Numbers, number: &i64, from: i64, to: i64)
     }
 }
 
-/// Subtracts the first `count` entries of another map from these. Allocates nothing.
+/// Subtracts the first `count` entries of another map from this one. Allocates nothing.
 fn retract_first(numbers: &mut Numbers, other: &Numbers, count: usize)
     requires valid_sums { AreCountSums (by_number numbers.old.entries) }
     requires there { CanRetractAll (by_number numbers.old.entries)
@@ -119,7 +119,7 @@ fn retract_first(numbers: &mut Numbers, other: &Numbers, count: usize)
     }
 }
 
-/// Joins the counts and sums of another map to these. If it is refused, it undoes what it did.
+/// Joins the counts and sums of another map to these. If memory runs out, it undoes what it did.
 pub fn join(numbers: &mut Numbers, other: &Numbers) -> Result<(), Refusal>
     requires valid_sums { AreCountSums (by_number numbers.old.entries) }
     requires other_valid_sums { AreCountSums (by_number other.now.entries) }
@@ -144,7 +144,7 @@ pub fn join(numbers: &mut Numbers, other: &Numbers) -> Result<(), Refusal>
     Ok(())
 }
 
-/// Makes the entries by number, with the numbers as keys.
+/// Lists the entries, with the numbers as keys.
 fn keyed_lines(alloc: Global, numbers: &Numbers) -> Result<Vec<(Option<Key>, CountSum)>, Refusal>
     ensures ok { IfOk result (λ lines. lines.items ≡ numbered numbers.now.entries) }
     ensures ordered { IsOrdered int_cmp numbers.now }
@@ -173,7 +173,7 @@ fn line(number: &i64, count_sum: &CountSum) -> (Option<Key>, u64, i128)
     (Some(Key::Int(*number)), count_sum.count, count_sum.sum)
 }
 
-/// Makes the lines of the counts and sums, by their numbers.
+/// Makes an answer's lines, ascending by number.
 pub fn lines(alloc: Global, numbers: &Numbers) -> Result<Vec<(Option<Key>, u64, i128)>, Refusal>
     ensures ok { IfOk result (λ lines. lines.items ≡ number_lines numbers.now.entries) }
     ensures ordered { IsOrdered int_cmp numbers.now }

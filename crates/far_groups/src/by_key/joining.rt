@@ -1,4 +1,4 @@
-// Counts and sums by key that are joined, whatever forms both have.
+// Joins counts and sums by key, whatever form each has.
 ghost use Rattle.std.specs.Prelude.{◌≡◌, OnOk, OnErr, IfOk, IfErr};
 ghost use Rattle.far_types.specs.Effects.{joined_totals};
 ghost use Rattle.far_groups.specs.Live.{CanJoin};
@@ -15,7 +15,7 @@ use crate::numbers::{self, Numbers, keyed};
 use far_types::Refusal;
 use std::alloc::Global;
 
-/// Joins another tree of keys to a tree of keys.
+/// Joins `more` to a tree of keys, and returns the tree.
 fn with_keys(alloc: Global, mut keys: CountSums, more: &CountSums) -> Result<CountSums, Refusal>
     requires valid_sums { AreCountSums (totals_of keys.entries) }
     requires other_valid_sums { AreCountSums (totals_of more.now.entries) }
@@ -37,7 +37,8 @@ fn join_keys(by_key: &mut ByKey, more: &CountSums) -> Result<(), Refusal>
     requires can_join { CanJoin (totals_in by_key.old) (totals_of more.now.entries) }
     ensures valid_sums { AreCountSums (totals_in by_key.new) }
     ensures ok { OnOk result
-        (totals_in by_key.new ≡ joined_totals (totals_in by_key.old) (totals_of more.now.entries)) }
+        (totals_in by_key.new
+        ≡ joined_totals (totals_in by_key.old) (totals_of more.now.entries)) }
     ensures err { OnErr result (totals_in by_key.new ≡ totals_in by_key.old) }
     ensures memory { IfErr result (λ e. e ≡ Refusal.NoMemory) }
 {
@@ -69,7 +70,8 @@ fn join_numbers(by_key: &mut ByKey, more: &Numbers) -> Result<(), Refusal>
     requires can_join { CanJoin (totals_in by_key.old) (by_number more.now.entries) }
     ensures valid_sums { AreCountSums (totals_in by_key.new) }
     ensures ok { OnOk result
-        (totals_in by_key.new ≡ joined_totals (totals_in by_key.old) (by_number more.now.entries)) }
+        (totals_in by_key.new
+        ≡ joined_totals (totals_in by_key.old) (by_number more.now.entries)) }
     ensures err { OnErr result (totals_in by_key.new ≡ totals_in by_key.old) }
     ensures memory { IfErr result (λ e. e ≡ Refusal.NoMemory) }
 {
@@ -91,7 +93,7 @@ fn join_numbers(by_key: &mut ByKey, more: &Numbers) -> Result<(), Refusal>
     }
 }
 
-/// Joins a list by small number to these counts and sums.
+/// Joins a list by number to these counts and sums.
 fn join_dense(by_key: &mut ByKey, more: &Dense) -> Result<(), Refusal>
     requires valid_sums { AreCountSums (totals_in by_key.old) }
     requires other_valid_sums { AreCountSums (by_place more.now.items) }

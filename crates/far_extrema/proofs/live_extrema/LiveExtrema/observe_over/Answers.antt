@@ -11,7 +11,7 @@ use Rattle.far_extrema.proofs.MinMaxesRemoval.{put-same}
 use Rattle.far_extrema.proofs.HoldersLaws.{get-group_at, length-groups_in, observed-in, reserved-put, widened_within, same-reserved}
 use Rattle.far_extrema.proofs.live_extrema.LiveExtrema.observe_over.Goals as goal
 
--- what stands in a row group is what stands by key
+-- the min-max that a row group has under a key is the min-max that the key has in it
 previous : (h : Holders) (count g : ℕ) (gs : List Extrema) (key : Option Key) (s : ℤ × ℤ) → groups_in h count ≡ gs → AreReserved count h → fin.get (group_at gs g) key ≡ Some s → min_max_at h g key ≡ Some s
 previous h count g gs key s groups reserved is = sym (get-group_at h count g key reserved) ∙ ap (λ l. fin.get (group_at l g) key) groups ∙ is
 
