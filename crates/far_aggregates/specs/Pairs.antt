@@ -47,7 +47,7 @@ abbrev pub with_observed_change : Extrema → Change → Extrema
 with_observed_change extrema None = extrema
 with_observed_change extrema (Some pair) = with_observed extrema pair
 
--- the totals of an accumulator are the totals of at most 2^24 pairs, whose numbers fit 64 bits
+-- the totals of an accumulator are the totals of at most 2^24 pairs, whose values fit 64 bits
 abbrev pub AccumulatorFolds : Accumulator → Type 0
 AccumulatorFolds (accumulator.Totals live) = (pairs : List Pair) × (live.totals ≡ totals pairs)
     × PairsFit pairs

@@ -119,7 +119,7 @@ pairs-valueless spec columns flags i flag within is none =
     pairs-next spec columns flags i flag None within is (pair-is spec columns (i, flag) ∙ ap (λ (o : Option ℤ). option_and_then (λ value. option_map (λ key. (key, value)) (key_under spec.key (cells_at columns i))) o) (sym none))
     ∙ append-nil (pairs_over spec columns (take i flags))
 
--- pairs whose numbers fit 64 bits, with one more such pair
+-- pairs whose values fit 64 bits, with one more such pair
 pub fits-more : (pairs : List Pair) (pair : Pair) → PairsFit pairs → FitsSigned w64 pair.1 → PairsFit (pairs ++ pair ∷ [])
 fits-more [] pair fits fit = (fit, tt)
 fits-more (p ∷ pairs) pair fits fit = (fits.0, fits-more pairs pair fits.1 fit)
