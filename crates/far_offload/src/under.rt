@@ -224,8 +224,8 @@ fn min_max_untested(
     min_max
 }
 
-/// Returns the least and the greatest value of the live places with this key, or `None` if there is no value. `fold` computes
-/// the same pair for this key. Allocates nothing.
+/// Returns the least and the greatest value of the live places with this key, or `None` if there is no value. The extrema of
+/// `fold` have the same pair under this key. Allocates nothing.
 pub fn min_max_under(
     spec: &Spec,
     columns: &[Column<'_>],
