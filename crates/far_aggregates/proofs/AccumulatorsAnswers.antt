@@ -1,4 +1,4 @@
--- An aggregate in which no row group is pending answers for the rows as they are.
+-- An aggregate in which no row group is pending answers for the current rows.
 use Rattle.std.proofs.Common.{◌≡◌, ℕ, zero, suc, ◌+◌, ◌*◌, ◌<◌, ◌≤◌, cond, List, [], ◌∷◌, ◌++◌, length, take, refl, sym, ap, ◌∙◌, arith, Option, None, Some, slice_index_or, replicate, length-append}
 use Rattle.std.specs.Prelude.{fold, ℤ}
 use Rattle.std.specs.List.{filter_map}
@@ -34,7 +34,7 @@ alone : (o : Option (ℤ × ℤ)) → merge_two join_min_maxes o None ≡ o
 alone None = refl
 alone (Some min_max) = refl
 
--- nothing more leaves extrema as they are
+-- joining empty extrema changes nothing
 joined-none : (m : Extrema) → joined_extrema m none ≡ m
 joined-none m = same _ _ (λ q. get-joined join_min_maxes m none q ∙ ap (merge_two join_min_maxes (fin.get m q)) (fin.get-empty line_cmp q) ∙ alone (fin.get m q))
 
@@ -52,7 +52,7 @@ module _ (spec : Spec) (size : ℕ) (ps : List Place) where
       let e : suc h * size ≡ h * size + size = omega arith in
       ap first_pairs e ∙ ap (filter_map (place_pair spec)) (take-add (h * size) size ps) ∙ filter_map-append (place_pair spec) (take (h * size) ps) (in_group size h ps)
 
-  -- row groups from number h on, joined to those before
+  -- the row groups from number h on, joined to the row groups before
   joined-on : (h : ℕ) (gs : List Extrema) → ((k : ℕ) → slice_index_or gs k none ≡ extrema (group_pairs spec size (h + k) ps)) → fold joined_extrema (extrema (first_pairs (h * size))) gs ≡ extrema (first_pairs ((h + length gs) * size))
   joined-on h [] kept = let e : h * size ≡ (h + 0) * size = omega arith in ap (λ n. extrema (first_pairs n)) e
   joined-on h (g ∷ gs) kept =

@@ -1,4 +1,4 @@
--- What is kept for all aggregates stays what the places give, under an edit of the places.
+-- All aggregates stay up to date under an edit of the places.
 use Rattle.std.proofs.Common.{◌≡◌, ℕ, zero, suc, ◌/◌, ◌<◌, ◌≤◌, ◌^◌, Bool, true, false, List, [], ◌∷◌, ◌++◌, length, map, refl, sym, ap, ◌∙◌, subst, arith, Option, None, Some, slice_get, cond}
 use Rattle.std.specs.Prelude.{option_map}
 use Rattle.far_types.specs.declared.spec.Spec.{Spec}
@@ -19,7 +19,7 @@ use Rattle.far_aggregates.proofs.TableGroups.{get-changed}
 use Rattle.far_aggregates.proofs.AccumulatorsEntries.{entry, entry-insert, entry-set, entry-may_retract}
 use Rattle.far_aggregates.proofs.ListLaws.{all-get, map-zip_all}
 
--- totals are those of few pairs
+-- totals are the totals of few pairs
 
 accumulator-folds : (size : ℕ) (ps : List Place) (spec : Spec) (registration : ℕ) (pending : List Bool) (k : Accumulator) → PlacesFit ps → length ps ≤ 2 ^ 24 → KeepsEntry size ps (entry spec registration pending k) → Folds (entry spec registration pending k)
 accumulator-folds size ps spec registration pending (accumulator.Totals live) fit few h =
@@ -35,7 +35,7 @@ each-folds size ps [] fit few h k s e = cc
 each-folds size ps (t ∷ registry) fit few h zero s e = let i : t ≡ s = cc in subst Folds i (entry-folds size ps t fit few h.0)
 each-folds size ps (t ∷ registry) fit few h (suc k) s e = each-folds size ps registry fit few h.1 k s e
 
--- what an edit leaves of a registry entry as the table shows it
+-- an edit keeps the part of a registry entry that the table shows
 
 added-registered : (g : ℕ) (s : RegistryEntry) (c : Option Delta) → registered_in (with_delta g s c) ≡ registered_in s
 added-registered g None c = refl
@@ -61,7 +61,7 @@ all-undo_registered g registry cs = map-zip_all (undo g) registered_in (undo-reg
 pub all-retracted_registered : (g : ℕ) (here : List Place) (registry : List RegistryEntry) (cs : List Change) → map registered_in (zip_all (after_retract g here) registry cs) ≡ map registered_in registry
 all-retracted_registered g here registry cs = map-zip_all (after_retract g here) registered_in (retracted-registered g here) registry cs
 
--- a dead place gives nothing, so it has no delta
+-- a dead place contributes no pair, so it has no delta
 
 delta_none : (g : ℕ) (k : Accumulator) (b : Bool) → let none : Change = None in option_map (delta_of g k) (cond b none none) ≡ None
 delta_none g k true = refl
@@ -75,7 +75,7 @@ pub removed-adds_all : (size i : ℕ) (x : Place) (registry : List RegistryEntry
 removed-adds_all size i x [] = refl
 removed-adds_all size i x (s ∷ registry) = λ k. removed-adds size i x s k ∷ removed-adds_all size i x registry k
 
--- all entries of the registry
+-- all entries of the registry stay up to date
 
 Keeps-insert : (size : ℕ) (ps : List Place) (p : Place) (registry : List RegistryEntry) → 0 < size → Keeps size ps registry → AreReserved (length ps / size) registry
     → Keeps size (ps ++ p ∷ []) (zip_all (with_delta (length ps / size)) registry (map (row_delta size (length ps) (place_gives p)) registry))
@@ -98,7 +98,7 @@ module _ (size : ℕ) (f : Place → Place) (ps : List Place) (i : ℕ) (x y : P
       (subst (MayRetract (i / size) (in_group size (i / size) (change_at f i ps)) (with_delta (i / size) t (row_delta size i (place_gives y) t))) b (entry-may_retract size f ps i x y positive here there fit row t h.0 reserved.0))
   each-may_retract fit row (t ∷ registry) h reserved (suc k) s c p q = each-may_retract fit row registry h.1 reserved.1 k s c p q
 
--- what is kept after an insert
+-- the aggregates are up to date after an insert
 pub after_insert : (size place : ℕ) (ps new : List Place) (p : Place) (registry after : List RegistryEntry) → place ≡ length ps → new ≡ ps ++ p ∷ [] → 0 < size → Keeps size ps registry → AreReserved (place / size) registry
     → after ≡ zip_all (with_delta (place / size)) registry (map (row_delta size place (place_gives p)) registry)
     → Keeps size new after
@@ -107,7 +107,7 @@ after_insert size place ps new p registry after at is positive holds reserved h 
     (subst (λ l. Keeps size l (zip_all (with_delta (length ps / size)) registry (map (row_delta size (length ps) (place_gives p)) registry))) (sym is)
     (Keeps-insert size ps p registry positive holds (subst (λ n. AreReserved (n / size) registry) at reserved)))
 
--- a place x becomes y: the deltas, the pairs to retract, and what is kept then
+-- a place x becomes y: the deltas, the pairs to retract, and the aggregates after both
 module _ (size : ℕ) (f : Place → Place) (ps new : List Place) (i : ℕ) (x y : Place) (registry mid : List RegistryEntry) (to_retract : List Change) (positive : 0 < size) (is : new ≡ change_at f i ps)
     (here : Some x ≡ slice_get ps i) (there : Some y ≡ option_map f (slice_get ps i))
     (went : to_retract ≡ map (change_of size i (place_gives x)) registry) (applied : mid ≡ zip_all (with_delta (i / size)) registry (map (row_delta size i (place_gives y)) registry))

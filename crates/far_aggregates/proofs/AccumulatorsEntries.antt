@@ -1,4 +1,4 @@
--- What is kept for an aggregate stays what the places give, under an edit of the places.
+-- An aggregate stays up to date under an edit of the places.
 use Rattle.std.proofs.Common.{◌≡◌, ℕ, ◌/◌, ◌<◌, Bool, true, false, cond, List, [], ◌∷◌, ◌++◌, length, refl, sym, ap, ◌∙◌, subst, arith, zero-add, None, Some, slice_get}
 use Rattle.std.specs.Prelude.{option_map}
 use Rattle.std.specs.List.{cons_option, filter_map}
@@ -50,7 +50,7 @@ module _ (spec : Spec) (registration : ℕ) (pending : List Bool) (g : ℕ) wher
 accumulator-here : (spec : Spec) (size : ℕ) (pending : List Bool) (g : ℕ) (ps : List Place) (gs : List Extrema) → is_pending pending g ≡ false → ((h : ℕ) → group_at gs h ≡ scanned_group spec size pending ps h) → group_at gs g ≡ extrema (group_pairs spec size g ps)
 accumulator-here spec size pending g ps gs is kept = kept g ∙ ap (λ b. cond b fin.empty (extrema (group_pairs spec size g ps))) is
 
--- one registry entry under an insert
+-- one registry entry stays up to date under an insert
 
 module _ (size : ℕ) (spec : Spec) (registration : ℕ) (pending : List Bool) (ps : List Place) (p : Place) (positive : 0 < size) where
   appended-observed : extrema (group_pairs spec size (length ps / size) (ps ++ p ∷ [])) ≡ with_observed_change (extrema (group_pairs spec size (length ps / size) ps)) (place_pair spec p)
@@ -83,7 +83,7 @@ pub entry-insert : (size : ℕ) (ps : List Place) (p : Place) (s : RegistryEntry
 entry-insert size ps p None positive h reserved = tt
 entry-insert size ps p (Some a) positive h reserved = accumulator-inserted size a.spec a.registration a.pending ps p positive a.accumulator h reserved
 
--- one registry entry under a set: a place x becomes y
+-- one registry entry stays up to date under a set: a place x becomes y
 
 module _ (size : ℕ) (f : Place → Place) (ps : List Place) (i : ℕ) (x y : Place) (positive : 0 < size) (here : slice_get ps i ≡ Some x) (there : slice_get (change_at f i ps) i ≡ Some y) where
   -- the other pairs of the row group
@@ -101,7 +101,7 @@ module _ (size : ℕ) (f : Place → Place) (ps : List Place) (i : ℕ) (x y : P
       ∙ rest-separate spec (change_at f (nth size i) mine) (nth size i) y (ap (λ l. slice_get l (nth size i)) (sym same) ∙ get-in_group size i (change_at f i ps) positive ∙ there)
       ∙ ap (λ r. extrema (cons_option (place_pair spec y) r)) (rest-changed spec f mine (nth size i))
 
-  -- the new pair is in, and the old one still
+  -- the extrema have observed the new pair, and still have the old pair
   both-in : (spec : Spec) (m : Extrema) → m ≡ extrema (group_pairs spec size (i / size) ps) → with_observed_change m (place_pair spec y) ≡ extrema (cons_option (place_pair spec x) (cons_option (place_pair spec y) (elsewhere spec)))
   both-in spec m h =
       ap (λ n. with_observed_change n (place_pair spec y)) (h ∙ was-separate spec)

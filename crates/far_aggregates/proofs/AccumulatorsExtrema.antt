@@ -1,4 +1,4 @@
--- The extrema of the row group of an edit: with the pair that is added, and without the one that is retracted.
+-- The extrema of the row group of an edit: with the added pair, and without the retracted pair.
 use Rattle.std.proofs.Common.{inl, inr, ◌≡◌, ◌≢◌, ℕ, zero, suc, ◌<◌, Bool, true, false, cond, List, [], ◌∷◌, length, refl, sym, ap, ◌∙◌, arith, Option, None, Some, slice_get, slice_set}
 use Rattle.std.specs.Prelude.{◌⊎◌, ℤ, ◌<ℤ◌, ◌≤ℤ◌}
 use Rattle.std.specs.List.{filter_map, cons_option}
@@ -58,7 +58,7 @@ module _ (spec : Spec) where
   rest-changed f (p ∷ ps) zero = refl
   rest-changed f (p ∷ ps) (suc j) = ap (cons_option (place_pair spec p)) (rest-changed f ps j)
 
--- a retracted pair leaves the extrema of the others
+-- extrema without a retracted pair, which are the extrema of the other pairs
 abbrev pub without_retracted : Change → Extrema → Extrema → Extrema
 without_retracted None m new = m
 without_retracted (Some pair) m new = put_min_max m pair.0 (fin.get new pair.0)
@@ -67,14 +67,14 @@ pub gone-leaves : (a : Change) (qs : List Pair) (m new : Extrema) → m ≡ extr
 gone-leaves None qs m new h k = h ∙ sym k
 gone-leaves (Some p) qs m new h k = (λ i. put_min_max (h i) p.0 (fin.get (k i) p.0)) ∙ gone qs p ∙ sym k
 
--- what stands under its key is that of the others, with its value more
+-- the min-max under its key is the min-max of the other pairs, widened by its value
 pub gone-observed : (p : Pair) (qs : List Pair) (m new : Extrema) → m ≡ extrema (p ∷ qs) → new ≡ extrema qs → fin.get m p.0 ≡ Some (min_max_with p.1 (fin.get new p.0))
 gone-observed p qs m new h k =
     ap (λ n. fin.get n p.0) (h ∙ extrema-cons p qs)
     ∙ get_inserted (extrema qs) p.0 (min_max_with p.1 (fin.get (extrema qs) p.0))
     ∙ ap (λ n. Some (min_max_with p.1 (fin.get n p.0))) (sym k)
 
--- row groups of which one alone may be another than before
+-- row groups of which only one may differ from before
 abbrev pub IsWith : ℕ → List Extrema → List Extrema → Extrema → Type 0
 IsWith g gs hs m = (group_at hs g ≡ m) × ((h : ℕ) → h ≢ g → group_at hs h ≡ group_at gs h)
 
@@ -98,7 +98,7 @@ pub observed-length : (g : ℕ) (gs : List Extrema) (o : Change) → length (gro
 observed-length g gs None = refl
 observed-length g gs (Some p) = length-written gs g _
 
--- if all other row groups have the places that they had
+-- all other row groups have the same places as before
 module _ (spec : Spec) (size : ℕ) (pending : List Bool) (g : ℕ) (ps qs : List Place) (others : (h : ℕ) → h ≢ g → in_group size h qs ≡ in_group size h ps) where
   other-group : (h : ℕ) → h ≢ g → scanned_group spec size pending ps h ≡ scanned_group spec size pending qs h
   other-group h n = ap (λ l. cond (is_pending pending h) fin.empty (extrema (filter_map (place_pair spec) l))) (sym (others h n))
@@ -114,7 +114,7 @@ module _ (spec : Spec) (size : ℕ) (pending : List Bool) (g : ℕ) (ps qs : Lis
     | inr n ↦ w.1 h n ∙ kept h ∙ other-group h n
   ]
 
-  -- nothing is kept of it
+  -- the row group is pending, and has no extrema
   pub extrema-if-pending : (gs : List Extrema) → is_pending pending g ≡ true → ((h : ℕ) → group_at gs h ≡ scanned_group spec size pending ps h) → (h : ℕ) → group_at gs h ≡ scanned_group spec size pending qs h
   extrema-if-pending gs is kept h =
       kept h ∙ elim (same_or_not h g) as (λ o. scanned_group spec size pending ps h ≡ scanned_group spec size pending qs h) [

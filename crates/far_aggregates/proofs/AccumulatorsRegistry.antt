@@ -30,7 +30,7 @@ map-set_at [] a s = refl
 map-set_at (t ∷ registry) zero s = refl
 map-set_at (t ∷ registry) (suc a) s = ap (λ l. registered_in t ∷ l) (map-set_at registry a s)
 
--- a registry entry that is there is replaced
+-- a registry entry is replaced
 pub registered-set : (registry : List RegistryEntry) (a : ℕ) (s : RegistryEntry) → a < length registry → registered_of (slice_set registry a s) ≡ slice_set (registered_of registry) a (registered_in s)
 registered-set registry a s h =
     let r : List (Option Registered) = replicate (32 - length registry) None in
@@ -38,7 +38,7 @@ registered-set registry a s h =
     ∙ ap (λ l. l ++ r) (map-set_at registry a s)
     ∙ sym (set-before (map registered_in registry) r a (registered_in s) (let m = length-map registry registered_in in omega arith))
 
--- or by one that the table shows alike
+-- a registry entry is replaced by an entry that the table shows alike
 pub registered-like : (registry : List RegistryEntry) (a : ℕ) (old new : RegistryEntry) → slice_get registry a ≡ Some old → registered_in new ≡ registered_in old → registered_of (slice_set registry a new) ≡ registered_of registry
 registered-like registry a old new here alike =
     ap (λ n. map registered_in (slice_set registry a new) ++ replicate (32 - n) None) (length-set registry a new)
@@ -56,7 +56,7 @@ length-last : (registry : List RegistryEntry) (s : RegistryEntry) → length (re
 length-last [] s = refl
 length-last (t ∷ registry) s = ap suc (length-last registry s)
 
--- a registry entry more takes the place of a number that was never used
+-- one more registry entry takes a number that was never used
 pub registered-push : (registry : List RegistryEntry) (s : RegistryEntry) → length registry < 32 → registered_of (registry ++ s ∷ []) ≡ slice_set (registered_of registry) (length registry) (registered_in s)
 registered-push registry s h =
     let n = 32 - suc (length registry) in
@@ -111,7 +111,7 @@ nothing_scanned spec size ps g pos = elim (above_or_not g (groups size (length p
   ])
 ]
 
--- an aggregate that is registered now keeps what it is to keep
+-- an aggregate is up to date when it is registered
 accumulator-new : (size : ℕ) (ps : List Place) (spec : Spec) (registration : ℕ) (k : Accumulator) → 0 < size → fold_of k ≡ spec.fold → KeepsNothing (groups size (length ps)) k
     → KeepsEntry size ps (Some (record { spec = spec; registration = registration; pending = all_pending size ps; accumulator = k }))
 accumulator-new size ps spec registration (accumulator.Totals live) g f h = (

@@ -34,7 +34,7 @@ totals-swap (Some x) (Some y) ps = sym (totals-among (y ∷ []) x ps)
 totals-under : (o : Change) (ps qs : List Pair) → totals ps ≡ totals qs → totals (cons_option o ps) ≡ totals (cons_option o qs)
 totals-under o ps qs h = totals-more o ps ∙ ap (λ m. with_change m o) h ∙ sym (totals-more o qs)
 
--- a change of one place, with the pairs of the others
+-- a change of one place, with the pairs of the other places
 module _ (spec : Spec) (size : ℕ) (pending : List Bool) where
   abbrev pub others : ℕ → List Place → ℕ → List Pair
   others i [] p = []
@@ -82,7 +82,7 @@ module _ (spec : Spec) (size : ℕ) (pending : List Bool) where
   pub scanned-appended : (ps : List Place) (y : Place) → with_change (totals (scanned_pairs spec size pending 0 ps)) (scanned_pair spec size pending (length ps) y) ≡ totals (scanned_pairs spec size pending 0 (ps ++ y ∷ []))
   scanned-appended ps y = sym (totals-more (scanned_pair spec size pending (length ps) y) (scanned_pairs spec size pending 0 ps)) ∙ sym (appended 0 ps y ∙ rw zero-add refl)
 
--- values are numbers of 64 bits, and there are no more pairs than places
+-- values fit 64 bits, and there are no more pairs than places
 
 abbrev pub ChangeFits : Change → Type 0
 ChangeFits None = Unit {0}
@@ -147,21 +147,21 @@ module _ (spec : Spec) (size : ℕ) (pending : List Bool) where
   length-scanned i [] = omega arith
   length-scanned i (p ∷ ps) = let h = cons-length (scanned_pair spec size pending i p) (scanned_pairs spec size pending (i + 1) ps) (length ps) (length-scanned (i + 1) ps) in omega arith
 
--- if no row group is left, none is pending
+-- if the count of pending row groups is 0, none is pending
 pub none_left : (pending : List Bool) (g : ℕ) → left pending ≡ 0 → is_pending pending g ≡ false
 none_left [] g h = refl
 none_left (true ∷ flags) g h = absurd (let e = sum_by-cons (λ (b : Bool). cond b 1 0) true flags in omega arith)
 none_left (false ∷ flags) zero h = refl
 none_left (false ∷ flags) (suc g) h = none_left flags g (let e = sum_by-cons (λ (b : Bool). cond b 1 0) false flags in omega arith)
 
--- then all places are in
+-- then the pairs of all places are counted
 pub scanned-all : (spec : Spec) (size : ℕ) (pending : List Bool) (i : ℕ) (ps : List Place) → left pending ≡ 0 → scanned_pairs spec size pending i ps ≡ filter_map (place_pair spec) ps
 scanned-all spec size pending i [] h = refl
 scanned-all spec size pending i (p ∷ ps) h =
     ap (λ b. cons_option (cond b None (place_pair spec p)) (scanned_pairs spec size pending (i + 1) ps)) (none_left pending (i / size) h)
     ∙ ap (cons_option (place_pair spec p)) (scanned-all spec size pending (i + 1) ps h)
 
--- if each place's row group is pending, nothing is in
+-- if each place's row group is pending, no pair is counted
 pub scanned-none : (spec : Spec) (size : ℕ) (pending : List Bool) (i : ℕ) (ps : List Place) → ((k : ℕ) → k < i + length ps → is_pending pending (k / size) ≡ true) → scanned_pairs spec size pending i ps ≡ []
 scanned-none spec size pending i [] h = refl
 scanned-none spec size pending i (p ∷ ps) h =

@@ -1,4 +1,4 @@
--- What stands under a number, as the table shows it.
+-- The aggregate with a number, as the table shows it.
 use Rattle.std.proofs.Common.{◌≡◌, ℕ, zero, suc, ◌+◌, ◌-◌, ◌<◌, ◌≤◌, List, [], ◌∷◌, ◌++◌, length, map, refl, ap, ◌∙◌, subst, arith, Option, None, Some, slice_get, replicate}
 use Rattle.std.specs.Prelude.{IsSome, IfNone}
 use Rattle.far_types.specs.Table.{Place, Registered}
@@ -14,7 +14,7 @@ none_behind zero a = refl
 none_behind (suc n) zero = refl
 none_behind (suc n) (suc a) = none_behind n a
 
--- a number has what its registry entry has
+-- the aggregate with a number is the aggregate of its registry entry
 pub entry-at : (registry : List RegistryEntry) (a : ℕ) → aggregate_in registry a ≡ registered_in (flattened (slice_get registry a))
 entry-at registry a = on registry (32 - length registry) a where
   on : (ss : List RegistryEntry) (n k : ℕ) → flattened (slice_get (map registered_in ss ++ replicate n None) k) ≡ registered_in (flattened (slice_get ss k))
@@ -41,7 +41,7 @@ below [] a h = cc
 below (s ∷ registry) zero h = omega arith
 below (s ∷ registry) (suc a) h = let l = below registry a h in omega arith
 
--- an aggregate stands in a registry entry that is there
+-- the number of an aggregate is an index of the registry
 pub there-below : (registry : List RegistryEntry) (a : ℕ) → IsSome (aggregate_in registry a) → a < length registry
 there-below registry a h = below registry a (subst IsSome (entry-at registry a) h)
 
@@ -51,7 +51,7 @@ free-among [] (suc n) i a h = let e : i ≡ a = cc in (omega arith, omega arith)
 free-among (None ∷ registry) n i a h = let e : i ≡ a = cc in (omega arith, omega arith)
 free-among (Some v ∷ registry) n i a h = let rest = free-among registry n (i + 1) a h in (omega arith, omega arith)
 
--- the lowest free number is that of a registry entry that is free, or of the next one
+-- the lowest free number is the index of a free registry entry, or the length of the registry
 pub free-within : (registry : List RegistryEntry) (a : ℕ) → free_from 0 (registered_of registry) ≡ Some a → a ≤ length registry
 free-within registry a h = let l = free-among registry (32 - length registry) 0 a h in omega arith
 

@@ -1,4 +1,4 @@
--- How many values stand under a key, and that one of them can be retracted from totals.
+-- The number of values under a key, each of which can be retracted from totals.
 use Rattle.std.proofs.Common.{refl, ◌≡◌, ℕ, suc, ◌-◌, ◌*◌, ◌≤◌, ◌^◌, true, false, cond, List, [], ◌∷◌, length, sym, ap, ◌∙◌, subst, arith, Option, Some}
 use Rattle.std.specs.Prelude.{ℤ, pos, ◌+ℤ◌, ◌-ℤ◌, ◌≤ℤ◌, neg_ℤ, FitsSigned}
 use Rattle.std.specs.Int.{w64}

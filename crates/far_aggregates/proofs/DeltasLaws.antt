@@ -1,4 +1,4 @@
--- A delta that was applied to an aggregate can be undone, and then the aggregate is as it was.
+-- A delta that was applied to an aggregate can be undone, and then the aggregate is the same as before.
 use Rattle.std.proofs.Common.{◌≡◌, ◌≢◌, ℕ, zero, suc, ◌<◌, ◌/◌, List, [], ◌∷◌, length, map, take, refl, sym, ap, ◌∙◌, subst, arith, Option, None, Some, slice_get, slice_set}
 use Rattle.std.specs.Prelude.{ℤ, option_map}
 use Rattle.std.specs.FinMap as fin
@@ -37,13 +37,13 @@ some_not : {A : Type 0} (x : A) (o : Option A) → o ≡ Some x → o ≢ None
 some_not x None h e = cc
 some_not x (Some y) h e = cc
 
--- what was observed in a row group is there
+-- a key that was observed in a row group has a min-max there
 observed-there : (g : ℕ) (gs : List Extrema) (p : Pair) → g < length gs → fin.get (group_at (slice_set gs g (with_observed (group_at gs g) p)) g) p.0 ≢ None
 observed-there g gs p l =
     let m = group_at gs g in
     some_not (min_max_with p.1 (fin.get m p.0)) _ (ap (λ n. fin.get n p.0) (get_or-set_same gs g (with_observed m p) fin.empty l) ∙ get_inserted m p.0 (min_max_with p.1 (fin.get m p.0)))
 
--- and goes again
+-- undoing the observation restores the row group
 observed-undone : (g : ℕ) (gs : List Extrema) (p : Pair) (o : Option (ℤ × ℤ)) → g < length gs → o ≡ fin.get (group_at gs g) p.0
     → slice_set (slice_set gs g (with_observed (group_at gs g) p)) g (put_min_max (group_at (slice_set gs g (with_observed (group_at gs g) p)) g) p.0 o) ≡ gs
 observed-undone g gs p o l h =
@@ -88,14 +88,14 @@ entry_below g (suc n) k (t ∷ registry) [] s h = (s, h)
 entry_below g (suc n) zero (t ∷ registry) (c ∷ deltas) s h = (t, refl)
 entry_below g (suc n) (suc k) (t ∷ registry) (c ∷ deltas) s h = entry_below g n k registry deltas s h
 
--- below n each delta that was applied may be undone
+-- each of the first n deltas, if applied, may be undone
 pub until-may_undo : (g n : ℕ) (registry : List RegistryEntry) (deltas : List (Option Delta)) → EachFits g registry deltas → EachMayUndo g n (zip_until (with_delta g) n registry deltas) deltas
 until-may_undo g n registry deltas h k s c l here there =
     let was : (t : RegistryEntry) × (slice_get registry k ≡ Some t) = entry_below g n k registry deltas s here in
     let is : s ≡ with_delta g was.0 c = same_some _ _ (sym here ∙ zip_until-below (with_delta g) n k registry deltas was.0 c l was.1 there) in
     subst (λ t. MayUndo g t c) (sym is) (fits-may_undo g was.0 c (h k was.0 c was.1 there))
 
--- and so may each that was added to all
+-- if all deltas were applied, each may be undone
 all-may_undo : (g : ℕ) (registry : List RegistryEntry) (deltas : List (Option Delta)) → EachFits g registry deltas → EachMayUndo g (length (zip_all (with_delta g) registry deltas)) (zip_all (with_delta g) registry deltas) deltas
 all-may_undo g registry deltas fits =
     let n = length (zip_all (with_delta g) registry deltas) in
@@ -108,7 +108,7 @@ all-undo g registry deltas fits =
     ∙ ap (λ l. zip_until (undo g) n l deltas) (sym (zip_until-all (with_delta g) n registry deltas (omega arith)))
     ∙ zip_until-undo (with_delta g) (undo g) n registry deltas (λ k s d h i. fits-undo g s d (fits k s d h i))
 
--- a delta has the pair that a row gives, or there is none
+-- the delta of a row is the delta of the pair that the row contributes
 pub delta-given : (size i : ℕ) (o : ChangeBySpec) (s : RegistryEntry) (p : Pair) → change_of size i o s ≡ Some p → row_delta size i o s ≡ delta_in (i / size) s p
 delta-given size i o None p h = cc
 delta-given size i o (Some a) p h = ap (option_map (delta_of (i / size) a.accumulator)) h
@@ -117,7 +117,7 @@ pub delta-none : (size i : ℕ) (o : ChangeBySpec) (s : RegistryEntry) → chang
 delta-none size i o None h = refl
 delta-none size i o (Some a) h = ap (option_map (delta_of (i / size) a.accumulator)) h
 
--- and nothing changes nothing
+-- without a delta an entry is unchanged
 pub added-none : (g : ℕ) (s : RegistryEntry) → with_delta g s None ≡ s
 added-none g None = refl
 added-none g (Some a) = refl
@@ -145,11 +145,11 @@ each-fits size i o (t ∷ registry) f r zero s c here there =
     subst (λ u. FitsEntry (i / size) u c) a (subst (FitsEntry (i / size) t) b (entry-fits size i o t (f 0 t refl) r.0))
 each-fits size i o (t ∷ registry) f r (suc k) s c here there = each-fits size i o registry (λ j. f (suc j)) r.1 k s c here there
 
--- of the deltas no more than the first are looked at
+-- whether the first n entries may be undone depends only on the first n deltas
 may_undo-alike : (g n : ℕ) (registry : List RegistryEntry) (deltas more : List (Option Delta)) → take n more ≡ take n deltas → EachMayUndo g n registry deltas → EachMayUndo g n registry more
 may_undo-alike g n registry deltas more e h k s c l here there = h k s c l here (sym (get-take n k deltas l) ∙ ap (λ (cs : List (Option Delta)). slice_get cs k) (sym e) ∙ get-take n k more l ∙ there)
 
--- deltas are applied one after the other: those of the first n are listed
+-- deltas are applied one after another: the list has the deltas of the first n entries
 module _ (size i : ℕ) (o : ChangeBySpec) (registry : List RegistryEntry) (folds : EachFolds registry) (reserved : AreReserved (i / size) registry) (n : ℕ) (within : n < length registry) (deltas : List (Option Delta)) (is : deltas ≡ map (row_delta size i o) (take n registry)) where
   abbrev all : List (Option Delta)
   all = map (row_delta size i o) registry
@@ -175,7 +175,7 @@ module _ (size i : ℕ) (o : ChangeBySpec) (registry : List RegistryEntry) (fold
       ∙ zip_until-take (undo (i / size)) n mid all
       ∙ zip_until-undo (with_delta (i / size)) (undo (i / size)) n registry all (λ k s d h j. fits-undo (i / size) s d (each-fits size i o registry folds reserved k s d h j))
 
--- the deltas of a place can all be undone, and then all aggregates are as they were
+-- the deltas of a place can all be undone, and then all aggregates are the same as before
 module _ (size i : ℕ) (o : ChangeBySpec) (registry mid : List RegistryEntry) (deltas : List (Option Delta)) (is : deltas ≡ map (row_delta size i o) registry) (applied : mid ≡ zip_all (with_delta (i / size)) registry deltas) (folds : EachFolds registry) (reserved : AreReserved (i / size) registry) where
   deltas-fit : EachFits (i / size) registry deltas
   deltas-fit = subst (EachFits (i / size) registry) (sym is) (each-fits size i o registry folds reserved)

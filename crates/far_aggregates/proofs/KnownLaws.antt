@@ -1,4 +1,4 @@
--- What is known of what stands under no key, as it changes.
+-- The cache of the min-max under no key, as the min-max changes.
 use Rattle.std.proofs.Common.{inl, inr, ◌≡◌, true, false, cond, ℕ, ◌+◌, ◌-◌, ◌<◌, List, length, sym, ap, ◌∙◌, subst, Option, None, Some, slice_set}
 use Rattle.std.specs.Prelude.{ℤ, is_some, IfSome, slice_get}
 use Rattle.std.specs.Ordering.{eq_by_cmp}
@@ -25,12 +25,12 @@ known-reserved plain groups new g is known h min_max noted =
 pub known-same : (plain : List (Option (ℤ × ℤ))) (groups new : List Extrema) → new ≡ groups → AreKnown plain groups → AreKnown plain new
 known-same plain groups new is known = subst (AreKnown plain) (sym is) known
 
--- what is noted of a row group, if anything is
+-- the cached min-max of a row group, if there is one
 pub known-at : (plain : List (Option (ℤ × ℤ))) (groups : List Extrema) (g : ℕ) (o : Option (ℤ × ℤ)) → AreKnown plain groups → IfSome o (λ min_max. slice_get plain g ≡ Some (Some min_max)) → IfSome o (λ min_max. fin.get (group_at groups g) None ≡ Some min_max)
 known-at plain groups g None known h = tt
 known-at plain groups g (Some min_max) known h = known g min_max h
 
--- a row group that changes, if what stands under no key stays, or is noted anew
+-- row groups that change: the min-max under no key is unchanged, or is cached anew
 
 pub known-elsewhere : (plain : List (Option (ℤ × ℤ))) (groups : List Extrema) (g : ℕ) (m : Extrema) → g < length groups → fin.get m None ≡ fin.get (group_at groups g) None → AreKnown plain groups → AreKnown plain (slice_set groups g m)
 known-elsewhere plain groups g m within same known h min_max noted = elim (same_or_not h g) [
@@ -50,7 +50,7 @@ known-noted plain more groups g m o within is known note h min_max noted = elim 
   | inr e ↦ ap (λ (x : Extrema). fin.get x None) (get_or-set_other groups g h m fin.empty e.0) ∙ known h min_max e.1
 ]
 
--- what stands under no key, if a key changes
+-- the min-max under no key, if a key changes
 
 get_put : (m : Extrema) (k : Option Key) (o : Option (ℤ × ℤ)) (q : Option Key) → fin.get (put_min_max m k o) q ≡ cond (eq_by_cmp line_cmp q k) o (fin.get m q)
 get_put m k None q = fin.get-remove line_total m k q

@@ -1,4 +1,4 @@
--- A pair that need not be retracted may be left out: what is kept is the same.
+-- A pair that need not be retracted may be left out: the aggregates end up the same.
 use Rattle.std.proofs.Common.{inl, inr, ◌≡◌, ◌≢◌, ℕ, zero, suc, ◌<◌, ◌≤◌, ◌/◌, List, [], ◌∷◌, length, map, refl, sym, ap, ◌∙◌, subst, arith, ◌+◌, Option, None, Some, slice_get, slice_set}
 use Rattle.std.specs.Prelude.{ℤ, option_map}
 use Rattle.std.specs.FinMap as fin
@@ -27,7 +27,7 @@ use Rattle.far_aggregates.specs.Until.{zip_all}
 use Rattle.far_aggregates.proofs.AccumulatorsExtrema.{left-within, same_or_not}
 use Rattle.far_aggregates.proofs.PendingLaws.{get-set_other}
 
--- what stands under the key of a delta
+-- the min-max under the key of a delta
 observed-under_key : (m : Extrema) (p : Pair) (k : Option Key) (min_max : ℤ × ℤ) → fin.get m p.0 ≡ Some min_max → p.0 ≡ k → fin.get (with_observed m p) k ≡ Some (min_max_with p.1 (Some min_max))
 observed-under_key m p k min_max is same =
     ap (fin.get (with_observed m p)) (sym same)
@@ -52,7 +52,7 @@ module _ (g : ℕ) (here : List Place) where
       ap (λ (n : Extrema). fin.get n pair.0) (get_or-set_same live.groups g (with_observed m p) fin.empty reserved) ∙ observed-under_key m p pair.0 s.0 s.1 s.2 in
       ap (λ (hs : List Extrema). accumulator.Extrema (record live { groups = hs })) (sym (left-within g gs pair.0 pair.1 (fin.get (extrema (pairs_here spec here)) pair.0) wide may found s.3 s.4))
 
-  -- of one registry entry, which has a delta or none
+  -- the pair of one registry entry, which has a delta or none, may be retracted
   needless-entry : (a : Aggregate) (o c : Change) → AccumulatorIsReserved g a.accumulator → NeedNotRetract (option_map (delta_of g a.accumulator) o) c → MayRetract g here (with_delta g (Some a) (option_map (delta_of g a.accumulator) o)) c
       → after_retract g here (with_delta g (Some a) (option_map (delta_of g a.accumulator) o)) c ≡ with_delta g (Some a) (option_map (delta_of g a.accumulator) o)
   needless-entry a None c reserved s may = absurd s
@@ -113,7 +113,7 @@ each-left_may g here deltas registry cs ds many as_many out may k s d at is =
     let delta = get-there deltas k (omega arith) in
     left-may g here s delta.0 c.0 d (out k delta.0 c.0 d delta.1 c.1 is) (may k s c.0 at c.1)
 
--- so the pairs may be retracted without them, and then what is kept is the same
+-- the remaining pairs may be retracted, and then the aggregates are the same
 pub left_out-retracts : (size place : ℕ) (gives : ChangeBySpec) (places : List Place) (mid new : List RegistryEntry) (deltas : List (Option Delta)) (old left : Pending) → AreReserved (place / size) mid
     → old.group ≡ place / size → left.group ≡ place / size → deltas ≡ map (row_delta size place gives) mid → new ≡ zip_all (with_delta (place / size)) mid (map (row_delta size place gives) mid)
     → length left.to_retract.items ≡ length old.to_retract.items → length old.to_retract.items ≡ length mid → length left.to_retract.items ≤ length new → EachLeftOut deltas old.to_retract.items left.to_retract.items
@@ -142,7 +142,7 @@ get-written [] i c d h = cc
 get-written (x ∷ xs) zero c d h = refl
 get-written (x ∷ xs) (suc i) c d h = get-written xs i c d h
 
--- one more may be left out
+-- one more pair may be left out
 module _ (i : ℕ) (deltas : List (Option Delta)) (old now : List Change) (delta : Option Delta) (c d : Change) (applied : slice_get deltas i ≡ Some delta) (retracts : slice_get now i ≡ Some c)
     (rest : (k : ℕ) → i ≤ k → slice_get now k ≡ slice_get old k) (s : IsLeftOut delta c d) (out : EachLeftOut deltas old now) where
   own-left_out : (m : Option Delta) (a b : Change) → slice_get deltas i ≡ Some m → slice_get old i ≡ Some a → slice_get (slice_set now i d) i ≡ Some b → IsLeftOut m a b
@@ -164,6 +164,6 @@ module _ (i : ℕ) (deltas : List (Option Delta)) (old now : List Change) (delta
   pub rest-more : (k : ℕ) → i + 1 ≤ k → slice_get (slice_set now i d) k ≡ slice_get old k
   rest-more k h = get-set_other now i k d (λ e. absurd (omega arith)) ∙ rest k (omega arith)
 
--- what is not changed is left out nowhere
+-- in an unchanged list no pair is left out
 pub nothing-left_out : (deltas : List (Option Delta)) (old : List Change) → EachLeftOut deltas old old
 nothing-left_out deltas old k m a b p q r = inl (same-some b a (sym r ∙ q))

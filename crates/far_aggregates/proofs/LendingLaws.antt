@@ -1,4 +1,4 @@
--- Columns that a row group lends are those of its places, and each that an aggregate needs is there.
+-- The columns that a row group lends have the cells of its places, and include each column that an aggregate needs.
 use Rattle.std.proofs.Common.{inl, inr, ◌≡◌, ℕ, zero, suc, ◌≤◌, length, arith, Bool, true, false, ◌||◌, cond, List, [], ◌∷◌, Option, None, Some, refl, sym, ap, ◌∙◌, subst, slice_get}
 use Rattle.std.specs.Prelude.{◌==◌, ◌⊎◌, option_map, IfSome}
 use Rattle.std.specs.List.{AllByRecursion, list_any}
@@ -16,11 +16,11 @@ use Rattle.far_offload.specs.AtHand.{AreAtHand}
 use Rattle.far_offload.specs.Columns.{Columns, is_number, column_of, cell_of, cells_at}
 use Rattle.far_aggregates.specs.Lending.{IsOfPlaces, IsLent, IsServed}
 
--- a column of this number, or of another one that has its own first cells
+-- a column has this number, or begins with the cells of the places
 abbrev pub IsHere : List Place → ℕ → ℕ × List Cell → Type 0
 IsHere here value column = (column.0 ≡ value) ⊎ IsOfPlaces here column
 
--- a column that is there shows the cells of the places, if it has not that number
+-- a lent column has the cells of the places, unless its number is `value`
 shows : (here : List Place) (value : ℕ) (columns : Columns) (c i : ℕ) (place : Place) → (value ≡ c → ⊥) → AllByRecursion (IsHere here value) columns → list_any (is_number c) columns ≡ true → slice_get here i ≡ Some place → cells_at columns i c ≡ cells_of place.cells c
 shows here value [] c i place other are there at = cc
 shows here value (column ∷ columns) c i place other are there at =
@@ -32,7 +32,7 @@ shows here value (column ∷ columns) c i place other are there at =
       | false ↦ λ e h. shows here value columns c i place other are.1 h at
     ] refl there
 
--- the first column has that number, so that the others of that number are never found
+-- the first column has this number, so no look-up finds a later column with the same number
 first : (here : List Place) (column : ℕ × List Cell) (columns : Columns) (c i : ℕ) (place : Place) → IsOfPlaces here column → AllByRecursion (IsHere here column.0) columns → list_any (is_number c) (column ∷ columns) ≡ true → slice_get here i ≡ Some place → cells_at (column ∷ columns) i c ≡ cells_of place.cells c
 first here column columns c i place of_places are there at = elim (eqb_tells column.0 c) as (λ o. cells_at (column ∷ columns) i c ≡ cells_of place.cells c) [
   | inl t ↦ ap (λ b. option_map (cell_of i) (cond b (Some column) (column_of columns c))) t.0 ∙ of_places i place at ∙ ap (cells_of place.cells) t.1
@@ -41,7 +41,7 @@ first here column columns c i place of_places are there at = elim (eqb_tells col
       ap (λ b. option_map (cell_of i) (cond b (Some column) (column_of columns c))) t.0 ∙ shows here column.0 columns c i place t.1 are rest at
 ]
 
--- what is needed is a test's, the key's or the value's
+-- each needed column is the column of a test, of the key or of the value
 
 pub or-cases : (a b : Bool) → (a || b) ≡ true → (a ≡ true) ⊎ (b ≡ true)
 or-cases true b h = inl refl
@@ -54,7 +54,7 @@ keyed-is (Some k) c h = ap Some (eqb-true k c h)
 is_it : (c : ℕ) (column : ℕ × List Cell) → column.0 ≡ c → is_number c column ≡ true
 is_it c column h = eq-eqb column.0 c h
 
--- each test has its column, in order
+-- the columns have the numbers of the tests, in order
 abbrev Numbered : List Test → Columns → Type 0
 Numbered [] columns = Unit {0}
 Numbered (test ∷ tests) [] = ⊥
@@ -68,11 +68,11 @@ tested-there (test ∷ tests) (column ∷ columns) c h some = elim (or-cases (bo
   | inr e ↦ or_right (is_number c column) (list_any (is_number c) columns) (tested-there tests columns c h.1 e)
 ]
 
--- the column of a test, if there are so many
+-- the column of the n-th test, if there is one
 abbrev pub nth_test : List Test → ℕ → Option ℕ
 nth_test tests i = option_map bounds.column_of (slice_get tests i)
 
--- the columns that are lent for an aggregate, with the one of its value first
+-- the columns that are lent for an aggregate, with the value column first
 module _ (here : List Place) (other : ℕ) where
   is_here : (value : ℕ) (number : Option ℕ) (column : ℕ × List Cell) → value ≡ other → IsLent here other number column → IsHere here value column
   is_here value None column e h = inl (h ∙ sym e)
@@ -109,7 +109,7 @@ at_hand spec here value key one two three four few is_value is_key is_one is_two
         | inr h ↦ or_left (is_number c value) (is_number c key || behind) (is_it c value (is_value.0 ∙ eqb-true spec.value c h))
       ]
 
--- without tests no more than two are lent
+-- without tests only two columns are lent
 pub untested-at_hand : (spec : Spec) (here : List Place) (value key : ℕ × List Cell) → spec.filter ≡ [] → IsLent here spec.value (Some spec.value) value → IsLent here spec.value spec.key key → AreAtHand spec (value ∷ key ∷ []) here
 untested-at_hand spec here value key untested is_value is_key = λ c i place needed at. first here value (key ∷ []) c i place is_value.1 (is_here here spec.value value.0 spec.key key is_value.0 is_key, tt) (there c needed) at where
   there : (c : ℕ) → needs spec c ≡ true → list_any (is_number c) (value ∷ key ∷ []) ≡ true

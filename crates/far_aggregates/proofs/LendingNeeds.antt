@@ -1,4 +1,4 @@
--- An aggregate that may be had over a schema has few tests, and needs columns of the schema alone.
+-- An aggregate that is not refused over a schema has few tests, and needs only columns of the schema.
 use Rattle.std.proofs.Common.{inl, inr, ◌≡◌, ℕ, ◌<◌, ◌≤◌, Bool, true, false, ◌||◌, ◌&&◌, cond, List, [], ◌∷◌, length, Option, None, Some, refl, subst, arith}
 use Rattle.std.specs.Prelude.{◌==◌, not, nat_lt}
 use Rattle.std.specs.List.{list_any, list_all}
@@ -13,7 +13,7 @@ use Rattle.far_types.specs.Bounds.{column_of, has_long_constant, needs, is_withi
 use Rattle.far_aggregates.specs.Lending.{IsServed}
 use Rattle.far_aggregates.proofs.LendingLaws.{or-cases}
 
--- no refusal of a list is due if the first is not
+-- if no refusal of a list is due, the first is not due and none of the rest is
 not-first : (b : Bool) (r : Refusal) (rest : Option Refusal) → cond b (Some r) rest ≡ None → (b ≡ false) × (rest ≡ None)
 not-first true r rest h = cc
 not-first false r rest h = (refl, h)

@@ -9,7 +9,7 @@ all-set P [] i x h k = tt
 all-set P (y ∷ xs) zero x h k = (k, h.1)
 all-set P (y ∷ xs) (suc i) x h k = (h.0, all-set P xs i x h.1 k)
 
--- a fact of each element is one of the first
+-- a fact of each element holds for the first elements
 pub all-front : {X : Type 0} (P : X → Type 0) (xs ys : List X) → AllByRecursion P (xs ++ ys) → AllByRecursion P xs
 all-front P [] ys h = tt
 all-front P (x ∷ xs) ys h = (h.0, all-front P xs ys h.1)
@@ -19,7 +19,7 @@ all-get P [] i x h e = cc
 all-get P (y ∷ xs) zero x h e = let k : y ≡ x = cc in subst P k h.0
 all-get P (y ∷ xs) (suc i) x h e = all-get P xs i x h.1 e
 
--- a fact of each element's image
+-- a fact of each element's image holds for the image of one element
 pub all-map_get : {X Y : Type 0} (P : Y → Type 0) (f : X → Y) (xs : List X) (i : ℕ) (x : X) → AllByRecursion P (map f xs) → slice_get xs i ≡ Some x → P (f x)
 all-map_get P f [] i x h e = cc
 all-map_get P f (y ∷ xs) zero x h e = let k : y ≡ x = cc in subst (λ z. P (f z)) k h.0
@@ -30,17 +30,17 @@ all-more P i [] y l h k = absurd (omega arith)
 all-more P zero (x ∷ xs) y l h k = (k, tt)
 all-more P (suc i) (x ∷ xs) y l h k = (h.0, all-more P i xs y (omega arith) h.1 k)
 
--- a fact of the first elements, and of one more that is written
+-- a fact of the first elements holds with one more element that is written
 pub all-take_set : {X : Type 0} (P : X → Type 0) (i : ℕ) (xs : List X) (y : X) → i < length xs → AllByRecursion P (take i xs) → P y → AllByRecursion P (take (i + 1) (slice_set xs i y))
 all-take_set P i xs y l h k = subst (λ n. AllByRecursion P (take n (slice_set xs i y))) (sym (add-one i)) (all-more P i xs y l h k)
 
--- what f does not distinguish from the element before
+-- writing an element with the same image as before changes no image
 pub map-set_like : {X Y : Type 0} (f : X → Y) (xs : List X) (i : ℕ) (x y : X) → slice_get xs i ≡ Some x → f y ≡ f x → map f (slice_set xs i y) ≡ map f xs
 map-set_like f [] i x y h e = refl
 map-set_like f (z ∷ xs) zero x y h e = let k : z ≡ x = cc in ap (λ v. v ∷ map f xs) (e ∙ ap f (sym k))
 map-set_like f (z ∷ xs) (suc i) x y h e = ap (λ l. f z ∷ l) (map-set_like f xs i x y h e)
 
--- elements past the end are what they would be by default
+-- elements past the end are the default
 pub index-replicate : {X : Type 0} (xs : List X) (n i : ℕ) (d : X) → slice_index_or (xs ++ replicate n d) i d ≡ slice_index_or xs i d
 index-replicate [] zero i d = refl
 index-replicate [] (suc n) zero d = refl
@@ -68,7 +68,7 @@ module _ {X C : Type 0} (f : X → C → X) where
   length-zip_all (x ∷ xs) [] = refl
   length-zip_all (x ∷ xs) (c ∷ cs) = ap suc (length-zip_all xs cs)
 
-  -- a fact of each element that f keeps
+  -- a fact of each element still holds after f, if f keeps it
   pub all-zip_all : (P : X → Type 0) → ((x : X) (c : C) → P x → P (f x c)) → (xs : List X) (cs : List C) → AllByRecursion P xs → AllByRecursion P (zip_all f xs cs)
   all-zip_all P k [] cs h = tt
   all-zip_all P k (x ∷ xs) [] h = h
@@ -79,13 +79,13 @@ module _ {X C : Type 0} (f : X → C → X) where
   map-zip_all g k (x ∷ xs) [] = refl
   map-zip_all g k (x ∷ xs) (c ∷ cs) = λ i. k x c i ∷ map-zip_all g k xs cs i
 
--- what was written last stands
+-- the last write to an index counts
 pub set-again : {X : Type 0} (xs : List X) (i : ℕ) (x y : X) → slice_set (slice_set xs i x) i y ≡ slice_set xs i y
 set-again [] i x y = refl
 set-again (z ∷ xs) zero x y = refl
 set-again (z ∷ xs) (suc i) x y = ap (λ l. z ∷ l) (set-again xs i x y)
 
--- an element written to its own place
+-- writing an element to its own index changes nothing
 pub set-own : {X : Type 0} (xs : List X) (i : ℕ) (d : X) → slice_set xs i (slice_index_or xs i d) ≡ xs
 set-own [] i d = refl
 set-own (z ∷ xs) zero d = refl
@@ -101,7 +101,7 @@ get-drop n k [] = ap (λ l. slice_get l k) (drop-nil n)
 get-drop zero k (x ∷ xs) = let e : zero + k ≡ k = omega arith in rw e refl
 get-drop (suc n) k (x ∷ xs) = get-drop n k xs ∙ (let e : suc n + k ≡ suc (n + k) = omega arith in rw e refl)
 
--- an element that stands there already
+-- writing an element that is there already changes nothing
 pub set_same : {X : Type 0} (xs : List X) (i : ℕ) (x : X) → slice_get xs i ≡ Some x → slice_set xs i x ≡ xs
 set_same [] i x h = refl
 set_same (y ∷ xs) zero x h = let e : x ≡ y = cc in rw e refl

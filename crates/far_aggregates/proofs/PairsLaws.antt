@@ -1,4 +1,4 @@
--- The pairs of some places: with one place more, and how many they are.
+-- The pairs of some places: with one more place, and their number.
 use Rattle.std.proofs.Common.{◌≡◌, suc, ◌≤◌, List, [], ◌∷◌, ◌++◌, length, ap, ◌∙◌, arith, None, Some}
 use Rattle.std.specs.List.{filter_map, cons_option}
 use Rattle.std.proofs.lemmas.List.{append-nil}
@@ -14,7 +14,7 @@ use Rattle.far_aggregates.specs.Pairs.{with_observed_change}
 extrema-last : (xs : List Pair) (p : Pair) → extrema (xs ++ p ∷ []) ≡ with_observed (extrema xs) p
 extrema-last xs p = extrema-among xs p [] ∙ ap (λ l. extrema (p ∷ l)) (append-nil xs) ∙ extrema-cons p xs
 
--- one more pair at the end, if there is one
+-- extrema of pairs with one more pair at the end, if there is one
 pub extrema-joined : (xs : List Pair) (o : Change) → extrema (xs ++ cons_option o []) ≡ with_observed_change (extrema xs) o
 extrema-joined xs None = ap extrema (append-nil xs)
 extrema-joined xs (Some p) = extrema-last xs p

@@ -21,7 +21,7 @@ use Rattle.far_aggregates.specs.Until.{zip_all}
 use Rattle.far_aggregates.proofs.AccumulatorsEdits.{after_insert, set_may_retract, after_set, removed-adds_all}
 use Rattle.far_aggregates.proofs.ListLaws.{length-zip_all}
 
--- a row with another cell in a column, by the number of the column
+-- the cells of a row with another cell in a column, by column number
 
 pub get-set_same : {X : Type 0} (xs : List X) (i : ℕ) (x : X) → IsSome (slice_get xs i) → slice_get (slice_set xs i x) i ≡ Some x
 get-set_same [] i x h = cc
@@ -44,23 +44,23 @@ changed-cell row column cell k h = elim (eqb_tells k column) as (λ o. cond (k =
 changed-cells : (row : List Cell) (column : ℕ) (cell : Cell) → IsSome (slice_get row column) → with_cell_at column cell (cells_of row) ≡ cells_of (slice_set row column cell)
 changed-cells row column cell h = λ i k. changed-cell row column cell k h i
 
--- the entries of the registry that were lent to be changed are all that there are
+-- the registry entries that were lent for changes are the whole registry
 pub written : {X : Type 0} (n : ℕ) (new old : List X) → length new ≡ n → take n (new ++ drop (length new) old) ≡ new
 written n new old h = ap (λ k. take k (new ++ drop (length new) old)) (sym h) ∙ take-append_seam new (drop (length new) old)
 
--- what the table shows depends on what it shows of each registry entry alone
+-- the part that the table shows depends only on the shown part of each registry entry
 pub shown-alike : (old new : List RegistryEntry) → map registered_in new ≡ map registered_in old → registered_of new ≡ registered_of old
 shown-alike old new h =
     let many : length new ≡ length old = sym (length-map new registered_in) ∙ ap length h ∙ length-map old registered_in in
     ap (λ n. map registered_in new ++ replicate (32 - n) None) many ∙ ap (λ l. l ++ replicate (32 - length old) None) h
 
--- a removed place keeps its numbers
+-- the numbers of the places still fit 64 bits after a removal
 fit-removed : (i : ℕ) (ps : List Place) → PlacesFit ps → PlacesFit (change_at after_remove i ps)
 fit-removed i [] h = tt
 fit-removed zero (p ∷ ps) h = h
 fit-removed (suc i) (p ∷ ps) h = (h.0, fit-removed i ps h.1)
 
--- an insert
+-- the aggregates are up to date after an insert
 pub insert-applied : (size place : ℕ) (cells : Cells) (old mid new : List RegistryEntry) → 0 < size → AreReserved (place / size) mid → KeepsAsBefore old mid
     → new ≡ zip_all (with_delta (place / size)) mid (map (row_delta size place (row_gives cells)) mid)
     → (places : List Place) (row : List Cell) → length places ≡ place → cells ≡ cells_of row → Keeps size places old → Keeps size (places ++ alive_with row ∷ []) new
@@ -76,7 +76,7 @@ retracts-undo g old mid new pending before at len may is = record {
   kept = λ size places h. subst (Keeps size places) (sym (ap (λ n. zip_all (undo n) new pending.applied.items) at ∙ is)) (before size places h);
 }
 
--- if there is no delta, nothing is undone
+-- without aggregates and deltas, there is nothing to undo
 pub nothing-retracts-undo : (registry : List RegistryEntry) (pending : Pending) → registry ≡ [] → pending.applied.items ≡ [] → UndoesAll registry registry pending
 nothing-retracts-undo registry pending empty none = record {
   may = record {
@@ -109,7 +109,7 @@ retracts-on size place f x old mid new pending places positive reserved before a
           (ap (λ n. zip_all (after_retract n (in_group size (place / size) after)) new pending.to_retract.items) at);
     }
 
--- a set
+-- the pairs can be retracted after a set
 pub set-retracts : (size place column : ℕ) (cell : Cell) (cells : Cells) (old mid new : List RegistryEntry) (pending : Pending) → 0 < size → IsSome (cells column) → AreReserved (place / size) mid → KeepsAsBefore old mid
     → pending.group ≡ place / size → pending.to_retract.items ≡ map (change_of size place (row_gives cells)) mid
     → new ≡ zip_all (with_delta (place / size)) mid (map (row_delta size place (row_gives (with_cell_at column cell cells))) mid)
@@ -121,7 +121,7 @@ set-retracts size place column cell cells old mid new pending positive has reser
     (applied ∙ ap (λ (f : Cells). zip_all (with_delta (place / size)) mid (map (row_delta size place (row_gives f)) mid)) (ap (with_cell_at column cell) there.1 ∙ changed-cells there.0 column cell (subst (λ (f : Cells). IsSome (f column)) there.1 has)))
     there.2 kept fit
 
--- a removal
+-- the pairs can be retracted after a removal
 pub remove-retracts : (size place : ℕ) (cells : Cells) (old mid : List RegistryEntry) (pending : Pending) → 0 < size → AreReserved (place / size) mid → KeepsAsBefore old mid
     → pending.group ≡ place / size → pending.to_retract.items ≡ map (change_of size place (row_gives cells)) mid
     → (places : List Place) → IsAliveAt cells place places → AreUpToDate size places old

@@ -1,4 +1,4 @@
--- What the readers of an aggregate return.
+-- The results of the methods that read an aggregate.
 use Rattle.std.proofs.Common.{◌≡◌, ℕ, Bool, true, false, cond, List, [], ◌∷◌, map, refl, sym, ap, ◌∙◌, subst, Option, None, Some}
 use Rattle.std.specs.Prelude.{ℤ, pos, unwrap_or, is_none, ◌&&◌, ◌==◌}
 use Rattle.std.specs.List.{filter_map, cons_option}
@@ -20,7 +20,7 @@ use Rattle.far_aggregates.specs.Accumulators.{Change, registered_in, fold_of, Is
 use Rattle.far_aggregates.specs.Readings.{is_totals, all_values, plain_in}
 use Rattle.far_aggregates.proofs.AccumulatorsTotals.{scanned-all}
 
--- without key column each pair stands under the one key "none"
+-- without a key column each pair has the key `None`
 
 abbrev pub Keyless : Change → Type 0
 Keyless None = Unit {0}

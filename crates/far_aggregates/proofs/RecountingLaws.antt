@@ -1,4 +1,4 @@
--- Partials that are merged stand for the rows of their row groups.
+-- An aggregate is up to date for the row groups whose partial aggregates are merged into it.
 use Rattle.std.proofs.Common.{◌≡◌, ℕ, zero, suc, ◌+◌, ◌<◌, ◌≤◌, Bool, true, false, cond, List, ◌∷◌, length, replicate, Some, refl, sym, ap, subst, ◌∙◌, arith, slice_set}
 use Rattle.std.specs.Prelude.{◌==◌, None}
 use Rattle.std.proofs.lemmas.Bool.Decides.{nat_tests}
@@ -20,7 +20,7 @@ use Rattle.far_aggregates.specs.Recounting.{partial_at, partials_from, Accumulat
 use Rattle.far_aggregates.specs.Scans.{IsScanned, AccumulatorMayScan}
 use Rattle.far_aggregates.proofs.ScansLaws.{cleared-other, left-cleared}
 
--- all of some row groups are pending
+-- all row groups are pending
 all-left : (n : ℕ) → left (replicate n true) ≡ n
 all-left zero = refl
 all-left (suc n) = let e = sum_by-cons (λ (b : Bool). cond b 1 0) true (replicate n true) in let rest = all-left n in omega arith
@@ -53,17 +53,17 @@ module _ (spec : Spec) (g : ℕ) (here : List Place) where
     pub merged-scanned : (k' : Accumulator) → IsMerged g done k k' → IsScanned spec g here k k'
     merged-scanned k' m = merged k k' (subst (λ d. IsMerged g d k k') is m)
 
--- the partials of some row groups are as many
+-- n row groups have n partial aggregates
 pub length-partials : (spec : Spec) (size : ℕ) (places : List Place) (g n : ℕ) → length (partials_from spec size places g n) ≡ n
 length-partials spec size places g zero = refl
 length-partials spec size places g (suc n) = ap suc (length-partials spec size places (g + 1) n)
 
 module _ (spec : Spec) (size count : ℕ) (partials : List PartialDone) where
-  -- these places have these partials
+  -- these partial aggregates are the ones of these places
   abbrev AreThose : List Place → Type 0
   AreThose all = partials ≡ partials_from spec size all 0 (groups size count)
 
-  -- the row groups below a number are merged, and these are the partials of the others
+  -- the row groups below a number are merged, and these are the partial aggregates of the other row groups
   pub record AreMerged (aggregate : Aggregate) (number : ℕ) (rest : List PartialDone) : Type 0 where
     pub same_spec : aggregate.spec ≡ spec
     pub all : number + length rest ≡ groups size count
@@ -88,14 +88,14 @@ module _ (spec : Spec) (size count : ℕ) (partials : List PartialDone) where
       }
 
   module _ (a b : Aggregate) (number : ℕ) (partial : PartialDone) (rest : List PartialDone) (are : AreMerged a number (partial ∷ rest)) where
-    -- the next one is that of its row group
+    -- the next partial aggregate is the one of its row group
     pub next-is : (all : List Place) → AreThose all → partial ≡ partial_at spec size all number
     next-is all those = let e = are.others all those in cc
 
     next-left : is_pending a.pending number ≡ true
     next-left = are.flags number (omega arith) (let e = are.all in omega arith)
 
-    -- and one row group more is merged
+    -- one more row group is merged
     pub one-merged : b.spec ≡ a.spec → b.pending ≡ slice_set a.pending number false
         → ((all : List Place) → partial ≡ partial_at a.spec size all number → KeepsEntry size all (Some a) → KeepsEntry size all (Some b)) → AreMerged b (number + 1) rest
     one-merged same cleared kept = record {
@@ -107,11 +107,11 @@ module _ (spec : Spec) (size count : ℕ) (partials : List PartialDone) where
       kept = λ all few those. kept all (next-is all those ∙ ap (λ s. partial_at s size all number) (sym are.same_spec)) (are.kept all few those);
     }
 
-  -- no row group is pending once there are no more partials
+  -- no row group is pending once there are no more partial aggregates
   pub none-left : (a : Aggregate) (number : ℕ) (rest : List PartialDone) → AreMerged a number rest → length rest ≡ 0 → left a.pending ≡ 0
   none-left a number rest are none = let all = are.all in let some = are.some in omega arith
 
--- an aggregate that answers can be refused memory alone
+-- an aggregate in which no row group is pending is refused only with `NoMemory`
 pub memory-alone : (a : Aggregate) (e : Refusal) → left a.pending ≡ 0 → MayRefuse (ask_refusal (registered_in (Some a))) true e → e ≡ refusal.NoMemory
 memory-alone a e none may =
     let test : (left a.pending == 0) ≡ true = grind (arith, nat_tests) in

@@ -1,4 +1,4 @@
--- Another cell in a column: the aggregates that do not look at it stay, and totals of its numbers have the new one in place of the old.
+-- Another cell in a column: aggregates that do not use the column are unchanged. Totals of its numbers replace the old number by the new.
 use Rattle.std.proofs.Common.{inl, inr, ◌≡◌, ◌≢◌, ℕ, zero, suc, ◌+◌, ◌/◌, ◌<◌, Bool, true, false, not, ◌||◌, ◌&&◌, cond, List, [], ◌∷◌, length, map, refl, sym, ap, ◌∙◌, subst, arith, zero-add, Option, None, Some, slice_get, slice_set}
 use Rattle.std.specs.Prelude.{ℤ, ◌==◌, option_map, is_some}
 use Rattle.std.specs.Cmp.Lexicographic.{pointwise}
@@ -99,7 +99,7 @@ unless-value : (b : Bool) (o : Change) (to : ℤ) → cond b None (with_value to
 unless-value true o to = refl
 unless-value false o to = refl
 
--- another number in the column of the values
+-- the pair of a row with another number in the value column
 pair-value : (spec : Spec) (column : ℕ) (from to : ℤ) (f g : Cells) → ((k : ℕ) → k ≢ column → g k ≡ f k) → spec.value ≡ column → selects_by column spec ≡ false → f column ≡ Some (cell.Int from) → g column ≡ Some (cell.Int to) → pair_of spec g ≡ with_value to (pair_of spec f)
 pair-value spec column from to f g alike at none old new =
     let apart = neither (list_any (λ t. column_of t == column) spec.filter) (option_map_or (λ k. k == column) spec.key false) none in
@@ -117,14 +117,14 @@ pair-value spec column from to f g alike at none old new =
 some-there : (row : List Cell) (column : ℕ) (c : Cell) → slice_get row column ≡ Some c → is_some (slice_get row column) ≡ true
 some-there row column c there = ap is_some there
 
--- of a place
+-- the pair of a place with another number in the value column
 place-value : (spec : Spec) (column : ℕ) (from to : ℤ) (x : Place) → spec.value ≡ column → selects_by column spec ≡ false → slice_get x.cells column ≡ Some (cell.Int from) → place_pair spec (with_cell column (cell.Int to) x) ≡ with_value to (place_pair spec x)
 place-value spec column from to x at none old =
     let g : Cells = slice_get (slice_set x.cells column (cell.Int to)) in
     ap (λ o. cond x.alive o None) (pair-value spec column from to (cells_of x.cells) g (λ k other. get-set_other x.cells column k (cell.Int to) other) at none old (get-set_same x.cells column (cell.Int to) (some-there x.cells column (cell.Int from) old)))
     ∙ if-value x.alive (pair_of spec (cells_of x.cells)) to
 
--- an aggregate that does not look at the column
+-- the pair of a place for an aggregate that does not use the column
 place-same : (spec : Spec) (column : ℕ) (c : Cell) (x : Place) → needs spec column ≡ false → place_pair spec (with_cell column c x) ≡ place_pair spec x
 place-same spec column c x none =
     ap (λ o. cond x.alive o None) (pair-same spec (slice_get (slice_set x.cells column c)) (cells_of x.cells) (λ k needed. get-set_other x.cells column k c (λ same. true-false (needs spec k) needed (ap (needs spec) same ∙ none))))
@@ -165,7 +165,7 @@ unneeded-keeps size column place c ps (s ∷ registry) positive none h =
     let apart = neither (looks_at column s) (list_any (looks_at column) registry) none in
     (entry-same size column place c ps s positive apart.0 h.0, unneeded-keeps size column place c ps registry positive apart.1 h.1)
 
--- what an edit leaves of a registry entry as the table shows it
+-- replacing a value keeps the part of a registry entry that the table shows
 replaced-registered : (to : ℤ) (s : RegistryEntry) (c : Change) → registered_in (after_replace to s c) ≡ registered_in s
 replaced-registered to None c = refl
 replaced-registered to (Some a) None = refl
@@ -176,7 +176,7 @@ all-replaced_registered to registry cs = map-zip_all (after_replace to) register
 
 -- a place x whose row has a number in the column
 module _ (size place column : ℕ) (from : ℤ) (x : Place) (ps : List Place) (positive : 0 < size) (here : slice_get ps place ≡ Some x) (old : slice_get x.cells column ≡ Some (cell.Int from)) where
-  -- no extrema look at it
+  -- no extrema use the column
   no-extrema : {P : Type 0} (a : Bool) → (not a && (false || not true)) ≡ true → P
   no-extrema true keys = cc
   no-extrema false keys = cc
@@ -209,7 +209,7 @@ module _ (size place column : ℕ) (from : ℤ) (x : Place) (ps : List Place) (p
       subst (λ u. MayReplace u c) a (subst (MayReplace t) b (entry-may t each.0 fit h.0))
   each-may (t ∷ registry) keys fit h (suc k) s c p q = each-may registry (both (keeps_key column t) (keeps_keys column registry) keys).1 fit h.1 k s c p q
 
-  -- then totals are those of the places
+  -- then totals are up to date for the places
   module _ (to : ℤ) where
     abbrev f : Place → Place
     f = with_cell column (cell.Int to)
@@ -254,7 +254,7 @@ module _ (size place column : ℕ) (from : ℤ) (x : Place) (ps : List Place) (p
         let each = both (keeps_key column s) (keeps_keys column registry) keys in
         (entry-replaced s each.0 h.0, Keeps-replaced registry each.1 h.1)
 
--- the cell that a row has in a column is put there
+-- putting a row's own cell in a column changes nothing
 unchanged : (column : ℕ) (c : Cell) (cells : Cells) → cells column ≡ Some c → with_cell_at column c cells ≡ cells
 unchanged column c cells is = λ i k. at k i where
   at : (k : ℕ) → cond (k == column) (Some c) (cells k) ≡ cells k
@@ -263,7 +263,7 @@ unchanged column c cells is = λ i k. at k i where
     | inr t ↦ ap (λ b. cond b (Some c) (cells k)) t.0
   ]
 
--- the pairs that were noted of a place are replaced
+-- the noted pairs of a place may be replaced
 pub noted-replaces : (size place column : ℕ) (from : ℤ) (cells : Cells) (registry : List RegistryEntry) (pending : Pending) → 0 < size → cells column ≡ Some (cell.Int from) → keeps_keys column registry ≡ true
     → pending.to_retract.items ≡ map (value_of column size place (row_gives (with_cell_at column (cell.Int from) cells))) registry
     → (places : List Place) → IsAliveAt cells place places → AreUpToDate size places registry → ReplacesAll size place column places registry pending

@@ -1,4 +1,4 @@
--- That a row group is reserved changes nothing that is kept.
+-- Reserving a row group keeps the aggregates up to date.
 use Rattle.std.proofs.Common.{◌≡◌, ℕ, ◌+◌, ◌-◌, List, length, refl, ◌∙◌, arith, None, Some, replicate, length-append}
 use Rattle.std.specs.FinMap as fin
 use Rattle.std.proofs.lemmas.List.{length-replicate}

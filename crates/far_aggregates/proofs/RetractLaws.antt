@@ -1,4 +1,4 @@
--- Pairs that go out of totals alone: what they leave does not depend on any row.
+-- Pairs that are retracted only from totals: the result depends on no row.
 use Rattle.std.proofs.Common.{◌≡◌, ℕ, suc, List, [], ◌∷◌, refl, ap, None, Some}
 use Rattle.far_types.specs.declared.spec.Spec.{Spec}
 use Rattle.far_types.specs.Pairs.{Pair}

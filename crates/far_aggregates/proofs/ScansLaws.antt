@@ -1,4 +1,4 @@
--- What a row group that is scanned adds to an aggregate.
+-- How a scanned row group changes an aggregate.
 use Rattle.std.proofs.Common.{inl, inr, ◌≡◌, ◌≢◌, ℕ, zero, suc, ◌+◌, ◌-◌, ◌*◌, ◌/◌, ◌<◌, ◌≤◌, Bool, true, false, cond, List, [], ◌∷◌, ◌++◌, length, map, take, drop, refl, sym, ap, ◌∙◌, subst, arith, None, Some, slice_get, slice_set, slice_index_or, replicate, length-append, length-drop, ◌^◌}
 use Rattle.std.specs.Prelude.{nat_eq}
 use Rattle.std.specs.List.{filter_map, cons_option}
@@ -38,7 +38,7 @@ use Rattle.far_aggregates.proofs.ListLaws.{index-replicate}
 use Rattle.far_aggregates.proofs.PairsLaws.{pairs-few}
 use Rattle.far_aggregates.proofs.AccumulatorsExtrema.{same_or_not}
 
--- the flag of a row group that is pending is there
+-- a row group that is pending has a flag
 flag-there : (pending : List Bool) (g : ℕ) → is_pending pending g ≡ true → g < length pending
 flag-there [] g h = cc
 flag-there (b ∷ pending) zero h = omega arith
@@ -50,7 +50,7 @@ cleared-same pending g h = get_or-set_same pending g false false (flag-there pen
 pub cleared-other : (pending : List Bool) (g k : ℕ) → k ≢ g → is_pending (slice_set pending g false) k ≡ is_pending pending k
 cleared-other pending g k n = get_or-set_other pending g k false false n
 
--- one row group less is pending
+-- one fewer row group is pending
 pub left-cleared : (pending : List Bool) (g : ℕ) → is_pending pending g ≡ true → left (slice_set pending g false) + 1 ≡ left pending
 left-cleared [] g h = cc
 left-cleared (true ∷ pending) zero h = let a = sum_by-cons (λ (b : Bool). cond b 1 0) true pending in let b = sum_by-cons (λ (b : Bool). cond b 1 0) false pending in omega arith
@@ -65,7 +65,7 @@ abbrev no_places : List Place
 no_places = []
 
 module _ (spec : Spec) (size : ℕ) (pending : List Bool) (g : ℕ) (there : is_pending pending g ≡ true) where
-  -- what a place of the row group adds
+  -- the pair that a place of the row group adds
   abbrev added_pair : ℕ → Place → Change
   added_pair i p = cond (nat_eq (i / size) g) (place_pair spec p) None
 
@@ -126,14 +126,14 @@ module _ (spec : Spec) (size : ℕ) (pending : List Bool) (g : ℕ) (there : is_
       ap (λ c. cons_option c (added_pairs (i + 1) ps)) (out i p (λ f. let h : i / size * size ≡ g * size = ap (λ k. k * size) f in absurd (omega arith)))
       ∙ before d (i + 1) ps pos (omega arith)
 
-  -- the totals of the places with one row group more
+  -- the totals of the places with one more row group
   pub totals-scanned : (ps : List Place) → 0 < size → joined_totals (totals (scanned_pairs spec size pending 0 ps)) (totals (group_pairs spec size g ps)) ≡ totals (scanned_pairs spec size (slice_set pending g false) 0 ps)
   totals-scanned ps pos =
       sym (totals-append (scanned_pairs spec size pending 0 ps) (group_pairs spec size g ps))
       ∙ ap (λ l. totals (scanned_pairs spec size pending 0 ps ++ l)) (sym (before (g * size) 0 ps pos (omega arith)))
       ∙ sym (scanned 0 ps)
 
-  -- and the extrema
+  -- the extrema of the places with one more row group
   pub groups-scanned : (ps : List Place) (gs : List Extrema) → ((h : ℕ) → slice_index_or gs h fin.empty ≡ scanned_group spec size pending ps h)
       → (h : ℕ) → slice_index_or (slice_set (after_reserve g gs) g (extrema (group_pairs spec size g ps))) h fin.empty ≡ scanned_group spec size (slice_set pending g false) ps h
   groups-scanned ps gs kept h =
@@ -160,7 +160,7 @@ module _ (spec : Spec) (size : ℕ) (pending : List Bool) (g : ℕ) (there : is_
   pub left-some : left pending ≡ 0 → ⊥
   left-some h = let e = left-cleared pending g there in absurd (omega arith)
 
--- an aggregate after a row group was scanned
+-- an aggregate is up to date after a row group was scanned
 pub accumulator-scanned : (size : ℕ) (ps : List Place) (a : Aggregate) (k k' : Accumulator) (g : ℕ) → is_pending a.pending g ≡ true → 0 < size → IsUpToDate size ps a k → IsScanned a.spec g (in_group size g ps) k k' → IsUpToDate size ps (record a { pending = slice_set a.pending g false }) k'
 accumulator-scanned size ps a (accumulator.Totals live) k' g there pos h s = subst (IsUpToDate size ps (record a { pending = slice_set a.pending g false })) (sym s) (
   ap (λ m. joined_totals m (totals (group_pairs a.spec size g ps))) h.0 ∙ totals-scanned a.spec size a.pending g there ps pos,
@@ -177,7 +177,7 @@ fold-scanned spec size g ps (accumulator.Totals live) k' s = ap fold_of s
 fold-scanned spec size g ps (accumulator.Extrema live) (accumulator.Totals new) s = absurd s
 fold-scanned spec size g ps (accumulator.Extrema live) (accumulator.Extrema new) s = refl
 
--- and if it was not
+-- an aggregate stays up to date if its accumulator has the same rows
 same-in : (size : ℕ) (ps : List Place) (a : Aggregate) (k k' : Accumulator) → IsSame k k' → IsUpToDate size ps a k → IsUpToDate size ps a k'
 same-in size ps a (accumulator.Totals live) k' s h = subst (IsUpToDate size ps a) (sym s) h
 same-in size ps a (accumulator.Extrema live) (accumulator.Totals new) s h = absurd s
@@ -191,7 +191,7 @@ same-fold (accumulator.Extrema live) (accumulator.Extrema new) s = refl
 pub entry-same : (size : ℕ) (ps : List Place) (a : Aggregate) (k : Accumulator) → IsSame a.accumulator k → KeepsEntry size ps (Some a) → KeepsEntry size ps (Some (record a { accumulator = k }))
 entry-same size ps a k s h = (same-fold a.accumulator k s ∙ h.0, accumulator-same size ps a (record a { accumulator = k }) k refl refl (same-in size ps a a.accumulator k s h.1))
 
--- a row group has no more places than there are
+-- a row group has no more places than the table
 pub group-length : (size g : ℕ) (ps : List Place) → length (in_group size g ps) ≤ length ps
 group-length size g ps =
     let b = length-take size (drop (g * size) ps) in
@@ -228,7 +228,7 @@ has-below [] g a h = cc
 has-below (s ∷ registry) g zero h = omega arith
 has-below (s ∷ registry) g (suc a) h = let l = has-below registry g a h in omega arith
 
--- what a fold of the columns that a row group lends comes to
+-- the result of a fold of the columns that a row group lends
 
 pub pairs-lent : (spec : Spec) (here : List Place) (columns : Columns) (flags : List Bool) → AreAtHand spec columns here → flags ≡ map (λ (place : Place). place.alive) here → pairs_over spec columns flags ≡ pairs_here spec here
 pairs-lent spec here columns flags h is = ap (pairs_over spec columns) is ∙ at-hand spec columns here h

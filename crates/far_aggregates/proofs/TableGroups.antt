@@ -1,4 +1,4 @@
--- The places of a row group: which changes leave them as they are, and how they follow from the places in order.
+-- The places of a row group: the changes that do not affect them, and their positions among all places.
 use Rattle.std.proofs.Common.{inl, inr, ◌≡◌, ◌≢◌, ℕ, zero, suc, ◌+◌, ◌-◌, ◌*◌, ◌/◌, ◌<◌, ◌≤◌, List, [], ◌∷◌, ◌++◌, length, take, drop, refl, sym, ap, ◌∙◌, arith, slice_get, slice_set, slice_index_or, length-drop, length-append}
 use Rattle.std.specs.Prelude.{option_map, ◌⊎◌}
 use Rattle.std.proofs.Math.Nat.{div-mul-le_self, lt-div-mul-add, mul-le-mul_right}
@@ -56,14 +56,14 @@ ends size h i l =
     let most : (h + 1) * size ≤ i / size * size = mul-le-mul_right size (omega arith) in
     omega arith
 
--- and a higher one begins behind it
+-- a higher row group begins after a place of a lower one
 begins : (size h i : ℕ) → 0 < size → i / size < h → i < h * size
 begins size h i g l =
     let high : i < i / size * size + size = lt-div-mul-add g in
     let most : (i / size + 1) * size ≤ h * size = mul-le-mul_right size (omega arith) in
     omega arith
 
--- a change of one place leaves the other row groups
+-- a change of one place does not change the other row groups
 pub in_group-changed : (size h : ℕ) (f : Place → Place) (i : ℕ) (ps : List Place) → 0 < size → h ≢ i / size → in_group size h (change_at f i ps) ≡ in_group size h ps
 in_group-changed size h f i ps g n = elim (separate h (i / size) n) as (λ o. in_group size h (change_at f i ps) ≡ in_group size h ps) [
   | inl l ↦
@@ -76,7 +76,7 @@ in_group-changed size h f i ps g n = elim (separate h (i / size) n) as (λ o. in
   | inr l ↦ ap (take size) (drop-changed_before f (h * size) i ps (begins size h i g l))
 ]
 
--- and so does a place more
+-- one more place does not change the other row groups
 pub in_group-appended : {X : Type 0} (size h : ℕ) (ps : List X) (p : X) → 0 < size → h ≢ length ps / size → in_group size h (ps ++ p ∷ []) ≡ in_group size h ps
 in_group-appended size h ps p g n = elim (separate h (length ps / size) n) as (λ o. in_group size h (ps ++ p ∷ []) ≡ in_group size h ps) [
   | inl l ↦
@@ -102,7 +102,7 @@ get-take (suc n) j [] h = refl
 get-take (suc n) zero (p ∷ ps) h = refl
 get-take (suc n) (suc j) (p ∷ ps) h = get-take n j ps (omega arith)
 
--- which of its row group's places a place is
+-- the index of a place in its row group
 abbrev pub nth : ℕ → ℕ → ℕ
 nth size i = i - i / size * size
 
@@ -125,7 +125,7 @@ get-in_group size i ps g =
     ∙ get-drop (i / size * size) (nth size i) ps
     ∙ ap (slice_get ps) e
 
--- a place more comes last in its row group
+-- one more place is the last of its row group
 pub in_group-last : {X : Type 0} (size : ℕ) (ps : List X) (p : X) → 0 < size → in_group size (length ps / size) (ps ++ p ∷ []) ≡ in_group size (length ps / size) ps ++ p ∷ []
 in_group-last size ps p g =
     let n = length ps / size * size in
@@ -137,7 +137,7 @@ in_group-last size ps p g =
     ∙ take_all size (drop n ps ++ p ∷ []) (omega arith)
     ∙ ap (λ l. l ++ p ∷ []) (sym (take_all size (drop n ps) (omega arith)))
 
--- an element that is set leaves the other row groups
+-- setting an element does not change the other row groups
 pub in_group-set_other : {X : Type 0} (size h i : ℕ) (xs : List X) (y : X) → 0 < size → h ≢ i / size → in_group size h (slice_set xs i y) ≡ in_group size h xs
 in_group-set_other size h i xs y g n = elim (separate h (i / size) n) as (λ o. in_group size h (slice_set xs i y) ≡ in_group size h xs) [
   | inl l ↦
@@ -150,7 +150,7 @@ in_group-set_other size h i xs y g n = elim (separate h (i / size) n) as (λ o. 
   | inr l ↦ ap (take size) (drop-set-lt (h * size) xs i y (begins size h i g l))
 ]
 
--- and is set in its own
+-- setting an element sets it in its own row group
 pub in_group-set : {X : Type 0} (size i : ℕ) (xs : List X) (y : X) → 0 < size → in_group size (i / size) (slice_set xs i y) ≡ slice_set (in_group size (i / size) xs) (nth size i) y
 in_group-set size i xs y g =
     let low = div-mul-le_self i size in

@@ -22,7 +22,7 @@ module _ {X C : Type 0} (f : X → C → X) where
   pub zip_until-next : (n : ℕ) (xs : List X) (cs : List C) (x : X) (c : C) → slice_get xs n ≡ Some x → slice_get cs n ≡ Some c → slice_set (zip_until f n xs cs) n (f x c) ≡ zip_until f (n + 1) xs cs
   zip_until-next n xs cs x c h k = next n xs cs x c h k ∙ ap (λ m. zip_until f m xs cs) (sym (add-one n))
 
-  -- no more than the first of what changes them is looked at
+  -- changing the first n elements reads only the first n changes
   pub zip_until-take : (n : ℕ) (xs : List X) (cs : List C) → zip_until f n xs (take n cs) ≡ zip_until f n xs cs
   zip_until-take zero xs cs = refl
   zip_until-take (suc n) [] cs = refl
@@ -53,7 +53,7 @@ module _ {X C : Type 0} (f : X → C → X) where
   zip_until-all (suc n) (x ∷ xs) [] h = refl
   zip_until-all (suc n) (x ∷ xs) (c ∷ cs) h = ap (λ l. f x c ∷ l) (zip_until-all n xs cs (omega arith))
 
-  -- or the list that changes them ends
+  -- if there are at most n changes, all of them are applied
   pub zip_until-short : (n : ℕ) (xs : List X) (cs : List C) → length cs ≤ n → zip_until f n xs cs ≡ zip_all f xs cs
   zip_until-short zero [] [] h = refl
   zip_until-short zero [] (c ∷ cs) h = absurd (omega arith)
@@ -73,7 +73,7 @@ module _ {X C : Type 0} (f : X → C → X) where
   get-zip_all (suc k) (y ∷ xs) [] x c h i = cc
   get-zip_all (suc k) (y ∷ xs) (d ∷ cs) x c h i = get-zip_all k xs cs x c h i
 
--- what is undone is as it was
+-- a change that is undone leaves the list as before
 pub zip_until-undo : {X C : Type 0} (f g : X → C → X) (n : ℕ) (xs : List X) (cs : List C) → ((k : ℕ) (x : X) (c : C) → slice_get xs k ≡ Some x → slice_get cs k ≡ Some c → g (f x c) c ≡ x) → zip_until g n (zip_until f n xs cs) cs ≡ xs
 zip_until-undo f g zero xs cs h = refl
 zip_until-undo f g (suc n) [] cs h = refl

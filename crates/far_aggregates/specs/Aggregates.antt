@@ -13,13 +13,13 @@ abbrev pub flattened : {A : Type 0} → Option (Option A) → Option A
 flattened None = None
 flattened (Some inner) = inner
 
--- the lowest number, from one on, under which none is registered
+-- the lowest number under which no aggregate is registered, in a list that begins with number a
 abbrev pub free_from : ℕ → List (Option Registered) → Option ℕ
 free_from a [] = None
 free_from a (None ∷ rest) = Some a
 free_from a (Some aggregate ∷ rest) = free_from (a + 1) rest
 
--- the aggregate of a number
+-- the aggregate with this number
 abbrev pub aggregate_in : List RegistryEntry → ℕ → Option Registered
 aggregate_in registry a = flattened (slice_get (registered_of registry) a)
 
@@ -27,13 +27,13 @@ aggregate_in registry a = flattened (slice_get (registered_of registry) a)
 abbrev pub is_pending_in : Option Registered → ℕ → Bool
 is_pending_in aggregate g = option_map_or (λ r. is_pending r.pending g) aggregate false
 
--- an aggregate answers if no row group is pending
+-- the refusal to answer: there is no aggregate, or row groups are pending; `None` if it answers
 abbrev pub ask_refusal : Option Registered → Option Refusal
 ask_refusal None = Some refusal.NoAggregate
 ask_refusal (Some aggregate) = cond (left aggregate.pending == 0) None
     (Some (refusal.Building (left aggregate.pending)))
 
--- a row group less is pending
+-- an aggregate in which this row group is no longer pending
 abbrev pub after_scan : ℕ → Registered → Registered
 after_scan g aggregate = record aggregate { pending = slice_set aggregate.pending g false }
 

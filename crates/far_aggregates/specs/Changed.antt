@@ -4,6 +4,6 @@ use Rattle.std.specs.Prelude.{ℕ, ◌==◌, cond, Some}
 use Rattle.far_types.specs.declared.cell.Cell.{Cell}
 use Rattle.far_types.specs.Cells.{Cells}
 
--- the cells of a row with another one in a column that it has
+-- the cells of a row with another cell in a column that it has
 abbrev pub with_cell_at : ℕ → Cell → Cells → Cells
 with_cell_at column cell cells number = cond (number == column) (Some cell) (cells number)

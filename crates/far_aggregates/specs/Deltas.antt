@@ -13,12 +13,12 @@ use Rattle.far_aggregates.specs.declared.deltas.Delta.{Delta}
 use Rattle.far_aggregates.specs.Accumulators.{RegistryEntry}
 use Rattle.far_aggregates.specs.Pairs.{ChangeBySpec, change_of, AccumulatorFolds}
 
--- the least and the greatest under a key of a row group, in extrema, before a delta
+-- the least and the greatest value under a key of a row group before a delta; `None` for totals
 abbrev pub previous_in : ℕ → Option Key → Accumulator → Option (ℤ × ℤ)
 previous_in g key (accumulator.Totals live) = None
 previous_in g key (accumulator.Extrema live) = fin.get (group_at live.groups g) key
 
--- the delta of a pair, with what undoes it
+-- the delta of a pair, with the previous min-max of its key
 abbrev pub delta_of : ℕ → Accumulator → Pair → Delta
 delta_of g k pair = record { pair = pair; previous = previous_in g pair.0 k }
 
@@ -28,26 +28,26 @@ row_delta size i gives None = None
 row_delta size i gives (Some a) = option_map (delta_of (i / size) a.accumulator)
     (change_of size i gives (Some a))
 
--- the delta to a registry entry to which a row gives a pair
+-- the delta of a pair to a registry entry
 abbrev pub delta_in : ℕ → RegistryEntry → Pair → Option Delta
 delta_in g None pair = None
 delta_in g (Some a) pair = Some (delta_of g a.accumulator pair)
 
--- one pair more
+-- an accumulator with one more pair
 abbrev pub accumulator_more : ℕ → Accumulator → Pair → Accumulator
 accumulator_more g (accumulator.Totals live) pair = accumulator.Totals
     (record live { totals = with_pair live.totals pair })
 accumulator_more g (accumulator.Extrema live) pair = accumulator.Extrema
     (record live { groups = slice_set live.groups g (with_observed (group_at live.groups g) pair) })
 
--- an entry of the registry with a delta applied, if both are there
+-- an entry of the registry with a delta applied, if it has an aggregate and a delta
 abbrev pub with_delta : ℕ → RegistryEntry → Option Delta → RegistryEntry
 with_delta g None delta = None
 with_delta g (Some a) None = Some a
 with_delta g (Some a) (Some delta) = Some
     (record a { accumulator = accumulator_more g a.accumulator delta.pair })
 
--- the last delta is undone
+-- an accumulator with its last delta undone
 abbrev pub accumulator_undo : ℕ → Accumulator → Delta → Accumulator
 accumulator_undo g (accumulator.Totals live) delta = accumulator.Totals
     (record live { totals = without_pair live.totals delta.pair })
@@ -57,19 +57,19 @@ accumulator_undo g (accumulator.Extrema live) delta = accumulator.Extrema
           (put_min_max (group_at live.groups g) delta.pair.0 delta.previous);
     })
 
--- an entry of the registry with its last delta undone, if both are there
+-- an entry of the registry with its last delta undone, if it has an aggregate and a delta
 abbrev pub undo : ℕ → RegistryEntry → Option Delta → RegistryEntry
 undo g None delta = None
 undo g (Some a) None = Some a
 undo g (Some a) (Some delta) = Some
     (record a { accumulator = accumulator_undo g a.accumulator delta })
 
--- a pair may be added: totals have few under its key, extrema are reserved
+-- a pair may be added: totals count fewer than 2^26 values under its key, and extrema are reserved for the row group
 abbrev pub AccumulatorMayAdd : ℕ → Accumulator → Pair → Type 0
 AccumulatorMayAdd g (accumulator.Totals live) pair = count_in (fin.get live.totals pair.0) < 2 ^ 26
 AccumulatorMayAdd g (accumulator.Extrema live) pair = g < length live.groups
 
--- a delta may be undone: its pair is there
+-- a delta may be undone: totals can retract its pair, and extrema have its key in the row group
 abbrev pub AccumulatorMayUndo : ℕ → Accumulator → Pair → Type 0
 AccumulatorMayUndo g (accumulator.Totals live) pair = CanRetract pair.1 (fin.get live.totals pair.0)
 AccumulatorMayUndo g (accumulator.Extrema live) pair = (g < length live.groups)
@@ -89,7 +89,7 @@ EachMayUndo g n registry deltas = (k : ℕ) (s : RegistryEntry) (c : Option Delt
     → slice_get deltas k ≡ Some c
     → MayUndo g s c
 
--- a delta fits an accumulator: its pair may be added, and what it says was there before is there
+-- a delta fits an accumulator: its pair may be added, and its previous min-max is the current min-max in extrema
 abbrev pub AccumulatorFits : ℕ → Accumulator → Delta → Type 0
 AccumulatorFits g (accumulator.Totals live) delta = AccumulatorFolds (accumulator.Totals live)
 AccumulatorFits g (accumulator.Extrema live) delta = (g < length live.groups)

@@ -12,8 +12,9 @@ use Rattle.far_aggregates.specs.declared.line.Line.{Line}
 use Rattle.far_aggregates.specs.declared.line.Line.TheVariants as line
 use Rattle.far_aggregates.specs.Aggregates.{Answers}
 
--- what the line with this key has beside it, if a line has the key
-abbrev pub found_in : {A B : Type 0} → List (Option Key × A × B) → Option Key → Option (A × B)
+-- the values of the line with this key, if there is one
+abbrev pub found_in : {A B : Type 0} → List (Option Key × A × B) → Option Key
+    → Option (A × B)
 found_in [] key = None
 found_in (one ∷ lines) key = cond (eq_by_cmp line_cmp key one.0) (Some (one.1, one.2))
     (found_in lines key)
@@ -25,11 +26,11 @@ line_in (answer.Totals lines) key = option_map (λ found. line.Totals found.0 fo
 line_in (answer.Extrema lines) key = option_map (λ found. line.Extrema found.0 found.1)
     (found_in lines key)
 
--- an aggregate has an answer over the rows of these places, and in it this line of a key, or none
+-- an aggregate has an answer over the rows of these places, in which this is the line of a key, or `None`
 abbrev pub AnswersKey : List Place → Option Registered → Option Key → Option Line → Type 0
 AnswersKey places aggregate key found = (all : Answer) × Answers places aggregate all
     × (found ≡ line_in all key)
 
--- without key column nothing is there under a key
+-- without a key column, totals have no value under a key
 abbrev pub KeysFit : Option ℕ → Totals → Type 0
 KeysFit column totals = column ≡ None → (key : Key) → fin.get totals (Some key) ≡ None

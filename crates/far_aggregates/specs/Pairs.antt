@@ -1,4 +1,4 @@
--- The pairs that a row gives to the aggregates, and what aggregates make of them.
+-- The pairs that a row contributes to the aggregates, and how totals and extrema change by them.
 use Rattle.std.specs.Prelude.{◌≡◌, ℕ, ◌≤◌, ◌^◌, ◌/◌, true, cond, List, length, None, Some, slice_get}
 use Rattle.far_types.specs.declared.cell.Cell.{Cell}
 use Rattle.far_types.specs.declared.spec.Spec.{Spec}
@@ -11,15 +11,15 @@ use Rattle.far_aggregates.specs.declared.aggregate.Accumulator.{Accumulator}
 use Rattle.far_aggregates.specs.declared.aggregate.Accumulator.TheVariants as accumulator
 use Rattle.far_aggregates.specs.Accumulators.{RegistryEntry, Change}
 
--- what a row gives, by the specification of the aggregate
+-- the pair that a row contributes, if any, by the specification of the aggregate
 abbrev pub ChangeBySpec : Type 0
 ChangeBySpec = Spec → Change
 
--- what a row that is alive gives, by its cells
+-- the pair that a row that is alive contributes, by its cells
 abbrev pub row_gives : Cells → ChangeBySpec
 row_gives cells spec = pair_of spec cells
 
--- what a place gives
+-- the pair that a place contributes
 abbrev pub place_gives : Place → ChangeBySpec
 place_gives place spec = place_pair spec place
 
@@ -27,17 +27,17 @@ place_gives place spec = place_pair spec place
 abbrev pub alive_with : List Cell → Place
 alive_with row = record { cells = row; alive = true }
 
--- what a row of place i gives to a registry entry, unless its row group is pending there
+-- the pair that a row of place i contributes to a registry entry, unless its row group is pending there
 abbrev pub change_of : ℕ → ℕ → ChangeBySpec → RegistryEntry → Change
 change_of size i gives None = None
 change_of size i gives (Some a) = cond (is_pending a.pending (i / size)) None (gives a.spec)
 
--- totals with one pair more, if there is one
+-- totals with one more pair, if there is one
 abbrev pub with_change : Totals → Change → Totals
 with_change totals None = totals
 with_change totals (Some pair) = with_pair totals pair
 
--- totals with one pair less, if there is one
+-- totals without a pair, if there is one
 abbrev pub without_change : Totals → Change → Totals
 without_change totals None = totals
 without_change totals (Some pair) = without_pair totals pair
@@ -47,18 +47,18 @@ abbrev pub with_observed_change : Extrema → Change → Extrema
 with_observed_change extrema None = extrema
 with_observed_change extrema (Some pair) = with_observed extrema pair
 
--- the totals of an accumulator are those of some pairs, which are few
+-- the totals of an accumulator are the totals of at most 2^24 pairs, whose values fit 64 bits
 abbrev pub AccumulatorFolds : Accumulator → Type 0
 AccumulatorFolds (accumulator.Totals live) = (pairs : List Pair) × (live.totals ≡ totals pairs)
     × PairsFit pairs
     × (length pairs ≤ 2 ^ 24)
 AccumulatorFolds (accumulator.Extrema live) = Unit {0}
 
--- an entry of the registry has totals of some pairs, which are few
+-- an entry of the registry has totals of such pairs, if it has totals
 abbrev pub Folds : RegistryEntry → Type 0
 Folds None = Unit {0}
 Folds (Some a) = AccumulatorFolds a.accumulator
 
--- each entry of the registry has such totals
+-- each entry of the registry has totals of such pairs, if it has totals
 abbrev pub EachFolds : List RegistryEntry → Type 0
 EachFolds registry = (k : ℕ) (s : RegistryEntry) → slice_get registry k ≡ Some s → Folds s

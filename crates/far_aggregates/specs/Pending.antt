@@ -12,14 +12,14 @@ use Rattle.far_aggregates.specs.Deltas.{undo, EachMayUndo}
 use Rattle.far_aggregates.specs.Retract.{after_retract, EachMayRetract}
 use Rattle.far_aggregates.specs.Until.{zip_all}
 
--- the aggregates are those of these places, which are few, and whose numbers fit 64 bits
+-- the aggregates are up to date for these places, of which there are at most 2^24, and whose numbers fit 64 bits
 pub record AreUpToDate (size : ℕ) (places : List Place)
     (registry : List RegistryEntry) : Type 0 where
   pub kept : Keeps size places registry
   pub few : length places ≤ 2 ^ 24
   pub fit : PlacesFit places
 
--- the aggregates stay those of the places, whatever they are
+-- the aggregates stay up to date for any places for which they were
 abbrev pub KeepsAsBefore : List RegistryEntry → List RegistryEntry → Type 0
 KeepsAsBefore old new = (size : ℕ) (places : List Place)
     → Keeps size places old
@@ -39,7 +39,7 @@ pub record MayUndoAll (registry : List RegistryEntry) (pending : Pending) : Type
 abbrev pub after_undo_all : List RegistryEntry → Pending → List RegistryEntry
 after_undo_all registry pending = zip_all (undo pending.group) registry pending.applied.items
 
--- if the rows stay the same, the deltas can be undone, and then the aggregates are as before
+-- the deltas can be undone. Then the aggregates are up to date for any places for which they were before
 pub record UndoesAll (old new : List RegistryEntry) (pending : Pending) : Type 0 where
   pub may : MayUndoAll new pending
   pub kept : KeepsAsBefore old (after_undo_all new pending)
@@ -55,18 +55,18 @@ abbrev pub after_retract_all : List Place → List RegistryEntry → Pending →
 after_retract_all here registry pending = zip_all (after_retract pending.group here) registry
     pending.to_retract.items
 
--- if these are the places after the edit of a row group, the pairs can be retracted. Then the aggregates are those of these
--- places
+-- if these are the places after the edit of a row group, the pairs can be retracted. Then the aggregates are up to date for
+-- these places
 pub record RetractsAll (size g : ℕ) (places : List Place) (registry : List RegistryEntry)
     (pending : Pending) : Type 0 where
   pub at : pending.group ≡ g
   pub may : MayRetractAll (in_group size g places) registry pending
   pub kept : Keeps size places (after_retract_all (in_group size g places) registry pending)
 
--- the pairs that a place's row with these cells gave can be retracted once the places are those after an edit: if the
--- aggregates were up to date before it, and the numbers fit 64 bits after it
-abbrev pub RetractsOnce : Edit → ℕ → ℕ → Cells → List RegistryEntry → List RegistryEntry
-    → Pending → Type 0
+-- once an edit has changed a place's row, which had these cells, the old pairs of the row can be retracted. The aggregates must be
+-- up to date before the edit, and the numbers must fit 64 bits after it
+abbrev pub RetractsOnce : Edit → ℕ → ℕ → Cells → List RegistryEntry
+    → List RegistryEntry → Pending → Type 0
 RetractsOnce e size place cells old new pending = (places : List Place)
     → IsAliveAt cells place places
     → AreUpToDate size places old

@@ -1,4 +1,4 @@
--- How much of a table an aggregate has still to scan.
+-- The row groups that an aggregate has still to scan.
 use Rattle.std.specs.Prelude.{ℕ, Option}
 use Rattle.std.specs.List.{position}
 use Rattle.far_types.specs.Table.{Registered, left}

@@ -1,4 +1,4 @@
--- What the readers of an aggregate return.
+-- The results of the methods that read an aggregate.
 use Rattle.std.specs.Prelude.{ℕ, ℤ, Bool, true, false, cond, ◌&&◌, ◌==◌, List, map, Option, None, Some, is_none}
 use Rattle.far_types.specs.declared.spec.Spec.{Spec}
 use Rattle.far_types.specs.declared.spec.Fold.{Fold}
@@ -7,7 +7,7 @@ use Rattle.far_types.specs.Answers.{count_sum}
 use Rattle.far_types.specs.Pairs.{Pair, pairs_of}
 use Rattle.far_types.specs.Table.{Place, Registered, rows_of, left}
 
--- whether counts and sums are kept
+-- whether a fold keeps counts and sums
 abbrev pub is_totals : Fold → Bool
 is_totals fold.Totals = true
 is_totals fold.Extrema = false
@@ -16,7 +16,7 @@ is_totals fold.Extrema = false
 abbrev pub all_values : Spec → List Place → ℕ × ℤ
 all_values spec places = count_sum (map (λ (pair : Pair). pair.1) (pairs_of spec (rows_of places)))
 
--- an aggregate of totals without key column is plain: if no row group is pending it has one count and one sum
+-- the count and the sum of an aggregate of totals without a key column, if no row group is pending
 abbrev pub plain_in : List Place → Option Registered → Option (ℕ × ℤ)
 plain_in places None = None
 plain_in places (Some aggregate) = cond

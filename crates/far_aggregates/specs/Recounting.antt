@@ -1,4 +1,4 @@
--- Row groups that were folded separately, and are merged into an aggregate one after the other.
+-- Row groups that were folded separately, and are merged into an aggregate one after another.
 use Rattle.std.specs.Prelude.{◌≡◌, ℕ, zero, suc, ◌+◌, ◌-◌, List, [], ◌∷◌, slice_set}
 use Rattle.std.specs.FinMap as fin
 use Rattle.far_types.specs.declared.spec.Spec.{Spec}
@@ -13,17 +13,17 @@ use Rattle.far_aggregates.specs.declared.aggregate.Accumulator.{Accumulator}
 use Rattle.far_aggregates.specs.declared.aggregate.Accumulator.TheVariants as accumulator
 use Rattle.far_aggregates.specs.Accumulators.{group_pairs}
 
--- what the live places of a row group come to
+-- the partial aggregate of the live places of a row group
 abbrev pub partial_at : Spec → ℕ → List Place → ℕ → PartialDone
 partial_at spec size places g = partial_of spec.fold (group_pairs spec size g places)
 
--- the same of some row groups, in order, of which g is the first
+-- the partial aggregates of n row groups, in order, from g on
 abbrev pub partials_from : Spec → ℕ → List Place → ℕ → ℕ → List PartialDone
 partials_from spec size places g zero = []
 partials_from spec size places g (suc n) = partial_at spec size places g
     ∷ partials_from spec size places (g + 1) n
 
--- a partial of the same fold may be merged. A row group is pending. Counts stay small, and extrema have no row of the row group
+-- a partial aggregate of the same fold may be merged: a row group is pending, counts stay small, and extrema have no row of this row group
 abbrev pub AccumulatorMayMerge : ℕ → PartialDone → Accumulator → Type 0
 AccumulatorMayMerge g (partial.Totals done) (accumulator.Totals live) =
     (live.left ≡ 0 → ⊥) × CanJoin live.totals done.totals
@@ -32,7 +32,7 @@ AccumulatorMayMerge g (partial.Extrema observed) (accumulator.Totals live) = ⊥
 AccumulatorMayMerge g (partial.Extrema observed) (accumulator.Extrema live) =
     (live.left ≡ 0 → ⊥) × (group_at live.groups g ≡ fin.empty)
 
--- the rows of a partial aggregate are merged. Which keys are reserved is left open
+-- the rows of a partial aggregate are merged. Any keys may be reserved
 abbrev pub IsMerged : ℕ → PartialDone → Accumulator → Accumulator → Type 0
 IsMerged g (partial.Totals done) (accumulator.Totals live) new =
     new
@@ -42,4 +42,5 @@ IsMerged g (partial.Totals done) (accumulator.Extrema live) new = ⊥
 IsMerged g (partial.Extrema observed) (accumulator.Totals live) new = ⊥
 IsMerged g (partial.Extrema observed) (accumulator.Extrema live) (accumulator.Totals new) = ⊥
 IsMerged g (partial.Extrema observed) (accumulator.Extrema live) (accumulator.Extrema new) =
-    (new.left ≡ live.left - 1) × (new.groups ≡ slice_set (after_reserve g live.groups) g observed)
+    (new.left ≡ live.left - 1)
+    × (new.groups ≡ slice_set (after_reserve g live.groups) g observed)

@@ -1,4 +1,4 @@
--- What extrema reserve for a row group.
+-- Extrema that are reserved for a row group.
 -- Internal: no public contract cites it.
 use Rattle.std.specs.Prelude.{ℕ, ◌<◌, List, length, None, Some}
 use Rattle.std.specs.List.{AllByRecursion}
@@ -21,7 +21,7 @@ IsReserved g (Some a) = AccumulatorIsReserved g a.accumulator
 abbrev pub AreReserved : ℕ → List RegistryEntry → Type 0
 AreReserved g registry = AllByRecursion (IsReserved g) registry
 
--- an accumulator that is reserved for a row group
+-- an accumulator once it is reserved for a row group
 abbrev pub accumulator_after_reserve : ℕ → Accumulator → Accumulator
 accumulator_after_reserve g (accumulator.Totals live) = accumulator.Totals live
 accumulator_after_reserve g (accumulator.Extrema live) = accumulator.Extrema

@@ -1,4 +1,4 @@
--- How a pair is retracted from an aggregate, once the rows of its row group are without it.
+-- How a pair is retracted from an aggregate, once the rows of its row group no longer have it.
 use Rattle.std.specs.Prelude.{◌≡◌, ℕ, List, None, Some, slice_get, slice_set}
 use Rattle.std.specs.FinMap as fin
 use Rattle.far_types.specs.declared.spec.Spec.{Spec}
@@ -13,7 +13,7 @@ use Rattle.far_aggregates.specs.declared.aggregate.Accumulator.{Accumulator}
 use Rattle.far_aggregates.specs.declared.aggregate.Accumulator.TheVariants as accumulator
 use Rattle.far_aggregates.specs.Accumulators.{RegistryEntry, Change, pairs_here}
 
--- one pair less: totals subtract it, extrema get the min-max of the rows that are left under its key
+-- an accumulator without a pair: totals subtract it, extrema get the min-max of the rows that remain under its key
 abbrev pub accumulator_less : Spec → ℕ → List Place → Accumulator → Pair → Accumulator
 accumulator_less spec g here (accumulator.Totals live) pair =
     accumulator.Totals (record live { totals = without_pair live.totals pair })
@@ -25,15 +25,15 @@ accumulator_less spec g here (accumulator.Extrema live) pair =
           (fin.get (extrema (pairs_here spec here)) pair.0));
     })
 
--- an entry of the registry with its pair retracted, if both are there
+-- an entry of the registry with its pair retracted, if it has an aggregate and a pair
 abbrev pub after_retract : ℕ → List Place → RegistryEntry → Change → RegistryEntry
 after_retract g here None change = None
 after_retract g here (Some a) None = Some a
 after_retract g here (Some a) (Some pair) = Some
     (record a { accumulator = accumulator_less a.spec g here a.accumulator pair })
 
--- a pair may be retracted. Totals have it (`CanRetract`). In extrema the min-max under its key is that of the rows that are left, widened
--- by its value
+-- a pair may be retracted. Totals have it (`CanRetract`). In extrema the min-max under its key is the min-max of the remaining rows,
+-- widened by its value
 abbrev pub AccumulatorMayRetract : Spec → ℕ → List Place → Accumulator → Pair → Type 0
 AccumulatorMayRetract spec g here (accumulator.Totals live) pair =
     CanRetract pair.1 (fin.get live.totals pair.0)
@@ -54,7 +54,7 @@ EachMayRetract g here registry pairs = (k : ℕ) (s : RegistryEntry) (c : Change
     → slice_get pairs k ≡ Some c
     → MayRetract g here s c
 
--- a pair is retracted without reading rows: from totals
+-- a pair is retracted without reading rows, because the accumulator computes totals
 abbrev pub AccumulatorIsPlain : Accumulator → Type 0
 AccumulatorIsPlain (accumulator.Totals live) = Unit {0}
 AccumulatorIsPlain (accumulator.Extrema live) = ⊥

@@ -22,7 +22,7 @@ abbrev pub entry_after_scan : ℕ → Option Registered → Option Registered
 entry_after_scan g None = None
 entry_after_scan g (Some aggregate) = Some (after_scan g aggregate)
 
--- the rows of one row group more, at these places, are scanned. Which keys are reserved is left open
+-- the rows of one more row group, at these places, are scanned. Any keys may be reserved
 abbrev pub IsScanned : Spec → ℕ → List Place → Accumulator → Accumulator → Type 0
 IsScanned spec g here (accumulator.Totals live) new = new
     ≡ accumulator.Totals
@@ -35,21 +35,21 @@ IsScanned spec g here (accumulator.Extrema live) (accumulator.Extrema new) =
     (new.left ≡ live.left - 1)
     × (new.groups ≡ slice_set (after_reserve g live.groups) g (extrema (pairs_here spec here)))
 
--- the same rows are scanned. Which keys are reserved is left open
+-- both accumulators have scanned the same rows. Any keys may be reserved
 abbrev pub IsSame : Accumulator → Accumulator → Type 0
 IsSame (accumulator.Totals live) new = new ≡ accumulator.Totals live
 IsSame (accumulator.Extrema live) (accumulator.Totals new) = ⊥
 IsSame (accumulator.Extrema live) (accumulator.Extrema new) =
     (new.left ≡ live.left) × (new.groups ≡ live.groups)
 
--- a row group is pending; the counts stay small, and no row of the row group is in the extrema
+-- a row group is pending, the counts stay small, and no row of this row group is in the extrema
 abbrev pub AccumulatorMayScan : Spec → ℕ → List Place → Accumulator → Type 0
 AccumulatorMayScan spec g here (accumulator.Totals live) = (live.left ≡ 0 → ⊥)
     × CanJoin live.totals (totals (pairs_here spec here))
 AccumulatorMayScan spec g here (accumulator.Extrema live) = (live.left ≡ 0 → ⊥)
     × (group_at live.groups g ≡ fin.empty)
 
--- the registry is up to date for a table of at most 2^24 rows in which this row group has these rows
+-- a registry entry is up to date for a table of at most 2^24 places, in which this row group has these places
 abbrev pub EntryMayScan : ℕ → ℕ → List Place → RegistryEntry → Type 0
 EntryMayScan size g here entry = (places : List Place) × (here ≡ in_group size g places)
     × (length places ≤ 2 ^ 24)

@@ -4,7 +4,7 @@ use Rattle.std.specs.Prelude.{List, [], ◌∷◌, Option, None, Some}
 use Rattle.far_types.specs.declared.key.Key.{Key}
 use Rattle.far_types.specs.declared.key.Key.TheVariants as key
 
--- what is kept of a key, if there is capacity: only a text has a string that serves another
+-- the keys to keep of a key, if there is capacity: only a text has a string to reuse
 abbrev pub text_key : Option Key → List Key
 text_key None = []
 text_key (Some (key.Int number)) = []

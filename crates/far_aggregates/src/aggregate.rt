@@ -4,14 +4,14 @@ use super::pending_groups::PendingGroups;
 use far_groups::LiveTotals;
 use far_types::Spec;
 
-/// The running value of an aggregate: what the rows of the scanned row groups come to.
+/// The running value of an aggregate over the rows of the scanned row groups.
 #[derive(Drop)]
 pub enum Accumulator {
     Totals(LiveTotals),
     Extrema(KnownExtrema),
 }
 
-/// An aggregate under its number.
+/// A registered aggregate.
 #[derive(Drop)]
 pub struct Aggregate {
     pub spec: Spec,

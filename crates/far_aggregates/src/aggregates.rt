@@ -21,10 +21,10 @@ use far_types::{Answer, Key, Reciprocal, Refusal, Spec};
 use std::alloc::Global;
 use std::marker::Model;
 
-/// The aggregates of a table, under their numbers: at most 32. An edit of the rows has three parts:
+/// The aggregates of a table by number, at most 32. An edit of the rows has three parts:
 ///
 /// 1. The deltas of the new row are applied, which may be refused.
-/// 2. The rows are changed, which may be refused too. If they refuse, the deltas are undone.
+/// 2. The rows are changed, which may be refused too. If it is, the deltas are undone.
 /// 3. The pairs of the old row are retracted, which cannot fail.
 ///
 /// Contracts see the registry entry of each number that was ever used.
@@ -33,7 +33,7 @@ pub struct Aggregates {
     registry: Vec<Option<Aggregate>>,
     spare_lists: SpareLists,
     spare_keys: SpareKeys,
-    /// A hint for divisions by how many places a row group has.
+    /// A hint that speeds up divisions by the number of places of a row group.
     reciprocal: Reciprocal,
 }
 
@@ -63,7 +63,7 @@ impl Aggregates {
     ghost use Rattle.far_aggregates.specs.Scans.{entry_after_scan};
     ghost use Rattle.far_aggregates.specs.Pending.{AreUpToDate, KeepsAsBefore};
 
-    /// Returns a registry without an aggregate. Allocates nothing.
+    /// Makes a registry without an aggregate. Allocates nothing.
     pub fn new(alloc: Global) -> Aggregates
         ensures registered { registered_of result ≡ replicate 32 None }
         ensures kept { (size : ℕ) → (places : List Place) → Keeps size places result }
@@ -86,9 +86,10 @@ impl Aggregates {
         self.reciprocal.quotient(place, size as usize) as u32
     }
 
-    /// Returns whether no aggregate was ever registered, so that an edit has nothing to keep. Allocates nothing.
+    /// Returns whether no aggregate was ever registered, so that an edit has nothing to update. Allocates nothing.
     pub fn is_empty(&self) -> bool
-        ensures { IsTrue result → (size : ℕ) → (places : List Place) → Keeps size places self.now }
+        ensures { IsTrue result
+            → (size : ℕ) → (places : List Place) → Keeps size places self.now }
     {
         self.registry.is_empty()
     }
@@ -101,8 +102,8 @@ impl Aggregates {
         free_number(self.registry.as_slice())
     }
 
-    /// Registers an aggregate under the lowest free number, over `places` places. All row groups that hold one of them are
-    /// pending. Refused with `NoMemory` (1) alone. A refused call changes nothing.
+    /// Registers an aggregate under the lowest free number, over `places` places. All row groups that hold one of these places
+    /// are pending. Refused only with `NoMemory` (1). A refused call changes nothing.
     pub fn register(
         &mut self,
         alloc: Global,
@@ -142,7 +143,7 @@ impl Aggregates {
         )
     }
 
-    /// Forgets the aggregate of a number; there was one. Allocates nothing.
+    /// Forgets the aggregate with this number, which must exist. Allocates nothing.
     pub fn forget(&mut self, a: u32)
         requires { IsSome (aggregate_in self.old a) }
         ensures registered { registered_of self.new ≡ slice_set (registered_of self.old) a None }
@@ -151,7 +152,7 @@ impl Aggregates {
         forget(&mut self.registry, a);
     }
 
-    /// Returns what the aggregate of a number computes, or `None` if there is none. Allocates nothing.
+    /// Returns the specification of the aggregate with this number, or `None` if there is none. Allocates nothing.
     pub fn spec(&self, a: u32) -> Option<&Spec>
         ensures { option_copied result
             ≡ option_map (λ aggregate. aggregate.spec) (aggregate_in self.now a) }
@@ -160,7 +161,8 @@ impl Aggregates {
         Some(&aggregate.spec)
     }
 
-    /// Returns how many registrations were made before that of a number, or `None` if there is none. Allocates nothing.
+    /// Returns how many registrations were made before the aggregate with this number, or `None` if there is none. Allocates
+    /// nothing.
     pub fn registration(&self, a: u32) -> Option<u64>
         ensures { result
             ≡ option_map (λ aggregate. aggregate.registration) (aggregate_in self.now a) }
@@ -169,7 +171,7 @@ impl Aggregates {
         Some(aggregate.registration)
     }
 
-    /// Returns whether a row group is pending in the aggregate of a number: false if there is none. Allocates nothing.
+    /// Returns whether a row group is pending in the aggregate with this number, or false if there is none. Allocates nothing.
     pub fn is_pending_in(&self, a: u32, group: u32) -> bool
         ensures { result ≡ is_pending_in (aggregate_in self.now a) group }
     {
@@ -179,8 +181,8 @@ impl Aggregates {
         }
     }
 
-    /// Returns how many row groups are pending in the aggregate of a number, and the first of them, if there is one. `None` if
-    /// there is no such aggregate. Allocates nothing.
+    /// Returns how many row groups are pending in the aggregate with this number, and the first of them, if there is one.
+    /// Returns `None` if there is no such aggregate. Allocates nothing.
     pub fn pending(&self, a: u32) -> Option<(u32, Option<u32>)>
         ensures { result ≡ option_map pending_of (aggregate_in self.now a) }
     {
@@ -188,7 +190,7 @@ impl Aggregates {
         Some((aggregate.pending.count(), aggregate.pending.first()))
     }
 
-    /// Returns an aggregate and a row group that is pending in it, or `None` if there is none. Allocates nothing.
+    /// Returns the number of an aggregate and a row group that is pending in it, or `None` if none is. Allocates nothing.
     pub fn first_pending(&self) -> Option<(u32, u32)>
         ensures some { IfSome result
             (λ at. is_pending_in (aggregate_in self.now at.0) at.1 ≡ true) }
@@ -198,12 +200,12 @@ impl Aggregates {
         first_pending(self.registry.as_slice())
     }
 
-    /// Returns the answer of the aggregate of a number, over the rows for which all aggregates are kept.
+    /// Returns the answer of the aggregate with this number, over the rows for which all aggregates are up to date.
     ///
     /// Refused with the first of these that applies:
     ///
     /// - `NoAggregate` (12): there is no such aggregate.
-    /// - `Building` (15): row groups are pending. It says how many.
+    /// - `Building` (15): row groups are pending. The refusal says how many.
     /// - `NoMemory` (1): an allocation fails.
     pub fn answer(&self, alloc: Global, a: u32) -> Result<Answer, Refusal>
         ensures ok { IfOk result
@@ -220,13 +222,13 @@ impl Aggregates {
         answer(alloc, aggregate)
     }
 
-    /// Returns the line of a key in the answer of the aggregate of a number, or `None` if the answer has no such line. Costs one
-    /// look-up, and makes no other line. Allocates nothing.
+    /// Returns the line of a key in the answer of the aggregate with this number, or `None` if the answer has no such line.
+    /// Costs one look-up, and builds no other line. Allocates nothing.
     ///
     /// Refused with the first of these that applies:
     ///
     /// - `NoAggregate` (12): there is no such aggregate.
-    /// - `Building` (15): row groups are pending. It says how many.
+    /// - `Building` (15): row groups are pending. The refusal says how many.
     pub fn line(&self, a: u32, key: &Option<Key>) -> Result<Option<Line>, Refusal>
         ensures ok { IfOk result
             (λ line. (size : ℕ) → (places : List Place) → 0 < size
@@ -242,8 +244,8 @@ impl Aggregates {
         line(aggregate, key)
     }
 
-    /// Returns how many rows the aggregate of a number folds, and the sum of their values, if it is of totals without key
-    /// column. `None` for another, and while row groups are pending. Allocates nothing.
+    /// Returns how many rows the aggregate with this number folds, and the sum of their values, if it computes totals without a
+    /// key column. Returns `None` for any other aggregate, and while row groups are pending. Allocates nothing.
     pub fn plain(&self, a: u32) -> Option<(u64, i128)>
         ensures { (size : ℕ) → (places : List Place) → Keeps size places self.now
             → result ≡ plain_in places (aggregate_in self.now a) }
@@ -252,8 +254,8 @@ impl Aggregates {
         plain(aggregate)
     }
 
-    /// Scans the rows of a row group into the aggregate of a number in which it is pending. Refused with `NoMemory` (1) alone.
-    /// A refusal changes no answer.
+    /// Scans the rows of a row group into the aggregate with this number, in which the row group is pending. Refused only with
+    /// `NoMemory` (1). A refusal changes no answer.
     pub fn scan_at<G: LendGroup>(
         &mut self,
         alloc: Global,
@@ -265,7 +267,8 @@ impl Aggregates {
         requires size { 0 < size }
         requires pending { is_pending_in (aggregate_in self.old a) number ≡ true }
         requires served { EntryIsServed (G.has group.now) (aggregate_in self.old a) }
-        requires kept { (places : List Place) × (G.places group.now ≡ in_group size number places)
+        requires kept { (places : List Place)
+            × (G.places group.now ≡ in_group size number places)
             × AreUpToDate size places self.old }
         ensures registered { OnOk result
             (registered_of self.new

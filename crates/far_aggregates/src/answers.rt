@@ -25,11 +25,11 @@ fn lines_of(alloc: Global, live: &LiveTotals) -> Result<TotalLines, Refusal>
     }
 }
 
-/// Returns the answer of an aggregate over the rows that it is kept for.
+/// Returns the answer of an aggregate over the rows for which it is up to date.
 ///
 /// Refused with the first of these that applies:
 ///
-/// - `Building` (15): row groups are pending. It says how many.
+/// - `Building` (15): row groups are pending. The refusal says how many.
 /// - `NoMemory` (1): an allocation fails.
 pub fn answer(alloc: Global, aggregate: &Aggregate) -> Result<Answer, Refusal>
     ensures ok { IfOk result
@@ -38,7 +38,8 @@ pub fn answer(alloc: Global, aggregate: &Aggregate) -> Result<Answer, Refusal>
         → (left aggregate.now.pending ≡ 0)
         × (answer ≡ answer_over aggregate.now.spec (rows_of places))) }
     ensures err { IfErr result
-        (λ e. (size : ℕ) → (places : List Place) → KeepsEntry size places (Some aggregate.now)
+        (λ e. (size : ℕ) → (places : List Place)
+        → KeepsEntry size places (Some aggregate.now)
         → MayRefuse (ask_refusal (registered_in (Some aggregate.now))) true e) }
 {
     match &aggregate.accumulator {

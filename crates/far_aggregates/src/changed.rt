@@ -5,7 +5,7 @@ ghost use Rattle.far_types.specs.Lent.{lent_cell};
 
 use far_types::{CellRef, LendCells};
 
-/// A row as it will be once a cell is put in one of its columns: neither the row nor its cells are copied.
+/// A row as it will be with another cell in one of its columns. Neither the row nor its cells are copied.
 #[derive(Drop)]
 pub struct Changed<'a, R> {
     pub row: &'a R,

@@ -1,4 +1,4 @@
-// Changes to the aggregates, and how they are undone if a later one is refused.
+// Applies changes to the aggregates, and undoes them if a later change is refused.
 ghost use Rattle.std.specs.Prelude.{◌≡◌, ◌/◌, ◌^◌, ◌<◌, ◌≤◌, ◌∷◌, ◌++◌, [], Some, OnOk, OnErr, IfErr, IfOk, length, map, vec_len, vec_capacity};
 ghost use Rattle.far_types.specs.declared.key.Key.TheVariants as variants;
 ghost use Rattle.far_types.specs.Lent.{key_by};
@@ -53,8 +53,8 @@ fn undo_first(registry: &mut [Option<Aggregate>], group: u32, deltas: &[Option<D
     }
 }
 
-/// Adds a pair. For extrema it returns the key's previous least and greatest value in the row group. The one look-up that adds
-/// the pair finds them.
+/// Adds a pair to an accumulator. For extrema it returns the key's previous least and greatest value in the row group, which the
+/// look-up for the pair finds.
 #[inline(always)]
 fn add_to(
     accumulator: &mut Accumulator,
@@ -79,8 +79,8 @@ fn add_to(
     }
 }
 
-/// Adds a value under a number or under no key to an aggregate. Appends the delta to the list, which has capacity for it. The
-/// delta is made in place: passing a pair through memory costs more than adding it.
+/// Adds a value to an aggregate, under a number or under no key. Appends the delta to the list, which has capacity for it. The
+/// delta is built in place: passing a pair through memory costs more than adding it.
 #[inline(always)]
 fn apply_under(
     deltas: &mut Vec<Option<Delta>>,
@@ -93,7 +93,8 @@ fn apply_under(
     requires reserved { IsReserved group entry.old }
     requires place { vec_len deltas.old < vec_capacity deltas.old }
     ensures ok { OnOk result
-        (entry.new ≡ with_delta group entry.old (delta_in group entry.old (key_by number, value))) }
+        (entry.new
+        ≡ with_delta group entry.old (delta_in group entry.old (key_by number, value))) }
     ensures deltas { OnOk result
         (deltas.new.items
         ≡ deltas.old.items ++ delta_in group entry.old (key_by number, value) ∷ []) }
@@ -121,7 +122,7 @@ fn apply_under(
     }
 }
 
-/// Does what `apply_under` does, for a key that is a text. The text is written into the string of a spare key.
+/// Adds a value to an aggregate under a text, like `apply_under`. The text is written into the string of a spare key.
 #[inline(never)]
 fn apply_under_text(
     keys: &mut SpareKeys,
@@ -185,7 +186,8 @@ fn apply_next<R: LendCells>(
         (row_delta size place (row_gives (R.cells row.now)) entry.old)) }
     ensures deltas { OnOk result
         (deltas.new.items
-        ≡ deltas.old.items ++ row_delta size place (row_gives (R.cells row.now)) entry.old ∷ []) }
+        ≡ deltas.old.items
+        ++ row_delta size place (row_gives (R.cells row.now)) entry.old ∷ []) }
     ensures capacity { vec_capacity deltas.new ≡ vec_capacity deltas.old }
     ensures err { OnErr result (entry.new ≡ entry.old) }
     ensures before { OnErr result (deltas.new.items ≡ deltas.old.items) }
@@ -196,7 +198,7 @@ fn apply_next<R: LendCells>(
             deltas.push_reserved(None);
             Ok(())
         }
-        // Most aggregates have no key column. Their adding is compiled for itself, without a look at the key.
+        // Most aggregates have no key column. For them the call is compiled separately, without a test of the key.
         PairRef::Under {
             number: None,
             value,
@@ -208,8 +210,8 @@ fn apply_next<R: LendCells>(
     }
 }
 
-/// Applies the deltas of a row that is alive at a place to all aggregates, or to none if an allocation fails. Returns them in a
-/// list that may have been made for an earlier edit. `undo_all` undoes them.
+/// Applies the deltas of a row that is alive at a place to all aggregates, or to none if an allocation fails. Returns the deltas
+/// in `list`, which an earlier edit may have allocated. `undo_all` undoes them.
 #[inline(always)]
 pub fn apply_deltas<R: LendCells>(
     keys: &mut SpareKeys,

@@ -1,4 +1,4 @@
-// Live extrema that note the min-max of no key.
+// Live extrema that cache the min-max of rows without a key.
 ghost use Rattle.std.specs.Prelude.{◌≡◌, ◌≢◌, ◌-◌, ◌<◌, [], None, Some, Err, OnOk, OnErr, IfOk, IfErr, IfSome, IsTrue, ℤ, ◌≤ℤ◌, length, slice_get, slice_set};
 ghost use Rattle.std.specs.FinMap as fin;
 ghost use Rattle.far_types.specs.Effects.{min_max_with, with_observed};
@@ -10,8 +10,8 @@ use far_types::{Answer, Key, Refusal};
 use std::alloc::Global;
 use std::marker::Model;
 
-/// Live extrema with a cache: for an aggregate without key column, the min-max under no key of the first row groups, which then needs no
-/// look-up. Contracts see the model of `LiveExtrema`; the cache is invisible.
+/// Live extrema with a cache for aggregates without a key column: the min-max under no key of the first row groups, which then
+/// needs no look-up. Contracts see the model of `LiveExtrema`, and not the cache.
 #[derive(Drop)]
 pub struct KnownExtrema {
     live: LiveExtrema,
@@ -31,8 +31,8 @@ impl Model for KnownExtrema {
     ghost invariant = { λ known. AreKnown known.plain.items known.live.groups };
 }
 
-/// Makes a place in the list for the min-max under no key of a row group, if that is the row group after the last. If the
-/// allocation fails, there is none, and nothing is noted.
+/// Reserves capacity to cache the min-max of a row group, if it is the next row group after those in the cache. If the
+/// allocation fails, nothing is cached.
 fn make_place(plain: &mut Vec<Option<MinMax>>, group: usize)
     ensures { plain.new.items ≡ plain.old.items }
 {
@@ -41,7 +41,8 @@ fn make_place(plain: &mut Vec<Option<MinMax>>, group: usize)
     }
 }
 
-/// Caches the min-max under no key of a row group, or that it is not known. Ignores row groups past the end of the cache. Allocates nothing.
+/// Caches the min-max under no key of a row group, or `None` if it is not known. Ignores a row group for which the cache has no
+/// capacity. Allocates nothing.
 fn note(plain: &mut Vec<Option<MinMax>>, group: usize, min_max: Option<MinMax>)
     ensures { IsNoted plain.old.items group min_max plain.new.items }
 {
@@ -52,8 +53,8 @@ fn note(plain: &mut Vec<Option<MinMax>>, group: usize, min_max: Option<MinMax>)
     }
 }
 
-/// Returns what is noted under no key in a row group. The min-max is built anew from its parts, so that its numbers are passed
-/// in registers.
+/// Returns the cached min-max of a row group, if there is one. The min-max is built anew from its parts, so that its numbers are
+/// passed in registers.
 #[inline(always)]
 fn noted_in(plain: &[Option<MinMax>], group: usize) -> Option<MinMax>
     ensures { IfSome result (λ min_max. slice_get plain.now group ≡ Some (Some min_max)) }
@@ -67,11 +68,13 @@ fn noted_in(plain: &[Option<MinMax>], group: usize) -> Option<MinMax>
     }
 }
 
-/// Returns whether a value is within a min-max, if there is one.
+/// Returns whether there is a min-max and a value is within it.
 #[inline(always)]
 fn is_within_noted(value: i64, min_max: &Option<MinMax>) -> bool
     ensures { IsTrue result
-        → (s : ℤ × ℤ) × (min_max.now ≡ Some s) × (s.0 ≤ℤ value) × (value ≤ℤ s.1) }
+        → (s : ℤ × ℤ) × (min_max.now ≡ Some s)
+        × (s.0 ≤ℤ value)
+        × (value ≤ℤ s.1) }
 {
     match min_max {
         Some(min_max) => min_max.is_within(value),
@@ -79,7 +82,7 @@ fn is_within_noted(value: i64, min_max: &Option<MinMax>) -> bool
     }
 }
 
-/// Adds a folded row under no key, whose least and greatest value are noted or looked up. Returns the previous ones.
+/// Observes the value of a row under no key. Returns the previous min-max of the row group, which is cached or looked up.
 fn observe_noted(
     live: &mut LiveExtrema,
     group: u32,
@@ -110,7 +113,7 @@ fn observe_noted(
     }
 }
 
-/// Returns the least and the greatest with one more value.
+/// Widens a min-max, if there is one, to include one more value.
 #[inline(always)]
 fn wider(value: i64, previous: &Option<MinMax>) -> MinMax
     ensures { result ≡ min_max_with value previous.now }
@@ -126,7 +129,7 @@ impl KnownExtrema {
     ghost use Rattle.far_extrema.specs.Live.{after_reserve, IsReservedFor};
     ghost use Rattle.far_extrema.specs.MinMaxes.{put_min_max};
 
-    /// Does what `LiveExtrema::new` does.
+    /// Makes extrema without a row, in which `left` row groups are pending. See `LiveExtrema::new`.
     pub fn new(alloc: Global, left: u32) -> KnownExtrema
         ensures left { result.left ≡ left }
         ensures empty { result.groups ≡ [] }
@@ -137,14 +140,14 @@ impl KnownExtrema {
         }
     }
 
-    /// Does what `LiveExtrema::make_room` does.
+    /// Reserves the row groups up to this one. See `LiveExtrema::make_room`.
     pub fn reserve(&mut self, group: u32)
         ensures { self.new ≡ record self.old { groups = after_reserve group self.old.groups } }
     {
         self.live.make_room(group);
     }
 
-    /// Does what `LiveExtrema::reserve_for` does.
+    /// Reserves a row group and the keys of its extrema. See `LiveExtrema::reserve_for`.
     pub fn reserve_for(&mut self, group: u32, extrema: &GroupExtrema) -> Result<(), Refusal>
         ensures left { self.new.left ≡ self.old.left }
         ensures groups { OnOk result (self.new.groups ≡ after_reserve group self.old.groups) }
@@ -156,8 +159,8 @@ impl KnownExtrema {
         self.live.reserve_for(group, extrema)
     }
 
-    /// Does what `observe_under` does, for a row under no key. If its min-max is noted, a value within it costs no look-up, and nothing is
-    /// written.
+    /// Observes a value like `observe_under`, for a row under no key. If the min-max is cached, a value within it costs no
+    /// look-up, and nothing is written.
     fn observe_plain(&mut self, group: u32, value: i64) -> Result<Option<MinMax>, Refusal>
         requires { group < length self.old.groups }
         ensures previous { IfOk result
@@ -186,7 +189,7 @@ impl KnownExtrema {
         Ok(previous)
     }
 
-    /// Does what `LiveExtrema::observe_under` does.
+    /// Observes a value under a key of a row group. See `LiveExtrema::observe_under`.
     #[inline(always)]
     pub fn observe_under(
         &mut self,
@@ -204,7 +207,8 @@ impl KnownExtrema {
                   (with_observed (group_at self.old.groups group) (key.now, value));
             }) }
         ensures err { OnErr result (self.new ≡ self.old) }
-        ensures only_new { OnErr result (fin.get (group_at self.old.groups group) key.now ≡ None) }
+        ensures only_new { OnErr result
+            (fin.get (group_at self.old.groups group) key.now ≡ None) }
         ensures memory { IfErr result (λ e. e ≡ Refusal.NoMemory) }
     {
         match key {
@@ -213,7 +217,7 @@ impl KnownExtrema {
         }
     }
 
-    /// Does what `LiveExtrema::put_min_max` does.
+    /// Replaces the min-max of a key that occurs in a row group. See `LiveExtrema::put_min_max`.
     pub fn put_min_max(&mut self, group: u32, key: &Option<Key>, min_max: &Option<MinMax>)
         requires reserved { group < length self.old.groups }
         requires there { fin.get (group_at self.old.groups group) key.now ≢ None }
@@ -229,7 +233,8 @@ impl KnownExtrema {
         }
     }
 
-    /// Does what `shrink` does, for a row under no key. If its min-max is noted, a value strictly within it costs no look-up.
+    /// Retracts a value like `shrink`, for a row under no key. If the min-max is cached, a value strictly within it costs no
+    /// look-up.
     fn shrink_plain<R: RowsLeft>(&mut self, group: u32, value: i64, rows: &R)
         requires reserved { group < length self.old.groups }
         requires at_hand { R.at_hand rows.now }
@@ -250,7 +255,7 @@ impl KnownExtrema {
         note(&mut self.plain, group as usize, left);
     }
 
-    /// Does what `LiveExtrema::shrink` does.
+    /// Retracts a value under a key of a row group. See `LiveExtrema::shrink`.
     pub fn shrink<R: RowsLeft>(&mut self, group: u32, key: &Option<Key>, value: i64, rows: &R)
         requires reserved { group < length self.old.groups }
         requires at_hand { R.at_hand rows.now }
@@ -270,7 +275,7 @@ impl KnownExtrema {
         }
     }
 
-    /// Does what `LiveExtrema::merge` does.
+    /// Merges the extrema of a row group that is pending. See `LiveExtrema::merge`.
     pub fn merge(&mut self, group: u32, extrema: GroupExtrema)
         requires reserved { group < length self.old.groups }
         requires keys { IsReservedFor extrema self.old }
@@ -284,7 +289,7 @@ impl KnownExtrema {
         note(&mut self.plain, group as usize, min_max);
     }
 
-    /// Does what `LiveExtrema::answer` does.
+    /// Returns the answer. See `LiveExtrema::answer`.
     pub fn answer(&self, alloc: Global) -> Result<Answer, Refusal>
         ensures ok { IfOk result
             (λ answer. answer ≡ Answer.Extrema (extrema_lines (all_groups self.now.groups))) }
@@ -295,14 +300,14 @@ impl KnownExtrema {
         self.live.answer(alloc)
     }
 
-    /// Does what `LiveExtrema::left` does.
+    /// Returns how many row groups are pending. See `LiveExtrema::left`.
     pub fn left(&self) -> u32
         ensures { result ≡ self.now.left }
     {
         self.live.left()
     }
 
-    /// Does what `LiveExtrema::get` does.
+    /// Returns the min-max of a key over all row groups. See `LiveExtrema::get`.
     pub fn get(&self, key: &Option<Key>) -> Option<MinMax>
         ensures { result ≡ fin.get (all_groups self.now.groups) key.now }
     {

@@ -5,7 +5,7 @@ ghost use Rattle.far_types.specs.declared.spec.Spec.{Spec};
 ghost use Rattle.far_types.specs.Bounds.{spec_refusal};
 ghost use Rattle.far_aggregates.specs.Lending.{IsServed};
 
-/// An aggregate that may be had over a schema is served if all columns of the schema are available.
+/// A law: an aggregate that is not refused over a schema is served if all columns of the schema are available.
 pub fn an_aggregate_is_served_by_the_columns_of_its_schema()
     ensures { (schema : List Kind) → (spec : Spec) → (has : ℕ → Bool)
         → spec_refusal schema spec ≡ None

@@ -9,7 +9,7 @@ use far_extrema::MinMax;
 use far_groups::Pair;
 use far_types::Key;
 
-/// Returns whether two keys are one.
+/// Returns whether two keys are equal.
 #[inline(always)]
 fn are_same(key: &Option<Key>, other: &Option<Key>) -> bool
     ensures { IsTrue result → key.now ≡ other.now }
@@ -22,15 +22,15 @@ fn are_same(key: &Option<Key>, other: &Option<Key>) -> bool
     }
 }
 
-/// Returns the min-max under a key with one more value.
+/// Widens a min-max to include the value of a pair.
 fn wide(min_max: MinMax, pair: &Pair) -> MinMax
     ensures { result ≡ min_max_with pair.now.1 (Some min_max) }
 {
     min_max.with(pair.1)
 }
 
-/// Returns whether a pair need not be retracted: its value is strictly within the min-max under its key since the delta was
-/// applied.
+/// Returns whether a pair need not be retracted, because its value is strictly within the min-max under its key after the delta
+/// was applied.
 fn need_not_retract(delta: &Option<Delta>, to_retract: &Option<Pair>) -> bool
     ensures { IsTrue result → NeedNotRetract delta.now to_retract.now }
 {
@@ -45,7 +45,7 @@ fn need_not_retract(delta: &Option<Delta>, to_retract: &Option<Pair>) -> bool
     false
 }
 
-/// Leaves out a pair that need not be retracted. Its key becomes a spare one.
+/// Removes a pair that need not be retracted. Its key becomes a spare key.
 fn leave_out_one(keys: &mut SpareKeys, delta: &Option<Delta>, to_retract: &mut Option<Pair>)
     ensures { IsLeftOut delta.now to_retract.old to_retract.new }
 {
@@ -56,7 +56,7 @@ fn leave_out_one(keys: &mut SpareKeys, delta: &Option<Delta>, to_retract: &mut O
     }
 }
 
-/// Leaves out the pairs that need not be retracted.
+/// Removes the pairs that need not be retracted.
 fn leave_out_each(keys: &mut SpareKeys, to_retract: &mut [Option<Pair>], deltas: &[Option<Delta>])
     requires { length to_retract.old ≡ length deltas.now }
     ensures len { length to_retract.new ≡ length to_retract.old }
@@ -67,7 +67,7 @@ fn leave_out_each(keys: &mut SpareKeys, to_retract: &mut [Option<Pair>], deltas:
     }
 }
 
-/// Returns the pairs to retract without those that need not be. So the min-max under their keys is not looked up again.
+/// Removes the pairs that need not be retracted, so that the min-max under their keys is not looked up again.
 #[inline(always)]
 pub fn leave_out(
     keys: &mut SpareKeys,

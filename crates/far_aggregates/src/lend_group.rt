@@ -1,4 +1,4 @@
-// What lends the columns of a row group.
+// The trait that lends the columns of a row group.
 ghost use Rattle.std.specs.Prelude.{◌≡◌, ℕ, Bool, List, true, map, IsSome, IfSome};
 ghost use Rattle.far_types.specs.Table.{Place};
 ghost use Rattle.far_aggregates.specs.Lending.{IsOfPlaces};
@@ -10,11 +10,11 @@ pub trait LendGroup {
     /// The places of the row group, in order.
     ghost places: { Self → List Place };
 
-    /// Whether the column of a number is available.
+    /// Whether the column with a number is available.
     ghost has: { Self → ℕ → Bool };
 
-    /// Returns the column of a number, read in place, or `None` if it is not available. Its first cells are those of the places;
-    /// others may follow. Allocates nothing.
+    /// Returns the column with this number, read in place, or `None` if it is not available. The column begins with the cells of
+    /// the places, and may have more cells after them. Allocates nothing.
     fn column(&self, number: u32) -> Option<Column<'_>>
         ensures there { has self.now number ≡ true → IsSome result }
         ensures number { IfSome result (λ column. column.0 ≡ number) }

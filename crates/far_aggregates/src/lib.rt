@@ -1,6 +1,6 @@
 #![tactic(auto)]
-//! What a table keeps for its aggregates, up to date under every edit. It knows neither how rows are kept nor where their
-//! columns lie. An edit brings its row. Whatever has the columns of a row group lends them.
+//! Keeps the aggregates of a table up to date under every edit. The crate does not know how rows are stored or where their
+//! columns are. An edit passes its row. The owner of a row group's columns lends them.
 
 mod aggregate;
 pub mod aggregates;

@@ -4,7 +4,7 @@ ghost use Rattle.std.specs.Prelude.{◌≡◌};
 use far_extrema::MinMax;
 use far_groups::CountSum;
 
-/// What a line of an answer has beside its key.
+/// The values of an answer's line, without its key.
 #[derive(Clone, Copy, Debug, PartialEq, Eq)]
 pub enum Line {
     /// How many values the key has, and their sum.

@@ -1,4 +1,4 @@
-// The columns that an aggregate needs of a row group.
+// The columns of a row group that an aggregate needs.
 ghost use Rattle.std.specs.Prelude.{◌≡◌, [], true, IfSome, IsTrue, option_map, slice_get};
 ghost use Rattle.far_offload.specs.AtHand.{AreAtHand};
 ghost use Rattle.far_types.specs.Bounds.{column_of};
@@ -18,8 +18,8 @@ fn test_column(spec: &Spec, test: usize) -> Option<u32>
     }
 }
 
-/// Returns the column of a number, which the row group has. If no number is asked for, it returns a column without a
-/// value, which has the number `other`.
+/// Returns the column with this number, which the row group has. Without a number, returns an empty column with the number
+/// `other`.
 fn lent<'a, G: LendGroup>(group: &'a G, number: Option<u32>, other: u32) -> Column<'a>
     requires { IfSome number (λ n. G.has group.now n ≡ true) }
     ensures { IsLent (G.places group.now) other number result }
@@ -33,9 +33,9 @@ fn lent<'a, G: LendGroup>(group: &'a G, number: Option<u32>, other: u32) -> Colu
     }
 }
 
-/// Returns the columns that an aggregate needs: of its value, of its key and of its tests, of which there are at most 4. They
-/// lie in an array, so that extrema shrink without an allocation. The rest of the array has the number of the value's column,
-/// which stands first, so it is never found. Allocates nothing.
+/// Returns the columns that an aggregate needs: of its value, of its key and of its tests, of which there are at most 4. The
+/// columns are in an array, so that extrema shrink without an allocation. Each unused entry is an empty column with the number
+/// of the value column. The value column is first, so no look-up finds an unused entry. Allocates nothing.
 pub fn needed_columns<'a, G: LendGroup>(spec: &Spec, group: &'a G) -> [Column<'a>; 6]
     requires { IsServed (G.has group.now) spec.now }
     ensures { AreAtHand spec.now result (G.places group.now) }
@@ -59,8 +59,8 @@ pub fn has_no_test(spec: &Spec) -> bool
     spec.filter.as_slice().is_empty()
 }
 
-/// Returns the columns that an aggregate without tests needs: of its value and of its key. Without a key, the rest has the
-/// number of the value's column, so it is never found. Allocates nothing.
+/// Returns the columns that an aggregate without tests needs: of its value and of its key. Without a key, the second entry is
+/// unused, as in `needed_columns`. Allocates nothing.
 #[inline(always)]
 pub fn untested_columns<'a, G: LendGroup>(spec: &Spec, group: &'a G) -> [Column<'a>; 2]
     requires served { IsServed (G.has group.now) spec.now }

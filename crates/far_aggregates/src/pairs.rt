@@ -1,4 +1,4 @@
-// The pairs that a row gives to the aggregates.
+// The pairs that a row contributes to the aggregates.
 ghost use Rattle.std.specs.Prelude.{◌≡◌, ◌<◌, ◌/◌, ◌++◌, ◌∷◌, [], IfOk, OnOk, IfErr, map, vec_len, vec_capacity};
 ghost use Rattle.far_types.specs.Lent.{lent_pair};
 ghost use Rattle.far_aggregates.specs.Pairs.{change_of, row_gives};
@@ -9,7 +9,7 @@ use super::spare_keys::SpareKeys;
 use far_groups::Pair;
 use far_types::{LendCells, PairRef, Refusal, number_key};
 
-/// Returns the pair that a row that is alive at a place gives to an aggregate, unless its row group is pending.
+/// Returns the pair that a row that is alive at a place contributes to an aggregate, unless its row group is pending.
 #[inline(always)]
 pub fn give<'a, R: LendCells>(
     entry: &Option<Aggregate>,
@@ -29,7 +29,7 @@ pub fn give<'a, R: LendCells>(
     }
 }
 
-/// Returns what `give` does, for an aggregate whose values stand in a column; nothing for another.
+/// Returns the pair like `give` for an aggregate whose values are in a column, and nothing for any other aggregate.
 #[inline(always)]
 fn give_value<'a, R: LendCells>(
     entry: &Option<Aggregate>,
@@ -78,8 +78,8 @@ fn push_pair(
     Ok(())
 }
 
-/// Returns the pairs that a row that is alive at a place gives to the aggregates. The list may have been made for an earlier
-/// edit. Texts are written into the strings of spare keys.
+/// Returns the pairs that a row that is alive at a place contributes to the aggregates. They are in `list`, which an earlier edit
+/// may have allocated. Texts are written into the strings of spare keys.
 #[inline(always)]
 pub fn row_pairs<R: LendCells>(
     keys: &mut SpareKeys,
@@ -106,8 +106,8 @@ pub fn row_pairs<R: LendCells>(
     Ok(pairs)
 }
 
-/// Returns the pairs that a row that is alive at a place gives to the aggregates whose values stand in a column, as `row_pairs`
-/// returns those of all.
+/// Returns pairs like `row_pairs`, but only for the aggregates whose values are in a column. The list has `None` for each other
+/// aggregate.
 #[inline(always)]
 pub fn value_pairs<R: LendCells>(
     keys: &mut SpareKeys,

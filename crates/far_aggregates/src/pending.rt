@@ -1,13 +1,13 @@
-// What an edit has begun in the aggregates.
+// An edit that the aggregates have begun.
 ghost use Rattle.std.specs.Prelude.{◌≡◌, []};
 
 use super::deltas::Delta;
 use far_groups::Pair;
 use std::alloc::Global;
 
-/// The deltas that an edit applied, and the pairs to retract once the rows are changed. If the rows refuse the edit, give this
-/// to `Aggregates::undo`. If they changed, give it to `Aggregates::retract`. What `Aggregates::note_values` noted has no deltas:
-/// give it to `Aggregates::end` or to `Aggregates::replace`.
+/// The deltas that an edit applied, and the pairs to retract once the rows are changed. If the table refuses the edit, pass this
+/// to `Aggregates::undo`. If the rows changed, pass it to `Aggregates::retract`. The result of `Aggregates::note_values` has no
+/// deltas: pass it to `Aggregates::end` or to `Aggregates::replace`.
 #[derive(Drop)]
 pub struct Pending {
     pub(crate) group: u32,
@@ -16,8 +16,8 @@ pub struct Pending {
 }
 
 impl Pending {
-    /// Returns the row group of the edit. It is 0 if `apply_deltas` had no aggregate to change, whatever row group the row is
-    /// in. Allocates nothing.
+    /// Returns the row group of the edit. After `apply_deltas` it is 0 if no aggregate was ever registered, whatever row group
+    /// the row is in. Allocates nothing.
     pub fn row_group(&self) -> u32
         ensures { result ≡ self.now.group }
     {

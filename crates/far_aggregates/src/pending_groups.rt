@@ -26,7 +26,7 @@ impl Model for PendingGroups {
 impl PendingGroups {
     ghost use Rattle.far_types.specs.Table.{is_pending, left};
 
-    /// Returns the flags of row groups: the first `groups` are pending.
+    /// Makes flags that say that the first `groups` row groups are pending.
     pub fn all(alloc: Global, groups: usize) -> Result<PendingGroups, AllocError>
         requires { groups < 2 ^ 32 }
         ensures { IfOk result (λ pending. pending ≡ replicate groups true) }
@@ -62,7 +62,7 @@ impl PendingGroups {
         count_set(self.flags.as_slice())
     }
 
-    /// Marks the row group as scanned. Allocates nothing.
+    /// Marks a row group as scanned. Allocates nothing.
     pub fn clear(&mut self, group: usize)
         ensures { self.new ≡ slice_set self.old group false }
     {

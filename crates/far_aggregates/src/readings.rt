@@ -1,4 +1,4 @@
-// What can be read of the aggregates without an answer.
+// Reads aggregates without building a whole answer.
 ghost use Rattle.std.specs.Prelude.{◌≡◌, ◌<◌, ◌≤◌, ℕ, List, Some, None, true, false, cond, ◌&&◌, ◌==◌, is_none, length, slice_get, IfSome, IfNone, IfOk, IfErr};
 ghost use Rattle.far_types.specs.declared.answer.Answer.TheVariants as answer;
 ghost use Rattle.far_types.specs.Answers.{or_zero, total_lines, extrema_lines};
@@ -17,13 +17,14 @@ use super::line::Line;
 use far_groups::LiveTotals;
 use far_types::{Key, Refusal};
 
-/// Returns the first row group that is pending, with the lowest number of an aggregate that lacks it.
+/// Returns the lowest number of an aggregate in which a row group is pending, and the first row group that is pending in it.
 pub fn first_pending(registry: &[Option<Aggregate>]) -> Option<(u32, u32)>
     requires { length registry.now ≤ 32 }
     ensures some { IfSome result
         (λ at. has_pending at.1 (flattened (slice_get registry.now at.0)) ≡ true) }
     ensures none { IfNone result
-        ((a : ℕ) → (g : ℕ) → has_pending g (flattened (slice_get registry.now a)) ≡ false) }
+        ((a : ℕ) → (g : ℕ)
+        → has_pending g (flattened (slice_get registry.now a)) ≡ false) }
 {
     for i in 0..registry.len() {
         if let Some(aggregate) = &registry[i] {
@@ -35,7 +36,7 @@ pub fn first_pending(registry: &[Option<Aggregate>]) -> Option<(u32, u32)>
     None
 }
 
-/// Returns the count and the sum of an aggregate of totals without key column, if no row group is pending.
+/// Returns the count and the sum of an aggregate of totals without a key column, if no row group is pending.
 pub fn plain(aggregate: &Aggregate) -> Option<(u64, i128)>
     ensures { (size : ℕ) → (places : List Place) → KeepsEntry size places (Some aggregate.now)
         → result ≡ plain_in places (registered_in (Some aggregate.now)) }
@@ -62,10 +63,11 @@ fn left_in(accumulator: &Accumulator) -> u32
     }
 }
 
-// Returns the line of a key of totals. Without key column they always have a line.
+// Returns the line of a key in totals. Totals without a key column always have a line for no key.
 fn total_line(live: &LiveTotals, column: Option<u32>, key: &Option<Key>) -> Option<Line>
     ensures { KeysFit column live.now.totals
-        → result ≡ line_in (answer.Totals (or_zero column (total_lines live.now.totals))) key.now }
+        → result
+        ≡ line_in (answer.Totals (or_zero column (total_lines live.now.totals))) key.now }
 {
     match live.get(key) {
         Some(found) => Some(Line::of_totals(found)),
@@ -79,7 +81,7 @@ fn total_line(live: &LiveTotals, column: Option<u32>, key: &Option<Key>) -> Opti
     }
 }
 
-// Returns the line of a key of extrema.
+// Returns the line of a key in extrema.
 fn extrema_line(live: &KnownExtrema, key: &Option<Key>) -> Option<Line>
     ensures { result
         ≡ line_in (answer.Extrema (extrema_lines (all_groups live.now.groups))) key.now }
@@ -90,17 +92,18 @@ fn extrema_line(live: &KnownExtrema, key: &Option<Key>) -> Option<Line>
     }
 }
 
-/// Returns the line of a key in the answer of an aggregate over the rows that it is kept for, or `None` if the answer has no such
-/// line. Allocates nothing.
+/// Returns the line of a key in the answer of an aggregate over the rows for which it is up to date, or `None` if the answer has
+/// no such line. Allocates nothing.
 ///
-/// Refused with `Building` (15) exactly if row groups are pending. It says how many.
+/// Refused with `Building` (15) exactly if row groups are pending. The refusal says how many.
 pub fn line(aggregate: &Aggregate, key: &Option<Key>) -> Result<Option<Line>, Refusal>
     ensures ok { IfOk result
         (λ line. (size : ℕ) → (places : List Place) → 0 < size
         → KeepsEntry size places (Some aggregate.now)
         → AnswersKey places (registered_in (Some aggregate.now)) key.now line) }
     ensures err { IfErr result
-        (λ e. (size : ℕ) → (places : List Place) → KeepsEntry size places (Some aggregate.now)
+        (λ e. (size : ℕ) → (places : List Place)
+        → KeepsEntry size places (Some aggregate.now)
         → MayRefuse (ask_refusal (registered_in (Some aggregate.now))) false e) }
 {
     let left = left_in(&aggregate.accumulator);

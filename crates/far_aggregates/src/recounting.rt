@@ -1,4 +1,4 @@
-// An aggregate that is computed from scratch, from the partial aggregates of its row groups.
+// Computes an aggregate from scratch, from the partial aggregates of its row groups.
 ghost use Rattle.std.specs.Prelude.{◌≡◌, ◌<◌, ◌≤◌, ◌^◌, ℕ, List, Some, true, false, length, slice_set, OnOk, IfOk, IfErr};
 ghost use Rattle.far_types.specs.Answers.{answer_over};
 ghost use Rattle.far_types.specs.Table.{Place, groups, is_pending, rows_of};
@@ -13,7 +13,7 @@ use far_offload::PartialDone;
 use far_types::{Answer, Refusal, Spec};
 use std::alloc::Global;
 
-/// Merges the partial aggregate of a row group into an aggregate in which it is pending. Refused with `NoMemory` (1) alone.
+/// Merges the partial aggregate of a row group into an aggregate in which it is pending. Refused only with `NoMemory` (1).
 fn merge_next(
     aggregate: &mut Aggregate,
     size: u32,
@@ -41,7 +41,7 @@ fn merge_next(
 
 /// Returns the answer of an aggregate over `places` places, from the partial aggregates of their row groups, in order.
 ///
-/// Refused with `NoMemory` (1) alone.
+/// Refused only with `NoMemory` (1).
 pub fn answer_of(
     alloc: Global,
     spec: &Spec,
@@ -60,7 +60,7 @@ pub fn answer_of(
     ensures memory { IfErr result (λ e. e ≡ Refusal.NoMemory) }
 {
     let mut aggregate = new_aggregate(alloc, spec.clone()?, 0, size, places)?;
-    // For the proof: gives how few row groups there are.
+    // For the proof: the contract of `group_count` bounds the number of row groups.
     let _groups = group_count(size, places);
     let mut number = 0;
     for partial in partials {

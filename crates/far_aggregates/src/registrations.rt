@@ -1,4 +1,4 @@
-// Aggregates under their numbers.
+// Registers aggregates under their numbers.
 ghost use Rattle.std.specs.Prelude.{◌≡◌, ◌<◌, ◌≤◌, ◌+◌, ◌^◌, ℕ, List, Some, None, true, length, replicate, slice_get, slice_set, IfOk, IfErr, IfSome, OnOk, OnErr};
 ghost use Rattle.std.specs.Option.{option_copied};
 ghost use Rattle.far_types.specs.Table.{Place, groups, is_pending};
@@ -12,7 +12,7 @@ use far_groups::LiveTotals;
 use far_types::{Fold, Refusal, Spec};
 use std::alloc::Global;
 
-/// Returns the lowest number under which no aggregate is registered.
+/// Returns the lowest number under which no aggregate is registered, or `None` if 32 are.
 pub fn free_number(registry: &[Option<Aggregate>]) -> Option<u32>
     requires { length registry.now ≤ 32 }
     ensures value { result ≡ free_from 0 (registered_of registry.now) }
@@ -30,7 +30,7 @@ pub fn free_number(registry: &[Option<Aggregate>]) -> Option<u32>
     None
 }
 
-/// Returns the aggregate of a number, if there is one.
+/// Returns the aggregate with this number, if there is one.
 pub fn aggregate_at(registry: &[Option<Aggregate>], a: u32) -> Option<&Aggregate>
     ensures { option_copied result ≡ flattened (slice_get registry.now a) }
 {
@@ -40,7 +40,7 @@ pub fn aggregate_at(registry: &[Option<Aggregate>], a: u32) -> Option<&Aggregate
     }
 }
 
-/// Returns how many row groups hold a place.
+/// Returns how many row groups hold one of `places` places.
 pub fn group_count(size: u32, places: usize) -> usize
     requires size { 0 < size }
     requires few { places ≤ 2 ^ 24 }
@@ -50,7 +50,7 @@ pub fn group_count(size: u32, places: usize) -> usize
     (places + size as usize - 1) / size as usize
 }
 
-/// Returns the accumulator of no row, while `left` row groups are pending.
+/// Makes an accumulator without a row, in which `left` row groups are pending.
 fn empty_accumulator(alloc: Global, fold: Fold, left: u32) -> Accumulator
     ensures fold { fold_of result ≡ fold }
     ensures nothing { KeepsNothing left result }
@@ -61,7 +61,7 @@ fn empty_accumulator(alloc: Global, fold: Fold, left: u32) -> Accumulator
     }
 }
 
-/// Returns an aggregate with nothing scanned: all row groups that hold one of `places` places are pending.
+/// Makes an aggregate with nothing scanned: all row groups that hold one of `places` places are pending.
 pub fn new_aggregate(
     alloc: Global,
     spec: Spec,
@@ -93,7 +93,7 @@ pub fn new_aggregate(
     })
 }
 
-/// Puts an aggregate under a number, which is free.
+/// Puts an aggregate under a free number.
 pub fn put(
     registry: &mut Vec<Option<Aggregate>>,
     a: u32,
@@ -120,7 +120,7 @@ pub fn put(
     Ok(())
 }
 
-/// Registers an aggregate over `places` places under a number, which is free.
+/// Registers an aggregate over `places` places under a free number.
 pub fn register(
     alloc: Global,
     registry: &mut Vec<Option<Aggregate>>,
@@ -155,7 +155,7 @@ pub fn register(
     put(registry, a, aggregate)
 }
 
-/// Forgets the aggregate of a number.
+/// Forgets the aggregate with this number.
 pub fn forget(registry: &mut Vec<Option<Aggregate>>, a: u32)
     requires { a < length registry.old.items }
     ensures registered { registered_of registry.new.items

@@ -1,4 +1,4 @@
-// Numbers that are replaced in a column, while each pair that their row gives stays under its key. Nothing here allocates.
+// Replaces the values of pairs in totals, if each pair stays under its key. Nothing here allocates.
 ghost use Rattle.std.specs.Prelude.{◌≡◌, ◌==◌, ◌≤◌, length};
 ghost use Rattle.std.specs.List.{list_any, list_all};
 ghost use Rattle.far_types.specs.Bounds.{column_of};
@@ -9,7 +9,7 @@ use super::aggregate::{Accumulator, Aggregate};
 use far_groups::Pair;
 use far_types::{Spec, Test};
 
-/// Returns whether an aggregate looks at a column.
+/// Returns whether an aggregate uses a column.
 fn looks_at(entry: &Option<Aggregate>, column: u32) -> bool
     ensures { result ≡ looks_at column entry.now }
 {
@@ -19,21 +19,21 @@ fn looks_at(entry: &Option<Aggregate>, column: u32) -> bool
     }
 }
 
-/// Returns whether some aggregate looks at a column.
+/// Returns whether some aggregate uses a column.
 pub fn one_looks_at(registry: &[Option<Aggregate>], column: u32) -> bool
     ensures { result ≡ list_any (looks_at column) registry.now }
 {
     registry.iter().any(|entry| looks_at(entry, column))
 }
 
-/// Returns whether one of some tests looks at a column.
+/// Returns whether some test uses a column.
 fn are_looking_at(tests: &[Test], column: u32) -> bool
     ensures { result ≡ list_any (λ test. column_of test == column) tests.now }
 {
     tests.iter().any(|test| test.column() == column)
 }
 
-/// Returns whether a test or the key of an aggregate looks at a column.
+/// Returns whether a test or the key of an aggregate uses a column.
 fn selects_by(spec: &Spec, column: u32) -> bool
     ensures { result ≡ selects_by column spec.now }
 {
@@ -46,7 +46,7 @@ fn selects_by(spec: &Spec, column: u32) -> bool
     }
 }
 
-/// Returns whether an accumulator is of totals.
+/// Returns whether an accumulator computes totals.
 fn is_of_totals(accumulator: &Accumulator) -> bool
     ensures { result ≡ is_of_totals accumulator.now }
 {
@@ -56,7 +56,7 @@ fn is_of_totals(accumulator: &Accumulator) -> bool
     }
 }
 
-/// Returns whether an aggregate looks at a column at most for the values of totals.
+/// Returns whether an aggregate uses a column only for the values of totals, or not at all.
 fn keeps_key(entry: &Option<Aggregate>, column: u32) -> bool
     ensures { result ≡ keeps_key column entry.now }
 {
@@ -69,14 +69,14 @@ fn keeps_key(entry: &Option<Aggregate>, column: u32) -> bool
     }
 }
 
-/// Returns whether each aggregate looks at a column at most for the values of totals.
+/// Returns whether each aggregate uses a column only for the values of totals, or not at all.
 pub fn keep_keys(registry: &[Option<Aggregate>], column: u32) -> bool
     ensures { result ≡ list_all (keeps_key column) registry.now }
 {
     registry.iter().all(|entry| keeps_key(entry, column))
 }
 
-/// Replaces the value of a pair in totals, if there is a pair.
+/// Replaces the value of a pair in totals by a number, if there is a pair.
 fn replace_one(entry: &mut Option<Aggregate>, pair: &Option<Pair>, to: i64)
     requires { MayReplace entry.old pair.now }
     ensures { entry.new ≡ after_replace to entry.old pair.now }
@@ -90,7 +90,7 @@ fn replace_one(entry: &mut Option<Aggregate>, pair: &Option<Pair>, to: i64)
     }
 }
 
-/// Replaces the values of pairs in totals.
+/// Replaces the values of pairs in totals by a number.
 pub fn replace_all(registry: &mut [Option<Aggregate>], pairs: &[Option<Pair>], to: i64)
     requires len { length pairs.now ≤ length registry.old }
     requires may { EachMayReplace registry.old pairs.now }

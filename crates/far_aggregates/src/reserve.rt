@@ -1,4 +1,4 @@
-// What extrema reserve for the row group of an edit.
+// Reserves the row group of an edit in extrema.
 ghost use Rattle.std.specs.Prelude.{◌≡◌, ℕ, List, map};
 ghost use Rattle.far_types.specs.Table.{Place};
 ghost use Rattle.far_aggregates.specs.Accumulators.{Keeps, registered_in};
@@ -6,7 +6,7 @@ ghost use Rattle.far_aggregates.specs.Reserve.{AreReserved, entry_after_reserve}
 
 use super::aggregate::{Accumulator, Aggregate};
 
-/// Reserves a row group, if the aggregate is of extrema.
+/// Reserves a row group, if the aggregate computes extrema.
 fn reserve_one(entry: &mut Option<Aggregate>, group: u32)
     ensures { entry.new ≡ entry_after_reserve group entry.old }
 {
@@ -17,7 +17,7 @@ fn reserve_one(entry: &mut Option<Aggregate>, group: u32)
     }
 }
 
-/// Reserves a row group in each aggregate, which stays the same. Allocates nothing.
+/// Reserves a row group in the extrema of each aggregate. Changes no answer. Allocates nothing.
 pub fn reserve_all(registry: &mut [Option<Aggregate>], group: u32)
     ensures reserved { AreReserved group registry.new }
     ensures registered { map registered_in registry.new ≡ map registered_in registry.old }

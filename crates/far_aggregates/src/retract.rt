@@ -1,4 +1,4 @@
-// Pairs that are retracted from the aggregates. Nothing here allocates.
+// Retracts pairs from the aggregates. Nothing here allocates.
 ghost use Rattle.std.specs.Prelude.{◌≡◌, ◌≤◌, ◌<◌, [], Some, false, length, map, slice_get, slice_set};
 ghost use Rattle.std.specs.FinMap as fin;
 ghost use Rattle.far_types.specs.Answers.{extrema};
@@ -19,8 +19,8 @@ use far_groups::Pair;
 use far_offload::min_max_under;
 use far_types::{Key, Spec};
 
-/// Returns the least and the greatest value of the rows of a row group that belong to a key, if there is one. Many aggregates
-/// have no tests: for them no columns of tests are lent.
+/// Returns the least and the greatest value of a key's rows in a row group, if there is one. Many aggregates have no tests: for
+/// them no test columns are lent.
 #[inline(always)]
 fn min_max_left<G: LendGroup>(spec: &Spec, group: &G, key: &Option<Key>) -> Option<MinMax>
     requires { IsServed (G.has group.now) spec.now }
@@ -32,7 +32,7 @@ fn min_max_left<G: LendGroup>(spec: &Spec, group: &G, key: &Option<Key>) -> Opti
     min_max_under(spec, &needed_columns(spec, group), group.alive(), key)
 }
 
-/// The rows of a row group that are left under the key of a retracted pair, as an aggregate folds them.
+/// The rows of a row group that remain under the key of a retracted pair, as an aggregate folds them.
 #[derive(Drop)]
 struct Left<'a, G> {
     spec: &'a Spec,
@@ -46,14 +46,14 @@ impl<'a, G: LendGroup> RowsLeft for Left<'a, G> {
     ghost extremes = { λ left. fin.get
         (extrema (pairs_here left.spec.now (G.places left.group.now))) left.key.now };
 
-    /// Reads the rows that are left. It is not inlined, so that its callers keep no stack space for columns that are rarely read.
+    /// Reads the remaining rows. It is not inlined, so that its callers reserve no stack space for columns that are rarely read.
     #[inline(never)]
     fn min_max(&self) -> Option<MinMax> {
         min_max_left(self.spec, self.group, self.key)
     }
 }
 
-/// Retracts a pair from the extrema of a row group. The rows that are left are read only if its value was the least or the
+/// Retracts a pair from the extrema of a row group. Reads the remaining rows only if the pair's value was the least or the
 /// greatest under its key.
 fn shrink<G: LendGroup>(live: &mut KnownExtrema, spec: &Spec, group: &G, number: u32, pair: &Pair)
     requires served { IsServed (G.has group.now) spec.now }
@@ -97,7 +97,7 @@ fn retract_one<G: LendGroup>(
     }
 }
 
-/// Retracts the pairs that a place of a row group gave before its row changed.
+/// Retracts the pairs that a place of a row group contributed before its row changed.
 pub fn retract_all<G: LendGroup>(
     registry: &mut [Option<Aggregate>],
     group: &G,
@@ -115,7 +115,7 @@ pub fn retract_all<G: LendGroup>(
     }
 }
 
-/// Returns whether a pair is retracted from extrema, so that rows may have to be read.
+/// Returns whether there is a pair to retract from extrema, so that rows may have to be read.
 fn needs_rows_at(entry: &Option<Aggregate>, to_retract: &Option<Pair>) -> bool
     ensures { result ≡ false → IsPlain entry.now to_retract.now }
 {
@@ -129,7 +129,7 @@ fn needs_rows_at(entry: &Option<Aggregate>, to_retract: &Option<Pair>) -> bool
     false
 }
 
-/// Returns whether a pair is retracted from some extrema.
+/// Returns whether there is a pair to retract from the extrema of some aggregate.
 pub fn needs_rows(registry: &[Option<Aggregate>], to_retract: &[Option<Pair>]) -> bool
     ensures { result ≡ false → EachIsPlain registry.now to_retract.now }
 {
@@ -157,7 +157,7 @@ fn retract_plain(entry: &mut Option<Aggregate>, to_retract: &Option<Pair>)
     }
 }
 
-/// Retracts the pairs that a place gave before its row changed, all of them from totals.
+/// Retracts the pairs that a place contributed before its row changed, all of them from totals.
 pub fn retract_totals(registry: &mut [Option<Aggregate>], pairs: &[Option<Pair>])
     requires len { length pairs.now ≤ length registry.old }
     requires plain { EachIsPlain registry.old pairs.now }

@@ -1,4 +1,4 @@
-// A row group that is scanned into an aggregate.
+// Scans a row group into an aggregate.
 ghost use Rattle.std.specs.Prelude.{◌≡◌, ◌≢◌, ◌-◌, ◌<◌, ◌≤◌, ◌^◌, ℕ, List, true, length, slice_get, slice_set, IfOk, OnOk, OnErr, IfErr};
 ghost use Rattle.far_types.specs.declared.spec.Fold.TheVariants as folds;
 ghost use Rattle.far_types.specs.Answers.{totals, extrema};
@@ -21,7 +21,7 @@ use far_offload::{PartialDone, fold, fold_into, observe_into};
 use far_types::{Refusal, Spec};
 use std::alloc::Global;
 
-/// Folds the live places of a row group. Refused with `NoMemory` (1) alone.
+/// Folds the live places of a row group. Refused only with `NoMemory` (1).
 fn fold_group<G: LendGroup>(alloc: Global, spec: &Spec, group: &G) -> Result<PartialDone, Refusal>
     requires few { length (G.places group.now) ≤ 2 ^ 24 }
     requires served { IsServed (G.has group.now) spec.now }
@@ -33,7 +33,7 @@ fn fold_group<G: LendGroup>(alloc: Global, spec: &Spec, group: &G) -> Result<Par
     fold(alloc, spec, &columns, group.alive())
 }
 
-/// Merges a partial aggregate. Refused with `NoMemory` (1) alone. A refused call changes nothing.
+/// Merges the partial aggregate of a row group into an accumulator. Refused only with `NoMemory` (1). A refused call changes nothing.
 pub fn merge_in(
     accumulator: &mut Accumulator,
     number: u32,
@@ -60,7 +60,7 @@ pub fn merge_in(
     }
 }
 
-/// Adds the rows of a row group to totals in which a row group is pending. Refused with `NoMemory` (1) alone. A refused call
+/// Adds the rows of a row group to totals in which a row group is pending. Refused only with `NoMemory` (1). A refused call
 /// changes nothing.
 pub fn scan_totals<G: LendGroup>(
     alloc: Global,
@@ -88,8 +88,8 @@ pub fn scan_totals<G: LendGroup>(
     fold_into(alloc, live, spec, &columns, group.alive())
 }
 
-/// Observes the rows of a row group in extrema, which may have rows of other row groups. Refused with `NoMemory` (1) alone. A refused
-/// call may have observed some of the rows.
+/// Observes the rows of a row group in extrema, which may already include rows of other row groups. Refused only with `NoMemory`
+/// (1). A refused call may have observed some of the rows.
 pub fn observe_group<G: LendGroup>(
     alloc: Global,
     observed: &mut GroupExtrema,
@@ -106,7 +106,7 @@ pub fn observe_group<G: LendGroup>(
     observe_into(alloc, observed, spec, &columns, group.alive())
 }
 
-/// Scans the rows of a row group. Refused with `NoMemory` (1) alone. A refused call changes nothing.
+/// Scans the rows of a row group into an accumulator. Refused only with `NoMemory` (1). A refused call changes nothing.
 fn scan<G: LendGroup>(
     alloc: Global,
     accumulator: &mut Accumulator,
@@ -130,7 +130,7 @@ fn scan<G: LendGroup>(
     merge_in(accumulator, number, partial)
 }
 
-/// Scans the rows of a row group into an aggregate in which it is pending. Refused with `NoMemory` (1) alone. A refusal does
+/// Scans the rows of a row group into an aggregate in which it is pending. Refused only with `NoMemory` (1). A refusal does
 /// not change its answer.
 fn scan_in<G: LendGroup>(
     alloc: Global,
@@ -164,8 +164,8 @@ fn scan_in<G: LendGroup>(
     Ok(())
 }
 
-/// Scans the rows of a row group into the aggregate of a number. Refused with `NoMemory` (1) alone. A refusal does not change
-/// its answer.
+/// Scans the rows of a row group into the aggregate with this number. Refused only with `NoMemory` (1). A refusal does not
+/// change its answer.
 pub fn scan_at<G: LendGroup>(
     alloc: Global,
     registry: &mut Vec<Option<Aggregate>>,

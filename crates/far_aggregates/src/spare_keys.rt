@@ -1,4 +1,4 @@
-// The memory of text keys, from one edit to the next.
+// Keeps the memory of text keys from one edit to the next.
 ghost use Rattle.std.specs.Prelude.{◌≡◌, ◌↔◌, ◌<◌, ◌≤◌, ◌++◌, [], Some, IsTrue, IfOk, IfErr, vec_len, vec_capacity};
 ghost use Rattle.far_types.specs.declared.key.Key.TheVariants as keys;
 ghost use Rattle.far_aggregates.specs.SpareKeys.{text_key};
@@ -8,11 +8,11 @@ use far_groups::Pair;
 use far_types::{CellRef, Key, Refusal};
 use std::alloc::Global;
 
-/// How many keys an edit has at most: for each of 32 aggregates that of a delta and that of a retracted pair.
+/// The most keys that an edit has: for each of 32 aggregates, the key of a delta and the key of a retracted pair.
 const MOST: usize = 64;
 
-/// Text keys of edits that have ended. The next edit writes its texts into their strings. So a key mostly allocates only if it
-/// is new to an aggregate. No answer depends on which keys are here.
+/// Text keys of edits that have ended. The next edit writes its texts into their strings, so a key mostly allocates only if it
+/// is new to an aggregate. No answer depends on which keys are kept.
 #[derive(Drop)]
 pub struct SpareKeys {
     alloc: Global,
@@ -20,7 +20,7 @@ pub struct SpareKeys {
 }
 
 impl SpareKeys {
-    /// Returns a list without a key. Allocates nothing.
+    /// Makes an empty list. Allocates nothing.
     pub fn new(alloc: Global) -> SpareKeys
         ensures { result.keys.items ≡ [] }
     {
@@ -30,7 +30,7 @@ impl SpareKeys {
         }
     }
 
-    /// Returns the key of a text, in the string of a spare key if there is one. Refused with `NoMemory` (1) alone.
+    /// Makes a key of a text, in the string of a spare key if there is one. Refused only with `NoMemory` (1).
     pub fn key_of(&mut self, text: &str) -> Result<Option<Key>, Refusal>
         ensures key { IfOk result (λ key. key ≡ Some (keys.Text text.now)) }
         ensures memory { IfErr result (λ e. e ≡ Refusal.NoMemory) }
@@ -42,7 +42,7 @@ impl SpareKeys {
         CellRef::Text(text).key(self.alloc, earlier)
     }
 
-    // Returns whether a key can be kept. Before the first text key none can, and then no pair is looked at.
+    // Returns whether the list has capacity for a key. It has none before the first text key, and then no pair is inspected.
     fn has_capacity(&self) -> bool
         ensures { IsTrue result ↔ (vec_len self.now.keys < vec_capacity self.now.keys) }
     {

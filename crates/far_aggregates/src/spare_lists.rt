@@ -1,4 +1,4 @@
-// The lists of edits, from one edit to the next.
+// Keeps the lists of edits from one edit to the next.
 ghost use Rattle.std.specs.Prelude.{◌≡◌, []};
 
 use super::deltas::Delta;
@@ -8,7 +8,7 @@ use far_groups::Pair;
 use std::alloc::Global;
 use std::mem;
 
-/// The lists of edits that have ended. The next edit uses them, so it makes none. No answer depends on them.
+/// The lists of edits that have ended. The next edit uses them instead of new lists. No answer depends on them.
 #[derive(Drop)]
 pub struct SpareLists {
     deltas: Vec<Option<Delta>>,
@@ -16,7 +16,7 @@ pub struct SpareLists {
 }
 
 impl SpareLists {
-    /// Returns lists that have no memory yet. Allocates nothing.
+    /// Makes lists without capacity. Allocates nothing.
     pub fn new(alloc: Global) -> SpareLists
         ensures deltas { result.deltas.items ≡ [] }
         ensures pairs { result.pairs.items ≡ [] }
@@ -45,8 +45,8 @@ impl SpareLists {
         mem::replace(&mut self.pairs, Vec::new(alloc))
     }
 
-    /// Empties the lists of an edit that has ended, and keeps them. Their text keys become spare ones. A list that the edit did
-    /// not take stays here: an insert retracts no pairs, and a removal applies no deltas. Allocates nothing.
+    /// Empties the lists of an edit that has ended, and keeps them. Their text keys become spare keys. A list that the edit did
+    /// not take is kept already: an insert retracts no pairs, and a removal applies no deltas. Allocates nothing.
     #[inline(always)]
     pub fn keep(&mut self, pending: Pending, keys: &mut SpareKeys)
         ensures deltas { self.old.deltas.items ≡ [] → self.new.deltas.items ≡ [] }
@@ -57,7 +57,7 @@ impl SpareLists {
             to_retract,
             ..
         } = pending;
-        // The lists are emptied in their places, so that they need no other place in memory.
+        // Each list is emptied where it is kept, so that it is not copied to a temporary.
         if applied.capacity() > 0 {
             self.deltas = applied;
             keys.keep_deltas(&mut self.deltas);

@@ -1,4 +1,4 @@
--- Available columns contribute what their places contribute: an aggregate reads only the columns that it needs.
+-- Available columns contribute the pairs of their places: an aggregate reads only the columns that it needs.
 use Rattle.std.proofs.Common.{◌≡◌, ℕ, suc, ◌+◌, Bool, true, false, ◌||◌, cond, List, [], ◌∷◌, map, Option, None, Some, refl, ap, ◌∙◌, arith}
 use Rattle.std.specs.Prelude.{◌==◌, option_map, slice_get}
 use Rattle.std.specs.Cmp.Lexicographic.{pointwise}

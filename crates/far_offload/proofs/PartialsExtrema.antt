@@ -62,7 +62,7 @@ module _ (spec : Spec) (columns : Columns) (flags : List Bool) (i : ℕ) (flag :
       ∙ ap (λ m. fin.get m key) (extrema-more pairs (key, value))
       ∙ get_inserted (extrema pairs) key (min_max_with value (fin.get (extrema pairs) key))
 
-  -- or a place whose value is within the extrema
+  -- a place with the key, whose value is missing or within the extrema
   pub min_max-within : (min_max : Option (ℤ × ℤ)) → min_max ≡ fin.get (extrema pairs) key → key_under spec.key (cells_at columns i) ≡ Some key → IsWithin min_max (value_at spec columns (i, flag)) → fin.get (extrema (pairs_over spec columns (take (i + 1) flags))) key ≡ fin.get (extrema pairs) key
   min_max-within min_max before under = elim (value_at spec columns (i, flag)) as (λ (o : Option ℤ). o ≡ value_at spec columns (i, flag) → IsWithin min_max o → fin.get (extrema (pairs_over spec columns (take (i + 1) flags))) key ≡ fin.get (extrema pairs) key) [
     | None ↦ λ e h. ap (λ l. fin.get (extrema l) key) (pairs-valueless spec columns flags i flag within is e)
@@ -79,7 +79,7 @@ under_column : (key : Option ℕ) (columns : Columns) (place : ℕ) (column : �
 under_column None columns place column h = cc
 under_column (Some k) columns place column h = ap (λ (o : Option (ℕ × List Cell)). option_map Some (key_in (option_map (cell_of place) o))) h
 
--- a place has a number as its key if the key column has it there
+-- a place has a number as its key exactly if the key column has the number there
 pub number_under : (spec : Spec) (columns : Columns) (numbers : List (Option ℤ)) (place : ℕ) (n : ℤ) → AreKeys columns spec.key numbers → (get_or (map int_cell numbers) place Missing ≡ cell.Int n → key_under spec.key (cells_at columns place) ≡ Some (Some (keys.Int n))) × (key_under spec.key (cells_at columns place) ≡ Some (Some (keys.Int n)) → get_or (map int_cell numbers) place Missing ≡ cell.Int n)
 number_under spec columns numbers place n are =
     let column = are.0 in

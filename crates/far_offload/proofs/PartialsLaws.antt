@@ -69,7 +69,7 @@ extrema-more pairs pair = extrema-among pairs pair [] ∙ ap (λ l. extrema (pai
 pub few-under : (pairs : List Pair) (key : Option Key) → length pairs < 2 ^ 26 → count_in (fin.get (totals pairs) key) < 2 ^ 26
 few-under pairs key few = let h = counted pairs key in omega (arith, h)
 
--- the values of the first places, with one place more
+-- the values of the first places, with one more place
 pub values-with : (spec : Spec) (columns : Columns) (flags : List Bool) (i : ℕ) (flag : Bool) (value : ℤ) → i < length flags → get_or flags i false ≡ flag → Some value ≡ value_at spec columns (i, flag) → values_over spec columns (take (i + 1) flags) ≡ values_over spec columns (take i flags) ++ value ∷ []
 values-with spec columns flags i flag value within is there =
     over-more (value_at spec columns) flags i flag within is
@@ -81,7 +81,7 @@ values-same spec columns flags i flag within is none =
     ∙ ap (λ (o : Option ℤ). values_over spec columns (take i flags) ++ cons_option o []) (sym none)
     ∙ append-nil (values_over spec columns (take i flags))
 
--- a value within the least and the greatest does not change them
+-- a value between the least and the greatest changes neither
 pub within-unchanged : (value : ℤ) (min_max there : Option (ℤ × ℤ)) → min_max ≡ there → IsWithin min_max (Some value) → Some (min_max_with value there) ≡ there
 within-unchanged value None there before h = absurd h
 within-unchanged value (Some s) there before h = ap (λ o. Some (min_max_with value o)) (sym before) ∙ ap Some (widened_within value s h.0 h.1) ∙ before
@@ -108,7 +108,7 @@ pair-is spec columns place =
       | false ↦ refl
     ]
 
--- the pairs of the first places, with one place more
+-- the pairs of the first places, with one more place
 pub pairs-next : (spec : Spec) (columns : Columns) (flags : List Bool) (i : ℕ) (flag : Bool) (pair : Option Pair) → i < length flags → get_or flags i false ≡ flag → pair_at spec columns (i, flag) ≡ pair → pairs_over spec columns (take (i + 1) flags) ≡ pairs_over spec columns (take i flags) ++ cons_option pair []
 pairs-next spec columns flags i flag pair within is there =
     over-more (pair_at spec columns) flags i flag within is
@@ -119,12 +119,12 @@ pairs-valueless spec columns flags i flag within is none =
     pairs-next spec columns flags i flag None within is (pair-is spec columns (i, flag) ∙ ap (λ (o : Option ℤ). option_and_then (λ value. option_map (λ key. (key, value)) (key_under spec.key (cells_at columns i))) o) (sym none))
     ∙ append-nil (pairs_over spec columns (take i flags))
 
--- pairs of numbers of 64 bits, with one more
+-- pairs whose values fit 64 bits, with one more such pair
 pub fits-more : (pairs : List Pair) (pair : Pair) → PairsFit pairs → FitsSigned w64 pair.1 → PairsFit (pairs ++ pair ∷ [])
 fits-more [] pair fits fit = (fit, tt)
 fits-more (p ∷ pairs) pair fits fit = (fits.0, fits-more pairs pair fits.1 fit)
 
--- a place with a value, in an aggregate with a key column
+-- the pair of a place with a value, in an aggregate with a key column
 keyed-pair : (spec : Spec) (columns : Columns) (i column : ℕ) (flag : Bool) (value : ℤ) (key : Option Key) → spec.key ≡ Some column → Some value ≡ value_at spec columns (i, flag) → key ≡ key_in (cells_at columns i column) → pair_at spec columns (i, flag) ≡ option_map {U = Pair} (λ k. (Some k, value)) key
 keyed-pair spec columns i column flag value key keyed there is =
     pair-is spec columns (i, flag)
@@ -176,7 +176,7 @@ plain-pairs spec columns (place ∷ places) plain =
     each None values = refl
     each (Some value) values = refl
 
--- the totals of values that all have no key
+-- the totals of values without a key
 plain-totals : (values : List ℤ) → (length values ≡ 0 → ⊥) → totals (map (λ value. (None, value)) values) ≡ fin.insert fin.empty None (count_sum values)
 plain-totals [] some = absurd (some refl)
 plain-totals (value ∷ values) some = grouped-one count_sum None value values

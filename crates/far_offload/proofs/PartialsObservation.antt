@@ -16,7 +16,7 @@ use Rattle.far_types.proofs.EffectsLaws.{extrema-append}
 use Rattle.far_offload.specs.Partials.{min_max_in}
 use Rattle.far_offload.proofs.PartialsLaws.{extrema-more, plain-extrema, no-extrema}
 
--- widening the second of two that are joined widens the result
+-- widening the second of two joined min-maxes widens the result
 join-widened : (v : ℤ) (one other : Option (ℤ × ℤ)) → Some (min_max_with v (merge_two join_min_maxes one other)) ≡ merge_two join_min_maxes one (Some (min_max_with v other))
 join-widened v None None = refl
 join-widened v None (Some y) = refl
@@ -29,7 +29,7 @@ join-widened v (Some x) (Some y) =
     let greatest : int_max v (int_max x.1 y.1) ≡ int_max x.1 (int_max v y.1) = omega (arith, ints, int_max_is x.1 y.1, int_max_is v y.1, int_max_is v (int_max x.1 y.1), int_max_is x.1 (int_max v y.1)) in
     λ i. Some (least i, greatest i)
 
--- a pair may be observed before or after two are joined
+-- a pair may be observed before or after two extrema are joined
 observed-joined : (m n : Extrema) (p : Pair) → with_observed (joined_extrema m n) p ≡ joined_extrema m (with_observed n p)
 observed-joined m n p = same _ _ (λ q.
     fin.get-insert line_total (joined_extrema m n) p.0 (min_max_with p.1 (fin.get (joined_extrema m n) p.0)) q
@@ -43,22 +43,22 @@ observed-joined m n p = same _ _ (λ q.
     ∙ ap (merge_two join_min_maxes (fin.get m q)) (sym (fin.get-insert line_total n p.0 (min_max_with p.1 (fin.get n p.0)) q))
     ∙ sym (get-joined join_min_maxes m (with_observed n p) q))
 
--- no more rows
+-- joining extrema of no rows changes nothing
 pub observed-nothing : (m : Extrema) → m ≡ joined_extrema m (extrema [])
 observed-nothing m = sym (joined-empty join_min_maxes m)
 
--- one more row
+-- observing one more row after a join, or before it
 pub observed-more : (m : Extrema) (pairs : List Pair) (pair : Pair) → with_observed (joined_extrema m (extrema pairs)) pair ≡ joined_extrema m (extrema (pairs ++ pair ∷ []))
 observed-more m pairs pair = observed-joined m (extrema pairs) pair ∙ ap (joined_extrema m) (sym (extrema-more pairs pair))
 
--- rows that all have no key, given their least and greatest value
+-- joining rows without a key, given their least and greatest value
 pub observed-plain : (m : Extrema) (values : List ℤ) (least greatest : ℤ) → Some (least, greatest) ≡ min_max_in values → joined_extrema m (fin.insert fin.empty None (least, greatest)) ≡ joined_extrema m (extrema (map (λ value. (None, value)) values))
 observed-plain m values least greatest h = ap (joined_extrema m) (sym (plain-extrema values least greatest h))
 
--- or no such rows
+-- without such rows nothing changes
 pub observed-none : (m : Extrema) (values : List ℤ) → None ≡ min_max_in values → m ≡ joined_extrema m (extrema (map (λ value. (None, value)) values))
 observed-none m values h = sym (joined-empty join_min_maxes m) ∙ ap (joined_extrema m) (sym (no-extrema values h))
 
--- the first rows
+-- joining rows to empty extrema
 pub observed-first : (pairs : List Pair) → joined_extrema fin.empty (extrema pairs) ≡ extrema pairs
 observed-first pairs = sym (extrema-append [] pairs)

@@ -6,7 +6,7 @@ use Rattle.far_types.specs.Cells.{cells_of}
 use Rattle.far_types.specs.Table.{Place}
 use Rattle.far_offload.specs.Columns.{Columns, cells_at}
 
--- each column that the aggregate needs begins with the cells of these places, and may have more
+-- each column that the aggregate needs begins with the cells of these places, and may have more cells after them
 abbrev pub AreAtHand : Spec → Columns → List Place → Type 0
 AreAtHand spec columns places = (c i : ℕ) (place : Place)
     → needs spec c ≡ true

@@ -31,7 +31,7 @@ is_number number column = column.0 == number
 abbrev pub column_of : Columns → ℕ → Option (ℕ × List Cell)
 column_of columns number = find (is_number number) columns
 
--- the cell of a column at a place; past the end it has no value
+-- the cell of a column at a place; a place past the end has no value
 abbrev pub cell_of : ℕ → ℕ × List Cell → Cell
 cell_of place column = slice_index_or column.1 place cell.Missing
 
@@ -39,13 +39,13 @@ cell_of place column = slice_index_or column.1 place cell.Missing
 abbrev pub cells_at : Columns → ℕ → Cells
 cells_at columns place number = option_map (cell_of place) (column_of columns number)
 
--- the numbers are those of the key column, if the aggregate has one
+-- the aggregate has a key column, and these are its numbers
 abbrev pub AreKeys : Columns → Option ℕ → List (Option ℤ) → Type 0
 AreKeys columns key numbers = (column : ℕ × List Cell)
     × (option_and_then (column_of columns) key ≡ Some column)
     × (column.1 ≡ map int_cell numbers)
 
--- the numbers are those of the column with this number
+-- there is a column with this number, and these are its numbers
 abbrev pub AreValues : Columns → ℕ → List (Option ℤ) → Type 0
 AreValues columns number numbers = (column : ℕ × List Cell)
     × (column_of columns number ≡ Some column)

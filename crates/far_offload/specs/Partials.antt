@@ -31,7 +31,7 @@ value_at spec columns place = cond place.1
 abbrev pub values_over : Spec → Columns → List Bool → List ℤ
 values_over spec columns flags = filter_map (value_at spec columns) (enumerate_from 0 flags)
 
--- the least and the greatest of some values; nothing if there are none
+-- the least and the greatest of some values, or `None` if there are no values
 abbrev pub min_max_in : List ℤ → Option (ℤ × ℤ)
 min_max_in [] = None
 min_max_in (value ∷ values) = Some (min_max (value ∷ values))
@@ -40,7 +40,7 @@ min_max_in (value ∷ values) = Some (min_max (value ∷ values))
 abbrev pub MinMaxFits : Option (ℤ × ℤ) → Type 0
 MinMaxFits min_max = IfSome min_max (λ s. FitsSigned w64 s.0 × FitsSigned w64 s.1)
 
--- observing a value leaves the least and the greatest as they are: it is between them, or missing
+-- observing a value changes neither the least nor the greatest: the value is between them, or missing
 abbrev pub IsWithin : Option (ℤ × ℤ) → Option ℤ → Type 0
 IsWithin min_max None = Unit {0}
 IsWithin None (Some value) = ⊥

@@ -43,7 +43,7 @@ impl<'a> Model for Column<'a> {
 }
 
 impl<'a> Column<'a> {
-    /// Makes the column of this number over a list of numbers. Allocates nothing.
+    /// Makes a column with this number over a list of numbers. Allocates nothing.
     pub fn of_numbers(number: u32, values: &'a [Option<i64>]) -> Column<'a>
         ensures { result ≡ (number, map int_cell values.now) }
     {
@@ -53,8 +53,8 @@ impl<'a> Column<'a> {
         }
     }
 
-    /// Makes the column of this number over a far form. The form must be one of the caller's own: it is not checked.
-    /// Allocates nothing, and reads only the head.
+    /// Makes a column with this number over a far form. The caller must know that the bytes are a far form: they are not
+    /// checked. Allocates nothing, and reads only the head.
     pub fn of_form(number: u32, form: &'a [u8]) -> Column<'a>
         requires { IsForm form.now }
         ensures { result ≡ (number, cells_meant form.now) }
@@ -65,10 +65,10 @@ impl<'a> Column<'a> {
         }
     }
 
-    /// Makes the column of this number over a content of the far store. Allocates nothing.
+    /// Makes a column with this number over bytes that were read from the far store. Allocates nothing.
     ///
-    /// The bytes came from a store. So they are checked, once and in one pass, before a value is read. Bytes that are not a
-    /// far form make a column without values. Only a store that breaks its contract returns such bytes.
+    /// The bytes are checked once, in one pass, before a value is read. Bytes that are not a far form make a column without
+    /// values. Only a store that breaks its contract returns such bytes.
     pub fn of_content(number: u32, bytes: &'a [u8]) -> Column<'a>
         ensures form { IsForm bytes.now → result ≡ (number, cells_meant bytes.now) }
         ensures other { (¬ IsForm bytes.now) → result ≡ (number, []) }
@@ -100,7 +100,7 @@ impl<'a> Column<'a> {
         )
     }
 
-    /// Returns the list of the numbers, if the values are a list.
+    /// Returns the numbers as a list, if the column stores them as one.
     pub(crate) fn numbers(&self) -> Option<&'a [Option<i64>]>
         ensures { IfSome result (λ numbers. self.now.1 ≡ map int_cell numbers.now) }
     {
@@ -110,7 +110,7 @@ impl<'a> Column<'a> {
         }
     }
 
-    /// Returns the far form of the numbers, if the values are one.
+    /// Returns the numbers as a far form, if the column stores them as one.
     pub(crate) fn ints(&self) -> Option<&LentInts<'a>>
         ensures { IfSome result (λ ints. self.now.1 ≡ map int_cell ints.now) }
     {
@@ -120,7 +120,7 @@ impl<'a> Column<'a> {
         }
     }
 
-    /// Returns the cell at a place. Past the end there is no value.
+    /// Returns the cell at a place. A place past the end has no value.
     #[inline(always)]
     pub(crate) fn cell(&self, place: usize) -> CellRef<'_>
         ensures cell { lent_cell result ≡ cell_of place self.now }
@@ -144,7 +144,7 @@ impl<'a> Column<'a> {
     }
 }
 
-/// Returns the values of a form, as a column stores them.
+/// Converts the values of a far form to the values of a column.
 fn values_in(values: LentValues<'_>) -> ColumnValues<'_>
     ensures { cells_lent result ≡ cells_in values.entry }
 {
@@ -166,7 +166,7 @@ fn tested(bytes: &[u8]) -> Option<LentValues<'_>>
     }
 }
 
-/// Returns the column with this number, if it is available.
+/// Returns the first column with this number, if there is one.
 pub(crate) fn find<'a, 'b>(columns: &'a [Column<'b>], number: u32) -> Option<&'a Column<'b>>
     ensures { option_copied result ≡ column_of columns.now number }
 {

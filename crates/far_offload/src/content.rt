@@ -32,7 +32,7 @@ impl Model for Content {
 }
 
 impl Content {
-    /// Returns the column over this content, read in place.
+    /// Makes a column that reads this content in place.
     fn lend(&self) -> Column<'_>
         ensures { result ≡ self.now }
     {
@@ -61,7 +61,7 @@ fn content_under<S: FarRead>(
     Ok(Content { number, form })
 }
 
-/// Reads the contents of some tickets, each into a buffer of its own.
+/// Reads the content of each ticket into a buffer of its own.
 pub(crate) fn contents_under<S: FarRead>(
     alloc: Global,
     store: &S,
@@ -83,7 +83,7 @@ pub(crate) fn contents_under<S: FarRead>(
     Ok(contents)
 }
 
-/// Returns the columns over some contents, read in place.
+/// Makes a column for each content, which reads the content in place.
 pub(crate) fn lend_all(alloc: Global, contents: &[Content]) -> Result<Vec<Column<'_>>, AllocError>
     ensures { IfOk result (λ columns. columns.items ≡ contents.now) }
 {

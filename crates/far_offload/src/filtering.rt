@@ -1,4 +1,4 @@
-// Which places pass a filter, and their values.
+// Tests which places pass a filter, and reads their values.
 ghost use Rattle.std.specs.Prelude.{◌≡◌, Some, None, IsTrue, IfSome, IfNone, FitsSigned, option_map, cond};
 ghost use Rattle.std.specs.Int.{w64};
 ghost use Rattle.std.specs.Option.{option_copied};
@@ -10,7 +10,7 @@ use crate::column::{Column, find};
 use far_extrema::MinMax;
 use far_types::{CellRef, LendCells, Spec};
 
-/// A place of the available columns. It lends its cells by column number.
+/// A place in the available columns, which lends the cells of the place by column number.
 #[derive(Clone, Copy)]
 struct PlaceCells<'a, 'b> {
     columns: &'a [Column<'b>],
@@ -34,14 +34,15 @@ impl<'a, 'b> LendCells for PlaceCells<'a, 'b> {
 /// Returns a column's number at a place, if there is one.
 #[inline(always)]
 fn number_in(column: Option<&Column<'_>>, place: usize) -> Option<i64>
-    ensures number { result ≡ number_in (option_map (cell_of place) (option_copied column.entry)) }
+    ensures number { result
+        ≡ number_in (option_map (cell_of place) (option_copied column.entry)) }
     ensures fits { IfSome result (FitsSigned w64) }
 {
     column?.cell(place).number()
 }
 
-/// Returns the value at a place, if the place is alive, passes the filter and has a value. The caller looks up the column of
-/// the values once for all places.
+/// Returns the value at a place, if the place is alive, passes the filter and has a value. The caller looks up the value
+/// column once for all places.
 #[inline(always)]
 pub(crate) fn value_at(
     spec: &Spec,
@@ -63,7 +64,7 @@ pub(crate) fn value_at(
     number_in(values, place)
 }
 
-/// Returns the number at a place in the column of the values, if the place is alive and has one.
+/// Returns the number at a place in the value column, if the place is alive and has one.
 #[inline(always)]
 fn number_alive(values: Option<&Column<'_>>, place: usize, alive: bool) -> Option<i64>
     ensures number { result
@@ -88,8 +89,8 @@ fn is_within(min_max: &Option<MinMax>, value: i64) -> bool
     }
 }
 
-/// Returns the value at a place as `value_at` does, unless it is within a min-max. The filter is tested last: most values of a
-/// row group are within the min-max of those before them.
+/// Returns the value at a place as `value_at` does, unless the value is within a min-max. The filter is tested last, because
+/// most values of a row group are within the min-max of the values before them.
 #[inline(always)]
 pub(crate) fn value_beyond(
     spec: &Spec,

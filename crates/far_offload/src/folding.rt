@@ -67,7 +67,7 @@ fn keyed_totals(
     Ok(totals)
 }
 
-/// Folds totals.
+/// Folds totals, with or without a key column.
 fn totals_of(
     alloc: Global,
     spec: &Spec,
@@ -102,8 +102,8 @@ fn extrema_of(
     Ok(observed)
 }
 
-/// Folds the live places of available columns. There is a place for each flag, at most 2^26. A column that is not available, and a
-/// place past the end of a column, have no value. If several columns have one number, the first counts.
+/// Folds the live places of available columns. `alive` has one flag per place, at most 2^26. A missing column, and a place past
+/// the end of a column, have no value. If several columns have one number, the first of them is used.
 ///
 /// Refused only with `NoMemory` (1).
 pub fn fold(

@@ -14,11 +14,11 @@ use far_groups::LiveTotals;
 use far_types::{Refusal, Spec};
 use std::alloc::Global;
 
-/// Adds the live places of a row group to totals in which a row group is pending. There is a place for each flag, at most 2^26.
-/// Each place contributes what it contributes in `fold`.
+/// Adds the live places of a row group to totals in which a row group is pending. `alive` has one flag per place, at most 2^26.
+/// Each place contributes the same pair as in `fold`.
 ///
-/// A key that is a number allocates nothing. So a partial aggregate of the row group is made only if the keys are texts or
-/// there are none.
+/// A key that is a number allocates nothing. So the call makes a partial aggregate of the row group only if the keys are texts
+/// or there are none.
 ///
 /// Refused only with `NoMemory` (1). A refused call changes no totals.
 pub fn fold_into(
@@ -55,7 +55,7 @@ pub fn fold_into(
     }
 }
 
-/// Returns whether a column has numbers. Only the running time of a fold depends on it.
+/// Returns whether the column with this number has numbers. Only the running time of a fold depends on it.
 fn have_numbers(columns: &[Column<'_>], number: u32) -> bool {
     match find(columns, number) {
         Some(column) => column.has_numbers(),

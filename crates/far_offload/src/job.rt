@@ -1,4 +1,4 @@
-// The job that a remote agent carries.
+// The job that a remote agent runs.
 ghost use Rattle.std.specs.Prelude.{◌≡◌, ◌≤◌, ◌<◌, ◌+◌, ◌^◌, [], ◌∷◌, length, All, IfOk, IfErr};
 ghost use Rattle.far_store.specs.Faults.{faults_in, outcome, RefusedBy};
 ghost use Rattle.far_offload.specs.Jobs.{columns_under, AreForms};
@@ -13,10 +13,10 @@ use std::alloc::Global;
 use std::marker::Model;
 
 /// A remote agent's job: an aggregate over the live places of one row group, whose columns are in a far store. A job borrows
-/// nothing, so any thread can carry it.
+/// nothing, so any thread can run it.
 ///
-/// Contracts see the aggregate, the tickets of the columns by number, and the alive flags. The remote agent reads the far
-/// data where it is, and only the result travels. That is AIFM's offloading (OSDI 2020, section 4.4).
+/// Contracts see the aggregate, the tickets with their column numbers, and the alive flags. The remote agent reads the far
+/// data where it is stored, and only the result travels, as in AIFM's offloading (OSDI 2020, section 4.4).
 #[derive(Drop)]
 pub struct OffloadJob<S: FarTickets> {
     spec: Spec,
@@ -39,9 +39,9 @@ impl<S: FarTickets> Model for OffloadJob<S> {
 }
 
 impl<S: FarTickets> OffloadJob<S> {
-    /// Makes a job over these columns: for each column that the aggregate needs, its number and a ticket whose content is a
-    /// far form. There is a place for each flag, at most 2^26. A column without a ticket, and a place past the end of a
-    /// content, have no value. Allocates nothing.
+    /// Makes a job over the columns with these numbers and tickets, one for each column that the aggregate needs. The content
+    /// of each ticket is a far form. `alive` has one flag per place, at most 2^26. A column without a ticket, and a place past
+    /// the end of a content, have no value. Allocates nothing.
     pub fn new(spec: Spec, tickets: Vec<(u32, S::Ticket)>, alive: Vec<bool>) -> OffloadJob<S>
         requires forms { AreForms S.content tickets.items }
         requires few { length alive.items ≤ 2 ^ 26 }
@@ -78,7 +78,7 @@ impl<S: FarTickets> OffloadJob<S> {
 
 impl<S: FarRead> OffloadJob<S> {
     /// Computes the aggregate over the live rows that the contents encode, as the plain table defines it. Nothing enters the
-    /// local region: the contents are read into buffers of their own, which are dropped.
+    /// local region: the contents are read into buffers that the call drops.
     ///
     /// A refused call returns the whole job. Refused with one of these:
     ///
@@ -106,7 +106,7 @@ impl<S: FarRead> OffloadJob<S> {
         }
     }
 
-    /// Computes what `carry` does, and keeps the job. Refused as `carry` is, with `FarFault` (21) and `NoMemory` (1).
+    /// Computes the same aggregate as `carry`, and keeps the job. Refused like `carry`, with `FarFault` (21) or `NoMemory` (1).
     pub fn partial(
         &self,
         alloc: Global,

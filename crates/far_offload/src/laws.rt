@@ -7,9 +7,8 @@ ghost use Rattle.far_offload.specs.AtHand.{AreAtHand};
 ghost use Rattle.far_offload.specs.Columns.{Columns};
 ghost use Rattle.far_offload.specs.Partials.{pairs_over};
 
-/// A law: the pairs that available columns contribute to an aggregate are those of the places of a row group of the plain table,
-/// in order. For that, each column that the aggregate needs begins with the cells of those places, and the flags are those of the
-/// places.
+/// A law: available columns contribute to an aggregate the pairs of the places of a row group of the plain table, in order. Each
+/// column that the aggregate needs must begin with the cells of those places. The flags must be the alive flags of the places.
 pub fn columns_at_hand_give_the_pairs_of_their_places()
     ensures { (spec : Spec) → (columns : Columns) → (size g : ℕ) → (places : List Place)
         → AreAtHand spec columns (in_group size g places)

@@ -1,9 +1,9 @@
 #![tactic(auto)]
-//! Aggregates of a row group whose columns are available, as lists of numbers or as far forms. `fold` and `min_max_under` read
-//! them in place.
+//! Computes aggregates over a row group whose columns are available, as lists of numbers or as far forms. `fold` and
+//! `min_max_under` read the columns in place.
 //!
-//! If the columns are in the far store, an `OffloadJob` reads the contents of their tickets and folds those. So nothing enters
-//! the local region.
+//! If the columns are in the far store, an `OffloadJob` reads the contents of their tickets and folds the contents. Nothing
+//! enters the local region.
 
 mod column;
 mod content;

@@ -60,8 +60,8 @@ fn observe_keyed(
     Ok(())
 }
 
-/// Observes the live places of a row group in extrema, which may have rows of other row groups. There is a place for each flag.
-/// Each place contributes what it contributes in `fold`.
+/// Observes the live places of a row group in extrema, which may already include rows of other row groups. `alive` has one flag
+/// per place. Each place contributes the same pair as in `fold`.
 ///
 /// Refused only with `NoMemory` (1). A refused call may have observed some of the places.
 pub fn observe_into(

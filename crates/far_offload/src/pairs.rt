@@ -10,7 +10,7 @@ use far_groups::Pair;
 use far_types::{Refusal, Spec};
 use std::alloc::Global;
 
-/// Returns the pairs of the live places, in order.
+/// Returns the pairs that the live places contribute to the aggregate, in order.
 pub(crate) fn keyed_pairs(
     alloc: Global,
     spec: &Spec,
@@ -19,7 +19,8 @@ pub(crate) fn keyed_pairs(
     alive: &[bool],
 ) -> Result<Vec<Pair>, Refusal>
     requires { spec.now.key ≡ Some column }
-    ensures pairs { IfOk result (λ pairs. pairs.items ≡ pairs_over spec.now columns.now alive.now) }
+    ensures pairs { IfOk result
+        (λ pairs. pairs.items ≡ pairs_over spec.now columns.now alive.now) }
     ensures fits { IfOk result (λ pairs. PairsFit pairs.items) }
     ensures memory { IfErr result (λ e. e ≡ Refusal.NoMemory) }
 {

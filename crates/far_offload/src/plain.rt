@@ -12,7 +12,7 @@ use far_extrema::MinMax;
 use far_groups::{CountSum, NO_VALUES};
 use far_types::Spec;
 
-/// Returns a count and a sum, with one more value.
+/// Adds a value to a count and a sum.
 #[inline(always)]
 fn added(count_sum: CountSum, value: i64) -> CountSum
     requires few { count_sum.0 < 2 ^ 26 }
@@ -44,7 +44,7 @@ pub(crate) fn count_sum_of(spec: &Spec, columns: &[Column<'_>], alive: &[bool]) 
     count_sum
 }
 
-/// Returns the least and the greatest value, with one more value.
+/// Widens a least and a greatest value to include one more value.
 #[inline(always)]
 pub(crate) fn widened(min_max: Option<MinMax>, value: i64) -> MinMax
     requires { MinMaxFits min_max }
@@ -57,8 +57,7 @@ pub(crate) fn widened(min_max: Option<MinMax>, value: i64) -> MinMax
     }
 }
 
-/// Returns the least and the greatest of the values of the places that are alive and pass the filter, if
-/// there is a value.
+/// Returns the least and the greatest value of the places that are alive and pass the filter, if there is a value.
 pub(crate) fn min_max_of(spec: &Spec, columns: &[Column<'_>], alive: &[bool]) -> Option<MinMax>
     ensures min_max { result ≡ min_max_in (values_over spec.now columns.now alive.now) }
     ensures fits { MinMaxFits result }

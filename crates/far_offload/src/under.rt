@@ -27,7 +27,7 @@ fn key_column<'a, 'b>(columns: &'a [Column<'b>], key: Option<u32>) -> Option<&'a
     find(columns, key?)
 }
 
-/// Returns whether a column's key at a place is this one.
+/// Returns whether a column has this key at a place.
 #[inline(always)]
 fn gives(column: Option<&Column<'_>>, place: usize, key: &Key) -> bool
     ensures { IsTrue result
@@ -49,7 +49,8 @@ fn stands_under(
     key: &Option<Key>,
 ) -> bool
     requires { option_copied keys ≡ option_and_then (column_of columns.now) spec.now.key }
-    ensures { IsTrue result ↔ (key_under spec.now.key (cells_at columns.now place) ≡ Some key.now) }
+    ensures { IsTrue result
+        ↔ (key_under spec.now.key (cells_at columns.now place) ≡ Some key.now) }
 {
     match (spec.key, key) {
         (None, None) => true,
@@ -58,14 +59,14 @@ fn stands_under(
     }
 }
 
-/// Numbers of a key column, in whatever form they are available.
+/// The numbers of a key column, in any form that is read by place.
 trait NumberKeys {
     ghost use Rattle.std.specs.Prelude.{ℤ, List, Option};
 
     /// The numbers, in the order of the places.
     ghost numbers: { Self → List (Option ℤ) };
 
-    /// Returns whether the number at a place is this one.
+    /// Returns whether this number is at a place.
     fn is_at(&self, place: usize, number: &i64) -> bool
         ensures { IsTrue result
             ↔ (slice_index_or (map int_cell (numbers self.now)) place Missing
@@ -96,8 +97,8 @@ impl<'a> NumberKeys for &'a [Option<i64>] {
     }
 }
 
-/// Returns what `min_max_under` returns, for a key that is a number and a key column that has numbers. The form of the column
-/// is tested once for all places.
+/// Computes `min_max_under` for a key that is a number and a key column of numbers. The form of the column is tested once for
+/// all places.
 fn min_max_under_number<N: NumberKeys>(
     spec: &Spec,
     columns: &[Column<'_>],
@@ -123,7 +124,7 @@ fn min_max_under_number<N: NumberKeys>(
     min_max
 }
 
-/// Returns what `min_max_under` returns, for any key.
+/// Computes `min_max_under` for any key.
 fn min_max_under_key(
     spec: &Spec,
     columns: &[Column<'_>],
@@ -154,7 +155,7 @@ fn min_max_under_key(
     min_max
 }
 
-/// Returns the list of the values, if they are a list and the aggregate has no filter.
+/// Returns the values as a list, if they are stored as one and the aggregate has no filter.
 fn untested_numbers<'a>(spec: &Spec, columns: &[Column<'a>]) -> Option<&'a [Option<i64>]>
     ensures values { IfSome result (λ numbers. AreValues columns.now spec.now.value numbers.now) }
     ensures untested { IfSome result (λ numbers. spec.now.filter ≡ []) }
@@ -178,7 +179,7 @@ fn number_at(numbers: &[Option<i64>], place: usize) -> Option<i64>
     }
 }
 
-/// Returns the value at a place, without a filter.
+/// Returns the value at a place, if the place is alive and has one. The aggregate has no filter.
 #[inline(always)]
 fn untested_value(
     spec: &Spec,
@@ -199,8 +200,8 @@ fn untested_value(
     }
 }
 
-/// Returns what `min_max_under` returns without a key, if the values are a list and the aggregate has no filter. The form of
-/// the column is tested once for all places.
+/// Computes `min_max_under` without a key, for values in a list and an aggregate without a filter. The form of the column is
+/// tested once for all places.
 fn min_max_untested(
     spec: &Spec,
     columns: &[Column<'_>],
@@ -210,7 +211,8 @@ fn min_max_untested(
     requires values { AreValues columns.now spec.now.value numbers.now }
     requires untested { spec.now.filter ≡ [] }
     requires plain { spec.now.key ≡ None }
-    ensures min_max { result ≡ fin.get (extrema (pairs_over spec.now columns.now alive.now)) None }
+    ensures min_max { result
+        ≡ fin.get (extrema (pairs_over spec.now columns.now alive.now)) None }
     ensures fits { MinMaxFits result }
 {
     let mut min_max = None;
@@ -222,8 +224,8 @@ fn min_max_untested(
     min_max
 }
 
-/// Returns the least and the greatest value of the live places with a key, if there is one. The extrema of `fold` have the same
-/// under this key. Allocates nothing.
+/// Returns the least and the greatest value of the live places with this key, or `None` if there is no value. The extrema of
+/// `fold` have the same pair under this key. Allocates nothing.
 pub fn min_max_under(
     spec: &Spec,
     columns: &[Column<'_>],
@@ -236,7 +238,7 @@ pub fn min_max_under(
 {
     if let (Some(column), Some(Key::Int(number))) = (key_column(columns, spec.key), key) {
         if let Some(numbers) = column.numbers() {
-            // There is a number for each place, so no turn of the loop tests where the numbers end.
+            // There is a number for each place, so the loop need not test for the end of the list.
             if numbers.len() >= alive.len() {
                 return min_max_under_number(spec, columns, alive, &numbers, number);
             }

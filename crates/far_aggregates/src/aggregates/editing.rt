@@ -26,12 +26,12 @@ use far_types::{CellRef, LendCells, Refusal};
 use std::alloc::Global;
 
 impl Aggregates {
-    /// Applies the deltas of a row that is to be appended at a place, the first that is not there yet. Once the rows have it,
-    /// `end` ends the edit. If they refuse it, `undo` undoes the deltas.
+    /// Applies the deltas of a row that the table is about to append at a place, the first past the end. Once the row is stored,
+    /// `end` ends the edit. If the table refuses the row, `undo` undoes the deltas.
     ///
-    /// Refused with `NoMemory` (1) alone. A refusal changes no answer.
+    /// Refused only with `NoMemory` (1). A refusal changes no answer.
     ///
-    /// It is inlined, as `end` is, so that an insert moves no lists through memory.
+    /// The method is inlined, like `end`, so that an insert moves no lists through memory.
     #[inline(always)]
     pub fn apply_deltas<R: LendCells>(
         &mut self,
@@ -53,7 +53,7 @@ impl Aggregates {
         ensures registered { registered_of self.new ≡ registered_of self.old }
         ensures memory { IfErr result (λ e. e ≡ Refusal.NoMemory) }
     {
-        // A table without aggregates does not look at what its rows give.
+        // A table without aggregates need not look at its rows.
         if self.registry.is_empty() {
             return Ok(Pending::nothing(alloc));
         }
@@ -78,10 +78,11 @@ impl Aggregates {
         })
     }
 
-    /// Applies the deltas of a place's row with another cell in a column, which the row has. Also looks up the pairs of the row
-    /// as it is. Once the rows have the cell, `retract` retracts those pairs. If they refuse it, `undo` undoes the deltas.
+    /// Applies the deltas of a place's row as it will be with another cell in one of its columns. Also notes the pairs of the row
+    /// as it is. Once the cell is stored, `retract` retracts those pairs. If the table refuses the cell, `undo` undoes the
+    /// deltas.
     ///
-    /// Refused with `NoMemory` (1) alone. A refusal changes no answer.
+    /// Refused only with `NoMemory` (1). A refusal changes no answer.
     #[inline(always)]
     pub fn change_in<R: LendCells>(
         &mut self,
@@ -121,8 +122,8 @@ impl Aggregates {
         })
     }
 
-    /// Looks up the pairs of a place's row that is to be removed. Once the place is dead, `retract` retracts them. If it stays
-    /// alive, there is nothing to undo. Refused with `NoMemory` (1) alone. All answers are as before.
+    /// Notes the pairs of a place's row that the table is about to remove. Once the place is dead, `retract` retracts the pairs.
+    /// If the place stays alive, there is nothing to undo. Refused only with `NoMemory` (1). The call changes no answer.
     #[inline(always)]
     pub fn leave<R: LendCells>(
         &mut self,
@@ -163,7 +164,7 @@ impl Aggregates {
         })
     }
 
-    /// Undoes the deltas of an edit that the rows refused. Allocates nothing.
+    /// Undoes the deltas of an edit that the table refused. Allocates nothing.
     pub fn undo(&mut self, pending: Pending)
         requires { MayUndoAll self.old pending }
         ensures undo { self.new ≡ after_undo_all self.old pending }
@@ -177,8 +178,8 @@ impl Aggregates {
         self.end(pending);
     }
 
-    /// Ends an edit that the rows have, if there is nothing to retract. Its lists, and the strings of its text keys, are kept
-    /// for the next. Allocates nothing.
+    /// Ends an edit that has nothing to retract. Keeps its lists, and the strings of its text keys, for the next edit. Allocates
+    /// nothing.
     #[inline(always)]
     pub fn end(&mut self, pending: Pending)
         ensures same { self.new ≡ self.old }
@@ -186,8 +187,8 @@ impl Aggregates {
         self.spare_lists.keep(pending, &mut self.spare_keys);
     }
 
-    /// Retracts the pairs that the row gave before an edit, which the rows have. The row group lends its columns as they are
-    /// now. Its rows are read only if the least or the greatest value of a key is retracted. Allocates nothing.
+    /// Retracts the pairs that the row contributed before an edit, once the rows are changed. The row group lends its changed
+    /// columns. Its rows are read only if the least or the greatest value of a key is retracted. Allocates nothing.
     #[inline(always)]
     pub fn retract<G: LendGroup>(&mut self, group: &G, pending: Pending)
         requires may { MayRetractAll (G.places group.now) self.old pending }
@@ -204,7 +205,7 @@ impl Aggregates {
         self.end(pending);
     }
 
-    /// Returns whether `retract` may have to read the rows of the row group: a pair is retracted from extrema. Allocates
+    /// Returns whether `retract` may have to read the rows of the row group, because it retracts a pair from extrema. Allocates
     /// nothing.
     pub fn needs_rows(&self, pending: &Pending) -> bool
         ensures { result ≡ false → EachIsPlain self.now pending.now.to_retract.items }
@@ -212,7 +213,7 @@ impl Aggregates {
         needs_rows(self.registry.as_slice(), pending.to_retract.as_slice())
     }
 
-    /// Does what `retract` does, if `needs_rows` returned that no rows are needed: none are lent. Allocates nothing.
+    /// Retracts the pairs like `retract`, but without a row group, if `needs_rows` returned false. Allocates nothing.
     #[inline(always)]
     pub fn retract_totals(&mut self, pending: Pending)
         requires may { (here : List Place) × MayRetractAll here self.old pending }

@@ -1,4 +1,4 @@
-// Edits that change what stands in a column, but no key of an aggregate.
+// Edits that replace a number in a column, and change no key of an aggregate.
 ghost use Rattle.std.specs.Prelude.{◌≡◌, ◌<◌, ◌≤◌, ◌^◌, ℕ, List, Some, false, true, IfOk, IfErr};
 ghost use Rattle.far_types.specs.declared.cell.Cell.{Cell};
 ghost use Rattle.far_types.specs.declared.cell.Cell.TheVariants as cell;
@@ -18,30 +18,31 @@ use far_types::{CellRef, LendCells, Refusal};
 use std::alloc::Global;
 
 impl Aggregates {
-    /// Returns whether some aggregate looks at a column: for a test, its key or its value. If none does, a cell may be put in it
-    /// without a word to the aggregates. Allocates nothing.
+    /// Returns whether some aggregate uses a column, for a test, its key or its value. If none does, the table may change cells
+    /// of the column without telling the aggregates. Allocates nothing.
     pub fn needs(&self, column: u32) -> bool
         ensures { result ≡ false
-            → (size : ℕ) → (places : List Place) → (place : ℕ) → (cell : Cell) → 0 < size
+            → (size : ℕ) → (places : List Place) → (place : ℕ) → (cell : Cell)
+            → 0 < size
             → Keeps size places self.now
             → Keeps size (places_after (edit.Set place column cell) places) self.now }
     {
         one_looks_at(self.registry.as_slice(), column)
     }
 
-    /// Returns whether each aggregate that looks at a column is of totals and looks at it for their values alone. Then a number
-    /// that replaces a number there leaves each pair under its key, and `note_values` and `replace` do. Allocates nothing.
+    /// Returns whether each aggregate that uses a column computes totals and uses the column only for its values. Then a number
+    /// that replaces a number leaves each pair under its key, and `note_values` and `replace` suffice. Allocates nothing.
     pub fn keeps_keys(&self, column: u32) -> bool
         ensures { result ≡ keeps_keys column self.now }
     {
         keep_keys(self.registry.as_slice(), column)
     }
 
-    /// Looks up the pairs that a place's row gives to the aggregates whose values stand in a column, in which the row has the
-    /// number `from`. Once the rows have another number there, `replace` puts it in the place of these values. If they keep
-    /// `from`, `end` ends the edit: nothing is to be undone.
+    /// Notes the pairs that a place's row contributes to the aggregates whose values are in a column, where the row has the
+    /// number `from`. Once another number is stored there, `replace` replaces these values by it. If the row keeps `from`, `end`
+    /// ends the edit: there is nothing to undo.
     ///
-    /// Refused with `NoMemory` (1) alone.
+    /// Refused only with `NoMemory` (1).
     #[inline(always)]
     pub fn note_values<R: LendCells>(
         &mut self,
@@ -65,7 +66,7 @@ impl Aggregates {
     {
         let group = self.group_of(place, size);
         let list = self.spare_lists.take_pairs(alloc);
-        // The number was read once, and is the value of each pair.
+        // The caller has read the number, which is the value of each pair, so it is not read again.
         let cell = CellRef::Int(from);
         let known = Changed { row, column, cell };
         let to_retract = value_pairs(
@@ -86,8 +87,7 @@ impl Aggregates {
         })
     }
 
-    /// Replaces the values of the noted pairs by a number, which the rows have. It searches each key once, and allocates
-    /// nothing.
+    /// Replaces the values of the noted pairs by a number, once it is stored. Searches for each key once. Allocates nothing.
     #[inline(always)]
     pub fn replace(&mut self, pending: Pending, to: i64)
         requires { MayReplaceAll self.old pending }
