@@ -48,7 +48,7 @@ impl<S: FarTickets> Rows<S> {
     /// Refused with the first of these that applies:
     ///
     /// - `StaleJob` (20): the job's assumptions no longer hold (`IsFetchAccepted`). The job was begun on another table's objects,
-    ///   or its object is local or was evicted again since.
+    ///   or its object is local, was evicted again since, or has another ticket since a renewal.
     /// - `RegionFull` (17): no segment has enough space.
     /// - `NoMemory` (1): an allocation fails.
     ///
