@@ -88,7 +88,8 @@ impl<S: FarTickets> Frame<S> {
         ensures here { IfOk result (IsJobAt S.is_of (S.store_id store.now)) }
         ensures refused { IfErr result (MayRefuse (evac_refusal self.now.rows column group) true) }
     {
-        let evac = self.table.begin_evac(store, column, group)?;
+        let rows = self.table.rows().held();
+        let evac = rows.begin_evac(self.alloc, store, column as usize, group)?;
         Ok(Job {
             name: Some(Name { column, group }),
             work: JobPhase::Evac(evac),
@@ -102,7 +103,7 @@ impl<S: FarTickets> Frame<S> {
         ensures free { IfSome result
             (λ name. evac_refusal self.now.rows name.column name.group ≡ None) }
     {
-        self.table.coldest()
+        self.table.rows().held().coldest()
     }
 
     /// Begins to evict the coldest object without a pin, of the kind with less space. `None` exactly if neither kind has
@@ -115,10 +116,11 @@ impl<S: FarTickets> Frame<S> {
         ensures here { IfOk result (λ job. IfSome job (IsJobAt S.is_of (S.store_id store.now))) }
         ensures memory { IfErr result (λ e. e ≡ Refusal.NoMemory) }
     {
-        let Some(name) = self.table.coldest() else {
+        let rows = self.table.rows().held();
+        let Some(name) = rows.coldest() else {
             return Ok(None);
         };
-        let evac = self.table.begin_evac(store, name.column, name.group)?;
+        let evac = rows.begin_evac(self.alloc, store, name.column as usize, name.group)?;
         Ok(Some(Job {
             name: Some(name),
             work: JobPhase::Evac(evac),
@@ -138,7 +140,8 @@ impl<S: FarTickets> Frame<S> {
         ensures here { IfOk result (IsJobAt S.is_of (S.store_id store.now)) }
         ensures refused { refusal_in result ≡ fetch_refusal self.now.rows column group }
     {
-        let fetch = self.table.begin_fetch(store, column, group)?;
+        let rows = self.table.rows().held();
+        let fetch = rows.begin_fetch(store, column as usize, group)?;
         Ok(Job {
             name: Some(Name { column, group }),
             work: JobPhase::Fetch(fetch),

@@ -33,7 +33,8 @@ pub fn migrate<S: FarRead, N: FarStore>(
     ensures met { IfErr result (λ e. meter.new ≡ meter.old + faults_of e.0) }
     ensures none { IfOk result (λ new. meter.new ≡ meter.old) }
 {
-    match frame.table.renewal(store, new_store, meter) {
+    let rows = frame.table.rows().held();
+    match rows.renewal(frame.alloc, store, new_store, meter) {
         Ok(renewal) => Ok(Frame {
             alloc: frame.alloc,
             table: frame.table.renew(renewal),

@@ -1,62 +1,17 @@
 // Evicts, fetches, pins and compacts the objects of rows. No place changes.
-ghost use Rattle.std.specs.Prelude.{◌≡◌, ◌≢◌, ◌↔◌, ◌⊎◌, ◌<◌, ◌≤◌, ℕ, List, true, None, Some, option_map, OnOk, OnErr, IfOk, IfErr, IfSome, IsErrOf};
-ghost use Rattle.far_types.specs.MayRefuse.{MayRefuse};
-ghost use Rattle.far_scopes.specs.Coldest.{coldest as coldest_in};
+ghost use Rattle.std.specs.Prelude.{◌≡◌, ◌≢◌, ◌↔◌, ◌⊎◌, ◌<◌, ◌≤◌, ℕ, List, OnOk, OnErr, IfErr, IsErrOf};
 ghost use Rattle.far_scopes.specs.Refusing.{refusal_in};
-ghost use Rattle.far_evacuator.specs.Jobs.{IsFormOf};
-ghost use Rattle.far_rows.specs.Moving.{object_at, object_refusal, pin_refusal, unpin_refusal};
-ghost use Rattle.far_rows.specs.Coldest.{coldest, pins_at};
-ghost use Rattle.far_rows.specs.Jobs.{of_either, AreAt, IsEvacBegun, IsFetchBegun, IsEvacAccepted, IsFetchAccepted, evac_refusal, fetch_refusal, pins_by, HasNoSpace};
+ghost use Rattle.far_rows.specs.Moving.{object_refusal, pin_refusal, unpin_refusal};
+ghost use Rattle.far_rows.specs.Jobs.{of_either, AreAt, IsEvacAccepted, IsFetchAccepted, pins_by, HasNoSpace};
 ghost use Rattle.far_table.specs.Moving.{AreMoved, IsPinned, IsUnpinned, IsTouched, IsCommitted, IsInstalled, IsCompactedOf, segments_of, HasNoOther};
 
 use super::TableRows;
-use far_rows::{RowsCarried, RowsEvac, RowsFetch, RowsFetched};
+use far_rows::{RowsCarried, RowsFetched};
 use far_store::FarTickets;
-use far_types::{Kind, Name, Refusal};
+use far_types::{Kind, Refusal};
 use std::alloc::Global;
 
 impl<S: FarTickets> TableRows<S> {
-    /// Begins to evict the object of a row group of a column. Changes nothing.
-    ///
-    /// Refused with the first of these that applies:
-    ///
-    /// - `NoColumn` (4): there is no such column.
-    /// - `OutOfRange` (14): the row group has no place.
-    /// - `Absent` (16): the object is away.
-    /// - `NoMemory` (1): an allocation fails.
-    pub fn begin_evac(
-        &self,
-        alloc: Global,
-        store: &S,
-        column: u32,
-        group: u32,
-    ) -> Result<RowsEvac<S>, Refusal>
-        requires here { AreAt S.is_of (S.store_id store.now) self.now.held }
-        ensures begun { IfOk result (IsEvacBegun self.now.held column group) }
-        ensures here { IfOk result
-            (λ job. IsFormOf S.is_of (S.store_id store.now) (of_either job).form) }
-        ensures free { OnOk result (evac_refusal self.now.held column group ≡ None) }
-        ensures refused { IfErr result (MayRefuse (evac_refusal self.now.held column group) true) }
-    {
-        self.rows.begin_evac(alloc, store, column as usize, group)
-    }
-
-    /// Begins to fetch the object of a row group of a column. Changes and allocates nothing.
-    ///
-    /// Refused with the first of these that applies:
-    ///
-    /// - `NoColumn` (4): there is no such column.
-    /// - `OutOfRange` (14): the row group has no place.
-    /// - `StaleJob` (20): the object is local.
-    pub fn begin_fetch(&self, store: &S, column: u32, group: u32) -> Result<RowsFetch<S>, Refusal>
-        requires here { AreAt S.is_of (S.store_id store.now) self.now.held }
-        ensures begun { IfOk result (IsFetchBegun self.now.held column group) }
-        ensures here { IfOk result (λ job. S.is_of (of_either job).ticket (S.store_id store.now)) }
-        ensures refused { refusal_in result ≡ fetch_refusal self.now.held column group }
-    {
-        self.rows.begin_fetch(store, column as usize, group)
-    }
-
     /// Ends a carried eviction: its object is away. No place changes. Allocates nothing.
     ///
     /// Refused with the first of these that applies:
@@ -169,26 +124,6 @@ impl<S: FarTickets> TableRows<S> {
         ensures err { OnErr result (self.new ≡ self.old) }
     {
         self.rows.touch(column as usize, group)
-    }
-
-    /// Returns the eviction victim: the coldest object of the kind whose local memory has less space in proportion to its capacity, of
-    /// numbers if both have as much; or the coldest of the other kind if this one has none. `None` exactly if neither kind has one.
-    /// Allocates nothing.
-    ///
-    /// The victim is local and has no pin.
-    pub fn coldest(&self) -> Option<Name>
-        ensures coldest { result ≡ coldest self.now.held }
-        ensures local { IfSome result
-            (λ name. evac_refusal self.now.held name.column name.group ≡ None) }
-        ensures unpinned { IfSome result
-            (λ name. option_map (pins_at self.now.held)
-            (object_at self.now.held name.column name.group)
-            ≡ Some 0) }
-        ensures none { (result ≡ None)
-            ↔ ((coldest_in self.now.held.number_objects ≡ None)
-            × (coldest_in self.now.held.text_objects ≡ None)) }
-    {
-        self.rows.coldest()
     }
 
     /// Compacts a segment of the objects of a kind: moves its parts into the lowest other segment without parts, without gaps, those of
