@@ -3,7 +3,7 @@
 import subprocess
 import sys
 
-# A pipe takes this many bytes at least, so a batch of fewer is written though the program waits for us to read.
+# A pipe usually takes 65,536 bytes, so a batch of fewer is written though the program waits for us to read.
 BATCH = 60_000
 
 
