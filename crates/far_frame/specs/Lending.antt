@@ -56,7 +56,7 @@ int_piece copy = record { cells = map int_cell copy.values.items; flags = copy.f
 abbrev pub text_piece : TextPiece → Piece
 text_piece copy = record { cells = map text_cell copy.values.items; flags = copy.flags.items }
 
--- the pieces in a reply
+-- the pieces in a reply, none if it has no part of a column
 abbrev pub pieces_in : Reply → List Piece
 pieces_in (reply.Ints copies) = map int_piece copies.items
 pieces_in (reply.Texts copies) = map text_piece copies.items

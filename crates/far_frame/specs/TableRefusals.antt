@@ -19,7 +19,7 @@ use Rattle.far_frame.specs.declared.step.Step.{Step}
 use Rattle.far_frame.specs.declared.step.Step.TheVariants as step
 
 -- the plain table and, by column and row group, whether the chunk is away and how many pins it has.
--- A chunk without places is not away and has no pin
+-- `table_of` says of a chunk without places that it is not away and has no pin
 pub record TableState : Type 0 where
   pub table : Table
   pub is_away : ℕ → ℕ → Bool
@@ -29,7 +29,7 @@ pub record TableState : Type 0 where
 abbrev pub no_column : Table → ℕ → Bool × Refusal
 no_column table c = (not (nat_lt c (length table.schema)), refusal.NoColumn)
 
--- there is no such row group
+-- the row group has no place
 abbrev pub no_group : Table → ℕ → Bool × Refusal
 no_group table g = (not (nat_lt g (group_count table)), refusal.OutOfRange)
 
@@ -43,7 +43,8 @@ any_away s needed g = map
     (λ (at : ℕ × Kind). (needed at.0 && s.is_away at.0 g, refusal.Absent at.0 g))
     (enumerate_from 0 s.table.schema)
 
--- the row group that an edit writes
+-- the row group of an edit's place. An insert is made at the next place, perhaps the first of a new
+-- row group
 abbrev pub edited_group : Table → Edit → ℕ
 edited_group table (edit.Insert row) = length table.places / table.limits.group
 edited_group table (edit.Set p c cell) = p / table.limits.group
@@ -65,7 +66,8 @@ scan_due table None g columns = Some refusal.NoAggregate
 scan_due table (Some aggregate) g columns = first_of (no_group table g
     ∷ (not (is_pending aggregate.pending g), refusal.StaleJob) ∷ columns aggregate.spec)
 
--- the refusal of a step that follows from the table, its chunks and their pins, if there is one
+-- the refusal that the step's arguments and this state determine, if there is one: the first test
+-- that holds. A step that names a job or a segment has none here (`others`)
 abbrev pub due : TableState → Step → Option Refusal
 due s (step.Edit e) = first_of (edit_tests s e
     ++ (s.table.edits == s.table.limits.edits, refusal.EditsUsedUp) ∷ [])
@@ -88,8 +90,8 @@ due s (step.BeginOffload a g) = scan_due s.table (aggregate_at s.table a) g (λ 
 due s (step.Prefetch c) = first_of (no_column s.table c ∷ [])
 due s _ = None
 
--- the other refusals that a step may have: by its job, for lack of space, by the far store, or for
--- lack of memory
+-- the refusals that a step may have if none is due, but for an edit: by its job, for lack of space,
+-- by the far store, or for lack of memory. A step with none here has to be accepted then
 abbrev pub others : Step → List Refusal
 others (step.Unwatch a) = []
 others (step.Pin c g) = []
@@ -106,8 +108,9 @@ others (step.Compact kind segment) =
     refusal.OutOfRange ∷ refusal.RegionFull ∷ refusal.NoMemory ∷ []
 others _ = refusal.NoMemory ∷ []
 
--- why a step may be refused: for the refusal that is due or, if none is, for one of the others. An
--- edit that finds no space is refused before it is known whether the edits are used up
+-- why a step may be refused: the refusal that is due or, if none is, one of the others. An edit: the
+-- one that is due; or `RegionFull` if no test before the one for space holds, even if the edits are
+-- used up; or `NoMemory` if none is due
 abbrev pub IsReason : TableState → Step → Refusal → Type 0
 IsReason s (step.Edit e) given = (due s (step.Edit e) ≡ Some given)
     ⊎ (((given ≡ refusal.RegionFull) × (first_of (edit_tests s e) ≡ None))

@@ -13,7 +13,8 @@ use Rattle.far_frame.specs.Effects.{Replies, edit_reply}
 use Rattle.far_frame.specs.Lending.{flags_of, pieces_in}
 use Rattle.far_frame.specs.TableRefusals.{TableState, IsReason, due}
 
--- the pieces in the reply, joined, are this part of the column, with the flags of its places
+-- the pieces in the reply, joined, are this part of the column, with the flags of its places. A
+-- reply without pieces is the empty part
 abbrev pub IsPartOf : Table → ℕ → ℕ → ℕ → Reply → Type 0
 IsPartOf table c from to given =
     let pieces = pieces_in given in
@@ -24,7 +25,9 @@ IsPartOf table c from to given =
 abbrev pub changed : {A : Type 0} → ℕ → ℕ → A → (ℕ → ℕ → A) → ℕ → ℕ → A
 changed c g x old column group = cond (column == c && group == g) x (old column group)
 
--- an accepted step: its reply, and its effect on the table
+-- an accepted step: its reply, and its effect on the table. A commit evicts some local chunk without
+-- a pin, an install brings back some chunk that is away, a merge scans some pending row group; which,
+-- `IsRun` says. The last line is of the three steps that begin a job
 abbrev pub IsTableServed : TableState → Step → Reply → TableState → Type 0
 IsTableServed old (step.Edit e) given new = (given ≡ edit_reply old.table e)
     × (new ≡ record old { table = after_edit e old.table })

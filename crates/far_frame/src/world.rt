@@ -168,7 +168,7 @@ impl<S: FarStore> World<S> {
     }
 
     /// Serves one step. It always has a reply. If that is a refusal, no row, column, aggregate or object changed. Every ticket
-    /// is then of the world's store, also one that a carry got.
+    /// is of the world's store, also one that a carry got.
     pub fn serve(&mut self, step: Step) -> Reply
         requires few { self.old.faults < 2 ^ 63 }
         ensures step { IsStep S.content S.number_of self.old step result self.new }

@@ -18,7 +18,7 @@ use Rattle.far_table.specs.State.{LiveState}
 abbrev pub aggregate_at : Table → ℕ → Option Registered
 aggregate_at table a = flattened (slice_get table.aggregates a)
 
--- the lowest number without an aggregate
+-- the lowest number without an aggregate; none if all 32 are taken
 abbrev pub lowest_free : Table → Option ℕ
 lowest_free table = free_from 0 table.aggregates
 
@@ -26,7 +26,8 @@ lowest_free table = free_from 0 table.aggregates
 abbrev pub group_count : Table → ℕ
 group_count table = groups table.limits.group (length table.places)
 
--- why an aggregate is not registered (`watch`)
+-- why an aggregate is not registered (`watch`): its specification; then that 32 are registered, or
+-- 2^32 were in all
 abbrev pub watch_refusal : Table → Spec → Option Refusal
 watch_refusal table spec = option_or (spec_refusal table.schema spec) (first_of (
     (is_none (lowest_free table), refusal.TooManyAggregates)
@@ -73,7 +74,7 @@ abbrev pub after_register_at : ℕ → Spec → Table → Table
 after_register_at a spec table = record (with_aggregate a (Some (registered_now spec table)) table)
     { registrations = table.registrations + 1 }
 
--- the table after row group g is scanned into aggregate a: one row group less is pending
+-- the table after row group g is scanned into aggregate a: it is no longer pending there
 abbrev pub after_scan_at : ℕ → ℕ → Table → Table
 after_scan_at a g table = with_aggregate a (entry_after_scan g (aggregate_at table a)) table
 
