@@ -9,6 +9,7 @@ use Rattle.far_script.specs.declared.fault.ShellFault.TheVariants as fault
 use Rattle.far_script.specs.declared.input.Input.{Input}
 use Rattle.far_script.specs.Faults.{IfInput, IfHalted, IsCut}
 use Rattle.far_script.specs.Flow.{Counts, Gives, IsFrontOf, IsShort, IsAtEnd, IsUnseen, Leaves, Reads, StartsWith, Stops, unread}
+use Rattle.far_script.specs.Reading.{IsCutOff}
 use Rattle.far_script.proofs.FlowLaws.{few-bytes, not-before, reads-then, spent-nothing, spent-stays}
 
 -- a fault is passed on
@@ -37,14 +38,6 @@ if-input fault.Input P Q f h = f h
 if-input fault.Output P Q f h = tt
 if-input fault.Memory P Q f h = tt
 if-input fault.Turns P Q f h = tt
-
--- two conditions for the fault `Input` may be joined
-pub if-input-both : (why : ShellFault) (P Q S : Type 0) → (P → Q → S) → IfInput why P → IfInput why Q → IfInput why S
-if-input-both fault.BadStart P Q S f p q = tt
-if-input-both fault.Input P Q S f p q = f p q
-if-input-both fault.Output P Q S f p q = tt
-if-input-both fault.Memory P Q S f p q = tt
-if-input-both fault.Turns P Q S f p q = tt
 
 pub not-input : (why : ShellFault) (P : Type 0) → (why ≡ fault.Input → ⊥) → IfInput why P
 not-input fault.BadStart P other = tt
@@ -213,6 +206,10 @@ module _ {R : Type 0} (read : Ghosts R) where
   stops-still old mid new P p same stays left h = stops-then old mid new [] P P p (λ bytes rest q. q) (stops-here mid new P same stays left h)
 
 module _ {R : Type 0} (read : Ghosts R) (may_fail : Type 0) where
+  -- a read was cut off
+  pub unseen : (old new : Input R read) → IsCutOff read may_fail old.source new.source → IsUnseen read may_fail old new
+  unseen old new c = (c.before, c.going, (λ left. omega (arith, left, c.reads)), c.cause)
+
   -- the end was not seen, also counted from an earlier read
   pub unseen-later : (old mid new : Input R read) (bytes : List ℕ) → Reads read old bytes mid → mid.source.reads ≤ old.source.reads → IsUnseen read may_fail mid new → IsUnseen read may_fail old new
   unseen-later old mid new bytes p low u = (

@@ -9,4 +9,5 @@ pub mod Printing
 pub mod Faults
 pub mod Lines
 pub mod Flow
+pub mod Reading
 pub mod PlainLines

@@ -1,8 +1,9 @@
 // Reads the bytes of a script.
-ghost use Rattle.std.specs.Prelude.{◌≡◌, ◌≢◌, ◌==◌, ◌≤◌, ◌<◌, ◌+◌, ◌++◌, [], false, true, slice_index, slice_range, take, length, IfNone, IfErr, IfOk, IfSome, OnOk};
-ghost use Rattle.std.specs.List.{list_any};
+ghost use Rattle.std.specs.Prelude.{◌≡◌, ◌⊎◌, ◌≤◌, ◌<◌, [], slice_index, take, length, IfNone, IfErr, IfOk, IfSome};
 ghost use Rattle.far_script.specs.Faults.{IfInput, IfHalted};
-ghost use Rattle.far_script.specs.Flow.{IsUnseen, Leaves, Reads, unread};
+ghost use Rattle.far_script.specs.Flow.{Reads, unread};
+ghost use Rattle.far_script.specs.Lines.{IsOneLine};
+ghost use Rattle.far_script.specs.Reading.{EndsAt, ReadsMore, ReadsNone};
 
 use super::Input;
 use crate::bounded::Bounded;
@@ -67,26 +68,13 @@ impl<R: Source + Drop> Input<R> {
     /// before. Ends with `Memory`, without a read, if there is no memory for the bytes.
     pub fn read_more(&mut self, gathered: &Page) -> Result<bool, ShellFault>
         requires flushed { gathered.now ≡ [] }
-        ensures read { OnOk result (Reads R.Read self.old [] self.new) }
-        ensures fault { IfErr result (λ fault. fault ≢ ShellFault.BadStart) }
-        ensures turns { IfErr result (λ fault. fault ≢ ShellFault.Turns) }
-        ensures unwritten { IfErr result (λ fault. fault ≢ ShellFault.Output) }
-        ensures stopped { IfErr result
-            (λ fault. IfInput fault
-            ((self.new.source.bytes ≡ self.old.source.bytes)
-            × (unread R.Read self.new ≡ unread R.Read self.old)
-            × Leaves (R.remaining self.old.source.reader) (R.remaining self.new.source.reader)
-            [] self.new.source.bytes)) }
+        ensures read { IfOk result (λ more. ReadsMore R.Read self.old more self.new) }
+        ensures cut { IfErr result
+            (λ fault. IfInput fault (ReadsNone R.Read R.may_fail self.old self.new)) }
         ensures kept { IfErr result (λ fault. IfHalted fault (Reads R.Read self.old [] self.new)) }
-        ensures unseen { IfErr result
-            (λ fault. IfInput fault (IsUnseen R.Read R.may_fail self.old self.new)) }
         ensures asked { self.new.source.reads ≤ self.old.source.reads }
-        ensures going { IfOk result (λ more. more ≡ true → self.new.source.ended ≡ false) }
-        ensures taken { IfOk result
-            (λ more. more ≡ true → self.new.source.reads < self.old.source.reads) }
-        ensures ended { IfOk result
-            (λ more. more ≡ false
-            → (self.new.source.ended ≡ true) × (unread R.Read self.new ≡ unread R.Read self.old)) }
+        ensures fault { IfErr result
+            (λ fault. (fault ≡ ShellFault.Input) ⊎ (fault ≡ ShellFault.Memory)) }
     {
         self.forget();
         if self.chunk.is_empty() {
@@ -116,12 +104,8 @@ impl<R: Source + Drop> Input<R> {
 impl<R: Read + Drop> Input<R> {
     /// Returns the index of the first line feed at or after `start`, if one is held.
     pub fn line_end(&mut self) -> Option<usize>
-        ensures end { IfSome result
-            (λ end. (self.new.start ≤ end)
-            × (end < length self.new.held)
-            × (slice_index self.new.held end ≡ 10)
-            × (list_any (λ c. c == 10) (slice_range self.new.held self.new.start end) ≡ false)) }
-        ensures none { IfNone result (list_any (λ c. c == 10) (unread R.Read self.new) ≡ false) }
+        ensures end { IfSome result (λ end. EndsAt R.Read self.new end) }
+        ensures none { IfNone result (IsOneLine (unread R.Read self.new)) }
         ensures source { self.new.source ≡ self.old.source }
         ensures held { self.new.held ≡ self.old.held }
         ensures start { self.new.start ≡ self.old.start }
@@ -142,12 +126,12 @@ impl<R: Read + Drop> Input<R> {
 /// Returns the index of the first line feed. The first `from` bytes must have none.
 fn line_feed(bytes: &[u8], from: usize) -> Option<usize>
     requires within { from ≤ length bytes.now }
-    requires none { list_any (λ c. c == 10) (take from bytes.now) ≡ false }
+    requires none { IsOneLine (take from bytes.now) }
     ensures some { IfSome result
         (λ at. (at < length bytes.now)
         × (slice_index bytes.now at ≡ 10)
-        × (list_any (λ c. c == 10) (take at bytes.now) ≡ false)) }
-    ensures none { IfNone result (list_any (λ c. c == 10) bytes.now ≡ false) }
+        × IsOneLine (take at bytes.now)) }
+    ensures none { IfNone result (IsOneLine bytes.now) }
 {
     match first_feed(&bytes[from..]) {
         Some(at) => Some(from + at),

@@ -1,10 +1,10 @@
 // Takes lines and loads from a script.
-ghost use Rattle.std.specs.Prelude.{◌↔◌, ◌≡◌, ◌≢◌, ◌==◌, ◌≤◌, ◌<◌, [], false, true, length, slice_index, slice_range, take, IsTrue, IsUtf8, IfNone, IfErr, IfOk, IfSome, OnOk};
+ghost use Rattle.std.specs.Prelude.{◌↔◌, ◌≡◌, ◌≢◌, ◌≤◌, ◌<◌, [], true, length, take, IsTrue, IsUtf8, IfNone, IfErr, IfOk, IfSome, OnOk};
 ghost use Rattle.std.specs.Io.BufRead.{strip_last};
-ghost use Rattle.std.specs.List.{list_any};
 ghost use Rattle.far_script.specs.Faults.{IfInput, IfHalted};
 ghost use Rattle.far_script.specs.Flow.{Holds, IsShort, IsUnseen, Prints, Reads, Stops, TakesLine, has_failed, byte_range_of, bytes_in, unread};
 ghost use Rattle.far_script.specs.Lines.{IsOneLine};
+ghost use Rattle.far_script.specs.Reading.{EndsAt};
 
 use super::{ByteRange, Input, Line};
 use crate::bounded::MAX_READS;
@@ -48,8 +48,8 @@ impl<R: Source + Drop> Input<R> {
         writer: &mut W,
     ) -> Result<Option<usize>, ShellFault>
         ensures read { OnOk result (Reads R.Read self.old [] self.new) }
-        ensures fault { IfErr result (λ fault. fault ≢ ShellFault.BadStart) }
-        ensures turns { IfErr result (λ fault. fault ≢ ShellFault.Turns) }
+        ensures fault { IfErr result
+            (λ fault. (fault ≢ ShellFault.BadStart) × (fault ≢ ShellFault.Turns)) }
         ensures stopped { IfErr result
             (λ fault. IfInput fault
             (Stops R.Read (λ bytes rest. IsOneLine bytes) self.old self.new)) }
@@ -61,17 +61,10 @@ impl<R: Source + Drop> Input<R> {
             output.new.page }
         ensures failed { IfErr result
             (λ fault. fault ≡ ShellFault.Output → has_failed output.new ≡ true) }
-        ensures end { IfOk result
-            (λ found. IfSome found
-            (λ end. (self.new.start ≤ end)
-            × (end < length self.new.held)
-            × (slice_index self.new.held end ≡ 10)
-            × (list_any (λ c. c == 10) (slice_range self.new.held self.new.start end)
-            ≡ false))) }
+        ensures end { IfOk result (λ found. IfSome found (λ end. EndsAt R.Read self.new end)) }
         ensures ended { IfOk result
             (λ found. IfNone found
-            ((self.new.source.ended ≡ true)
-            × (list_any (λ c. c == 10) (unread R.Read self.new) ≡ false))) }
+            ((self.new.source.ended ≡ true) × IsOneLine (unread R.Read self.new))) }
     {
         for turn in 0..MORE_THAN_READS {
             if let Some(end) = self.line_end() {

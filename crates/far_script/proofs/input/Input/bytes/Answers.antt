@@ -1,7 +1,7 @@
 use Rattle.std.proofs.Common.{◌≡◌, ◌<◌, [], length, inl, inr, refl, sym, ◌∙◌, arith}
 use Rattle.far_script.specs.declared.fault.ShellFault.TheVariants as fault
 use Rattle.far_script.specs.Flow.{IsShort, unread}
-use Rattle.far_script.proofs.FlowStops.{handed-on, if-input-both, if-halted, leaves-same, not-found, short-later, stops-still}
+use Rattle.far_script.proofs.FlowStops.{handed-on, if-input, if-halted, leaves-same, not-found, short-later, stops-still, unseen}
 use Rattle.far_script.proofs.FlowLaws.{dropped, fewer, front-within, prints-none, prints-then-nothing, range-length, reads-none, reads-range, reads-then, turns-past}
 use Rattle.far_script.proofs.input.Input.bytes.Goals as goal
 
@@ -11,10 +11,11 @@ loop-turn-init g c = (reads-none g.R.Read _ _ refl, prints-none _ _, grind arith
 pub loop-turn-preserved : goal.loop-turn-preserved
 loop-turn-preserved g c =
     let i = c.loop-turn.invariant in
-    let taken = c.in_ok-read_more.ensures.taken c.if-not-branch.false in (
-      reads-then g.R.Read c.args.self.now c.loop-turn.self c.read_more.new.self [] [] i.0 c.in_ok-read_more.ensures.read,
+    let did = c.in_ok-read_more.ensures.read in
+    let counted = did.counted c.if-not-branch.false in (
+      reads-then g.R.Read c.args.self.now c.loop-turn.self c.read_more.new.self [] [] i.0 did.reads,
       prints-then-nothing _ _ _ c.args.output.now.page [] c.loop-turn.output.page _ i.1 c.flush.ensures.printed,
-      omega (arith, taken, i.2),
+      omega (arith, counted, i.2),
     )
 
 pub returns-in_err-flush-clause-printed : goal.returns-in_err-flush-clause-printed
@@ -37,17 +38,18 @@ returns-in_err-read_more-clause-stopped g c =
     let low : length (unread g.R.Read c.loop-turn.self) < c.args.count = grind (arith, k, c.if-len-self.false, c.len.ensures) in
     let why = c.in_err-read_more.field-0.0 in
     handed-on c.from_residual-in_err-read_more.result why _ c.from_residual-in_err-read_more.ensures.1
-    (if-input-both why _ _ _ (λ same unseen. stops-still g.R.Read c.args.self.now c.loop-turn.self c.read_more.new.self (λ bytes rest. (length bytes < c.args.count) × IsShort g.R.Read g.R.Source.may_fail c.args.self.now c.read_more.new.self rest) i.0 same.0 (not-found _ _ unseen.0) same.2
-    (low, short-later g.R.Read g.R.Source.may_fail c.args.self.now c.loop-turn.self c.read_more.new.self [] _ i.0 (fewer _ _ _ i.2) (inr unseen))) c.in_err-read_more.ensures.stopped c.in_err-read_more.ensures.unseen)
+    (if-input why _ _ (λ none. stops-still g.R.Read c.args.self.now c.loop-turn.self c.read_more.new.self (λ bytes rest. (length bytes < c.args.count) × IsShort g.R.Read g.R.Source.may_fail c.args.self.now c.read_more.new.self rest) i.0 none.cut.bytes (not-found _ _ none.cut.before) none.cut.lost
+    (low, short-later g.R.Read g.R.Source.may_fail c.args.self.now c.loop-turn.self c.read_more.new.self [] _ i.0 (fewer _ _ _ i.2) (inr (unseen g.R.Read g.R.Source.may_fail c.loop-turn.self c.read_more.new.self none.cut)))) c.in_err-read_more.ensures.cut)
 
 pub returns-then-not-branch-clause-stopped : goal.returns-then-not-branch-clause-stopped
 returns-then-not-branch-clause-stopped g c =
     let k = dropped c.loop-turn.self.held c.loop-turn.self.start (front-within c.loop-turn.self.start c.loop-turn.self.plain (length c.loop-turn.self.held) c.loop-turn.self.known) in
     let low : length (unread g.R.Read c.loop-turn.self) < c.args.count = grind (arith, k, c.if-len-self.false, c.len.ensures) in
-    let ended = c.in_ok-read_more.ensures.ended c.if-not-branch.true in
-    let same : unread g.R.Read c.read_more.new.self ≡ unread g.R.Read c.loop-turn.self = ended.1 in
+    let did = c.in_ok-read_more.ensures.read in
+    let ended = did.ended c.if-not-branch.true in
+    let same : unread g.R.Read c.read_more.new.self ≡ unread g.R.Read c.loop-turn.self = did.same c.if-not-branch.true in
     stops-still g.R.Read c.args.self.now c.read_more.new.self c.read_more.new.self (λ bytes rest. (length bytes < c.args.count) × IsShort g.R.Read g.R.Source.may_fail c.args.self.now c.read_more.new.self rest)
-    (reads-then g.R.Read c.args.self.now c.loop-turn.self c.read_more.new.self [] [] c.loop-turn.invariant.0 c.in_ok-read_more.ensures.read) refl (λ e. e) (leaves-same _ _) (rw same low, inl (ended.0, c.read_more.new.self.source.end ended.0))
+    (reads-then g.R.Read c.args.self.now c.loop-turn.self c.read_more.new.self [] [] c.loop-turn.invariant.0 did.reads) refl (λ e. e) (leaves-same _ _) (rw same low, inl (ended, c.read_more.new.self.source.end ended))
 
 pub returns-clause-stopped : goal.returns-clause-stopped
 returns-clause-stopped g c = absurd (turns-past c.loop-turn.self.source.reads c.loop-turn.turn c.args.self.now.source.reads c.loop-turn.invariant.2 c.args.self.now.source.few (grind (arith, c.loop-turn-test.false)))

@@ -14,12 +14,12 @@ returns-clause-line g c =
     let held = c.take-line.new.self.held in
     let n = c.line_len-whole.result in
     let within = range-within held from to n (rw c.as_slice.ensures at c.line_len-whole.ensures.within) in (
-      (grind arith, grind (arith, within, s.1, e.to, e.held, e.from, s.0)),
+      (grind arith, grind (arith, within, s.within, e.to, e.held, e.from, s.from)),
       (
         slice_range held from to,
-        rw (e.held, e.from, e.to) s.3,
+        rw (e.held, e.from, e.to) s.first,
         range-front held from to n within ∙ (rw c.as_slice.ensures at c.line_len-whole.ensures.line),
         reads-line g.R.Read c.args.self.now c.seek_line.new.self c.take-line.new.self from to c.in_ok-found.ensures.read e.source e.held (e.start ∙ next-same to _ e.to) e.from
-            (grind (arith, e.from, e.to, s.0)) (grind (arith, e.to, s.1)) (rw e.to s.2),
+            (grind (arith, e.from, e.to, s.from)) (grind (arith, e.to, s.within)) (rw e.to s.feed),
       ),
     )

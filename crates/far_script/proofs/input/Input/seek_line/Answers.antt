@@ -2,7 +2,7 @@ use Rattle.std.proofs.Common.{[], refl, arith}
 use Rattle.far_script.specs.declared.fault.ShellFault.TheVariants as fault
 use Rattle.far_script.specs.Flow.{unread}
 use Rattle.far_script.specs.Lines.{IsOneLine}
-use Rattle.far_script.proofs.FlowStops.{handed-on, if-input-both, if-halted, if-unseen, none-of, not-found, stops-still}
+use Rattle.far_script.proofs.FlowStops.{handed-on, if-input, if-halted, none-of, not-found, stops-still, unseen, unseen-later}
 use Rattle.far_script.proofs.FlowLaws.{fewer, prints-none, prints-then-nothing, reads-looked, reads-none, reads-then, turns-past}
 use Rattle.far_script.proofs.input.Input.seek_line.Goals as goal
 
@@ -15,10 +15,11 @@ loop-turn-preserved g c =
     let i = c.loop-turn.invariant in
     let p = reads-looked g.R.Read c.args.self.now c.loop-turn.self c.line_end.new.self i.0 e.source e.held e.start in
     let more = c.if-not-branch.false in
-    let taken = rw e.source at (c.in_ok-read_more.ensures.taken more) in (
-      reads-then g.R.Read c.args.self.now c.line_end.new.self c.read_more.new.self [] [] p c.in_ok-read_more.ensures.read,
+    let did = c.in_ok-read_more.ensures.read in
+    let counted = rw e.source at (did.counted more) in (
+      reads-then g.R.Read c.args.self.now c.line_end.new.self c.read_more.new.self [] [] p did.reads,
       prints-then-nothing _ _ _ c.args.output.now.page [] c.loop-turn.output.page _ i.1 c.flush.ensures.printed,
-      omega (arith, taken, i.2),
+      omega (arith, counted, i.2),
     )
 
 pub returns-in_err-flush-clause-printed : goal.returns-in_err-flush-clause-printed
@@ -31,7 +32,7 @@ returns-in_err-read_more-clause-stopped g c =
     let none : IsOneLine (unread g.R.Read c.line_end.new.self) = none-of c.line_end.result _ c.in_default.not-Some c.line_end.ensures.none in
     let why = c.in_err-read_more.field-0.0 in
     handed-on c.from_residual-in_err-read_more.result why _ c.from_residual-in_err-read_more.ensures.1
-    (if-input-both why _ _ _ (λ same unseen. stops-still g.R.Read c.args.self.now c.line_end.new.self c.read_more.new.self (λ bytes rest. IsOneLine bytes) p same.0 (not-found _ _ unseen.0) same.2 none) c.in_err-read_more.ensures.stopped c.in_err-read_more.ensures.unseen)
+    (if-input why _ _ (λ did. stops-still g.R.Read c.args.self.now c.line_end.new.self c.read_more.new.self (λ bytes rest. IsOneLine bytes) p did.cut.bytes (not-found _ _ did.cut.before) did.cut.lost none) c.in_err-read_more.ensures.cut)
 
 pub returns-clause-stopped : goal.returns-clause-stopped
 returns-clause-stopped g c = absurd (turns-past c.loop-turn.self.source.reads c.loop-turn.turn c.args.self.now.source.reads c.loop-turn.invariant.2 c.args.self.now.source.few (grind (arith, c.loop-turn-test.false)))
@@ -57,7 +58,8 @@ returns-in_err-read_more-clause-unseen g c =
     let p = reads-looked g.R.Read c.args.self.now c.loop-turn.self c.line_end.new.self c.loop-turn.invariant.0 e.source e.held e.start in
     let why = c.in_err-read_more.field-0.0 in
     handed-on c.from_residual-in_err-read_more.result why _ c.from_residual-in_err-read_more.ensures.1
-    (if-unseen g.R.Read g.R.Source.may_fail why c.args.self.now c.line_end.new.self c.read_more.new.self [] p (rw c.line_end.ensures.source (fewer _ _ _ c.loop-turn.invariant.2)) c.in_err-read_more.ensures.unseen)
+    (if-input why _ _ (λ did. unseen-later g.R.Read g.R.Source.may_fail c.args.self.now c.line_end.new.self c.read_more.new.self [] p (rw c.line_end.ensures.source (fewer _ _ _ c.loop-turn.invariant.2))
+    (unseen g.R.Read g.R.Source.may_fail c.line_end.new.self c.read_more.new.self did.cut)) c.in_err-read_more.ensures.cut)
 
 pub returns-clause-unseen : goal.returns-clause-unseen
 returns-clause-unseen g c = absurd (turns-past c.loop-turn.self.source.reads c.loop-turn.turn c.args.self.now.source.reads c.loop-turn.invariant.2 c.args.self.now.source.few (grind (arith, c.loop-turn-test.false)))
