@@ -101,9 +101,9 @@
 //!         for _ in 0..100 {
 //!             let begun = table.lock().unwrap().begin_evict_coldest().unwrap();
 //!             let Some(outgoing) = begun else { break };
-//!             outgoing.put(&mut engine).unwrap();
+//!             let stored = outgoing.put(&mut engine).unwrap();
 //!             // It is refused as stale if the object was written meanwhile, and then stays.
-//!             let _ = table.lock().unwrap().commit(outgoing);
+//!             let _ = table.lock().unwrap().commit(stored);
 //!         }
 //!     });
 //!     for price in 0..1_000 {
@@ -148,7 +148,7 @@ pub use spec::{
     Aggregate, Constant, Extrema, ExtremaLine, Key, Op, Spec, Totals, TotalsLine, extrema, totals,
 };
 pub use stats::Stats;
-pub use table::{Incoming, IntPiece, Ints, Outgoing, Pinned, Row, Table, TextPiece, Texts};
+pub use table::{Incoming, IntPiece, Ints, Outgoing, Pinned, Row, Stored, Table, TextPiece, Texts};
 
 // The examples of README.md are tested with those of the docs.
 #[cfg(doctest)]

@@ -30,8 +30,9 @@ fn tables_and_jobs_go_from_thread_to_thread() -> Outcome {
     table.insert(row![1, 2])?;
     let outgoing = table.begin_evict("n", 0)?;
     is_send(&outgoing);
-    outgoing.put(table.engine_mut())?;
-    table.commit(outgoing)?;
+    let stored = outgoing.put(table.engine_mut())?;
+    is_send(&stored);
+    table.commit(stored)?;
     is_send(&table.begin_fetch("n", 0)?);
     Ok(())
 }
@@ -155,12 +156,26 @@ fn a_dropped_job_is_given_up() -> Outcome {
     let mut table = Table::open(numbers(), Limits::new().group(8), Memory::new())?;
     table.extend((0..8).map(|n| row![n, n]))?;
     let outgoing = table.begin_evict("n", 0)?;
-    outgoing.put(table.engine_mut())?;
-    drop(outgoing);
+    drop(outgoing.put(table.engine_mut())?);
     assert_eq!(table.engine().len(), 1);
     drop(table.begin_evict("m", 0)?);
     assert!(table.engine().is_empty());
     assert!(table.is_local("n", 0)? && table.is_local("m", 0)?);
+    Ok(())
+}
+
+#[test]
+fn an_eviction_whose_put_failed_is_over_and_loses_no_cell() -> Outcome {
+    let engine = Faulty::new(Memory::new(), 1).with(Fault::Fail, 1_000);
+    let mut table = Table::open(numbers(), Limits::new().group(8), engine)?;
+    table.insert(row![5, 7])?;
+    let outgoing = table.begin_evict("n", 0)?;
+    assert!(outgoing.put(table.engine_mut()).is_err());
+    assert!(table.is_local("n", 0)?);
+    table.engine_mut().set(Fault::Fail, 0);
+    let stored = table.begin_evict("n", 0)?.put(table.engine_mut())?;
+    table.commit(stored)?;
+    assert_eq!(table.int("n", 0)?, Some(5));
     Ok(())
 }
 
@@ -173,7 +188,8 @@ fn jobs_of_another_table_are_stale() -> Outcome {
         tables.push(table);
     }
     let outgoing = tables[0].begin_evict("n", 0)?;
-    assert_eq!(refusal(tables[1].commit(outgoing)), Refusal::StaleJob);
+    let stored = outgoing.put(tables[0].engine_mut())?;
+    assert_eq!(refusal(tables[1].commit(stored)), Refusal::StaleJob);
     assert!(tables[0].is_local("n", 0)? && tables[1].is_local("n", 0)?);
     Ok(())
 }
@@ -245,9 +261,9 @@ fn evict_coldest(table: &Mutex<Table<Shared>>, mut engine: Shared) {
     for _ in 0..300 {
         let begun = table.lock().unwrap().begin_evict_coldest().unwrap();
         if let Some(outgoing) = begun {
-            outgoing.put(&mut engine).unwrap();
+            let stored = outgoing.put(&mut engine).unwrap();
             // It is stale if the object was written meanwhile.
-            let _ = table.lock().unwrap().commit(outgoing);
+            let _ = table.lock().unwrap().commit(stored);
         }
     }
 }

@@ -26,7 +26,7 @@ mod row;
 mod space;
 mod work;
 
-pub use jobs::{Incoming, Outgoing};
+pub use jobs::{Incoming, Outgoing, Stored};
 pub use pieces::{IntPiece, Ints, TextPiece, Texts};
 pub use pin::Pinned;
 pub use row::Row;

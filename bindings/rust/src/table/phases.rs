@@ -2,7 +2,7 @@
 
 use super::Table;
 use super::copies::Copy;
-use super::jobs::{Incoming, Job, Outgoing, Target, Wanted};
+use super::jobs::{Incoming, Job, Outgoing, Stored, Target, Wanted};
 use crate::library::Code;
 use crate::spec::Aggregate;
 use crate::sys::FC_FAR_FULL;
@@ -10,15 +10,15 @@ use crate::{ColumnRef, Engine, Error, Refusal};
 
 impl<E: Engine> Table<E> {
     /// Begins to evict an object. The engine's part of the work is [`Outgoing::put`], which needs no
-    /// table; then [`commit`](Table::commit) ends it.
+    /// table; [`commit`](Table::commit) takes what that returns, and ends it.
     ///
     /// ```
     /// # use fullercoral::{Limits, Memory, Schema, Table, row};
     /// let mut table = Table::open(Schema::new().int("price"), Limits::new(), Memory::new())?;
     /// table.insert(row![5])?;
     /// let outgoing = table.begin_evict("price", 0)?;
-    /// outgoing.put(table.engine_mut())?;
-    /// table.commit(outgoing)?;
+    /// let stored = outgoing.put(table.engine_mut())?;
+    /// table.commit(stored)?;
     /// # Ok::<(), Box<dyn std::error::Error>>(())
     /// ```
     ///
@@ -49,8 +49,8 @@ impl<E: Engine> Table<E> {
     /// let mut table = Table::open(Schema::new().int("price"), Limits::new(), Memory::new())?;
     /// table.insert(row![5])?;
     /// if let Some(outgoing) = table.begin_evict_coldest()? {
-    ///     outgoing.put(table.engine_mut())?;
-    ///     table.commit(outgoing)?;
+    ///     let stored = outgoing.put(table.engine_mut())?;
+    ///     table.commit(stored)?;
     /// }
     /// assert!(table.begin_evict_coldest()?.is_none());
     /// # Ok::<(), Box<dyn std::error::Error>>(())
@@ -89,9 +89,9 @@ impl<E: Engine> Table<E> {
     /// let mut table = Table::open(Schema::new().int("price"), Limits::new(), Memory::new())?;
     /// table.insert(row![5])?;
     /// let outgoing = table.begin_evict("price", 0)?;
-    /// outgoing.put(table.engine_mut())?;
+    /// let stored = outgoing.put(table.engine_mut())?;
     /// table.set("price", 0, 6)?;
-    /// let error = table.commit(outgoing).unwrap_err();
+    /// let error = table.commit(stored).unwrap_err();
     /// assert_eq!(error.refusal(), Some(&Refusal::StaleJob));
     /// # Ok::<(), Box<dyn std::error::Error>>(())
     /// ```
@@ -100,19 +100,17 @@ impl<E: Engine> Table<E> {
     /// The object stays local then.
     /// - `StaleJob`: the object was written or moved since it was begun, or it is of another table.
     /// - `Pinned`: it has a pin.
-    pub fn commit(&mut self, outgoing: Outgoing) -> Result<(), Error<E::Error>> {
-        self.check_job(&outgoing.job)?;
-        let Outgoing { mut job, content } = outgoing;
+    pub fn commit(&mut self, stored: Stored) -> Result<(), Error<E::Error>> {
+        self.check_job(&stored.job)?;
+        let Stored { mut job, copy } = stored;
         let committed = self.library.commit(job.number);
         self.outcome(committed)?;
         job.end();
-        let put = content.map(|(number, bytes)| {
+        if let Some(copy) = copy {
             self.stats.puts += 1;
-            self.stats.bytes_put += bytes.len() as u64;
-            let len = bytes.len() as u32;
-            Copy { number, len }
-        });
-        self.committed(job.column, job.group, put);
+            self.stats.bytes_put += u64::from(copy.len);
+        }
+        self.committed(job.column, job.group, copy);
         Ok(())
     }
 
