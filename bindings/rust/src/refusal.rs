@@ -99,7 +99,12 @@ pub enum Refusal {
     /// where it should go, or the row group is not pending.
     StaleJob,
     /// 21: the storage returned other bytes than were put.
-    FarFault,
+    FarFault {
+        /// The column, by name, of the object whose bytes they should be.
+        column: Arc<str>,
+        /// The object's row group.
+        group: u32,
+    },
     /// 22: the numbers of contents are used up: see [`Limits::contents`](crate::Limits::contents).
     FarFull,
     /// 24: the limit of edits, of jobs or of pins is reached.
@@ -143,7 +148,7 @@ impl Refusal {
             Refusal::NotPinned => 18,
             Refusal::Pinned => 19,
             Refusal::StaleJob => 20,
-            Refusal::FarFault => 21,
+            Refusal::FarFault { .. } => 21,
             Refusal::FarFull => 22,
             Refusal::EditsUsedUp => 24,
             Refusal::NoUtf8 => 102,
@@ -170,7 +175,6 @@ impl Refusal {
             18 => Refusal::NotPinned,
             19 => Refusal::Pinned,
             20 => Refusal::StaleJob,
-            21 => Refusal::FarFault,
             22 => Refusal::FarFull,
             24 => Refusal::EditsUsedUp,
             102 => Refusal::NoUtf8,
@@ -210,6 +214,10 @@ impl fmt::Display for Refusal {
             Refusal::Absent { column, group } => {
                 write!(f, "row group {group} of column `{column}` is not local")
             }
+            Refusal::FarFault { column, group } => write!(
+                f,
+                "the storage returned other bytes than were put for row group {group} of column `{column}`"
+            ),
             Refusal::Other(code) => write!(f, "the library refused with code {code}"),
             plain => f.write_str(plain.sentence()),
         }
@@ -233,7 +241,6 @@ impl Refusal {
             Refusal::NotPinned => "the object has no pin",
             Refusal::Pinned => "the object has a pin",
             Refusal::StaleJob => "there is nothing to do for the job, or its object was changed",
-            Refusal::FarFault => "the storage returned other bytes than were put",
             Refusal::FarFull => "the numbers of contents are used up: see Limits::contents",
             Refusal::EditsUsedUp => {
                 "the limit of edits, of jobs or of pins is reached: see Limits::edits"

@@ -21,6 +21,11 @@ fn refusal<T: std::fmt::Debug, E: std::fmt::Debug>(result: Result<T, Error<E>>) 
     }
 }
 
+fn far_fault(column: &str, group: u32) -> Refusal {
+    let column = column.into();
+    Refusal::FarFault { column, group }
+}
+
 fn is_send<T: Send>(_: &T) {}
 
 #[test]
@@ -124,7 +129,7 @@ fn wrong_bytes_are_refused_and_the_right_ones_accepted_later() -> Outcome {
     let len = table.engine_mut().content_mut(0).unwrap().len();
     for bit in 0..8 * len {
         table.engine_mut().content_mut(0).unwrap()[bit / 8] ^= 1 << (bit % 8);
-        assert_eq!(refusal(table.fetch("n", 0)), Refusal::FarFault);
+        assert_eq!(refusal(table.fetch("n", 0)), far_fault("n", 0));
         table.engine_mut().content_mut(0).unwrap()[bit / 8] ^= 1 << (bit % 8);
     }
     assert_eq!(table.stats().faults, 8 * len as u64);
@@ -142,12 +147,34 @@ fn a_build_of_wrong_bytes_is_refused() -> Outcome {
     table.evict("m", 0)?;
     let total = table.watch(totals("n").by("m"))?;
     table.engine_mut().content_mut(1).unwrap()[7] ^= 1;
-    assert_eq!(refusal(table.ask(total)), Refusal::FarFault);
+    assert_eq!(refusal(table.ask(total)), far_fault("m", 0));
     assert_eq!(table.pending(total)?, 1);
     table.engine_mut().content_mut(1).unwrap()[7] ^= 1;
     let sums: Vec<i128> = table.ask(total)?.map(|line| line.sum).collect();
     assert_eq!(sums, [12, 16]);
     assert!(!table.is_local("n", 0)? && table.stats().builds == 1);
+    Ok(())
+}
+
+#[test]
+fn a_fault_names_the_column_and_the_row_group() -> Outcome {
+    let mut table = Table::open(numbers(), Limits::new().group(8), Memory::new())?;
+    table.extend((0..16).map(|n| row![n, n]))?;
+    table.evict("n", 1)?;
+    table.evict("m", 1)?;
+    let total = table.watch(totals("n").by("m"))?;
+    for content in 0..2 {
+        table.engine_mut().content_mut(content).unwrap()[7] ^= 1;
+    }
+    assert_eq!(refusal(table.migrate()), far_fault("n", 1));
+    let mut incoming = table.begin_build(total, 1)?;
+    incoming.get(table.engine_mut())?;
+    assert_eq!(refusal(table.install(incoming)), far_fault("n", 1));
+    table.engine_mut().content_mut(0).unwrap()[7] ^= 1;
+    assert_eq!(refusal(table.migrate()), far_fault("m", 1));
+    let error = table.int("m", 15).unwrap_err();
+    let said = "the storage returned other bytes than were put for row group 1 of column `m`";
+    assert_eq!(error.to_string(), said);
     Ok(())
 }
 

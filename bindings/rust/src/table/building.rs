@@ -96,8 +96,8 @@ impl<E: Engine> Table<E> {
     fn end_build(&mut self, job: u64, number: u32, group: u32) -> Result<(), Failure<E::Error>> {
         let mut index = 0;
         while let Some(content) = self.library.wanted(job, index)? {
-            let copy = self.copy_for(number, group, content)?;
-            self.get_and_deliver(job, content, copy)?;
+            let (column, copy) = self.copy_for(number, group, content)?;
+            self.get_and_deliver(job, content, (column, group), copy)?;
             index += 1;
         }
         self.library.carry(job)?;
@@ -106,17 +106,18 @@ impl<E: Engine> Table<E> {
         Ok(())
     }
 
-    // The copy that has this number for the library, of the columns that an aggregate needs.
+    // The copy that has this number for the library, of the columns that an aggregate needs, and its column.
     pub(super) fn copy_for(
         &mut self,
         number: u32,
         group: u32,
         content: u64,
-    ) -> Result<Copy, Refusal> {
+    ) -> Result<(u32, Copy), Refusal> {
         for column in self.columns_of(number) {
             let object = self.library.object(column, group);
             if object.is_ok_and(|object| object.has_copy && object.copy == content) {
-                return self.copies.get(column, group).ok_or(Refusal::StaleJob);
+                let copy = self.copies.get(column, group).ok_or(Refusal::StaleJob)?;
+                return Ok((column, copy));
             }
         }
         Err(Refusal::StaleJob)

@@ -178,6 +178,8 @@ pub struct Incoming {
 pub(crate) struct Wanted {
     /// Its number for the library.
     pub number: u64,
+    /// The column of the object that it is of.
+    pub column: u32,
     pub copy: Copy,
     pub bytes: Vec<u8>,
 }

@@ -2,8 +2,8 @@
 
 use super::copies::Copy;
 use super::{Failure, Table};
-use crate::library::Code;
-use crate::sys::{FC_FAR_FULL, FC_REGION_FULL, FC_STALE_JOB};
+use crate::library::{Code, Coded};
+use crate::sys::{FC_FAR_FAULT, FC_FAR_FULL, FC_REGION_FULL, FC_STALE_JOB};
 use crate::{ColumnRef, Engine, Error, Kind, Policy, Refusal};
 
 impl<E: Engine> Table<E> {
@@ -174,9 +174,10 @@ impl<E: Engine> Table<E> {
     fn end_fetch(&mut self, job: u64, column: u32, group: u32) -> Result<(), Failure<E::Error>> {
         let content = self.library.wanted(job, 0)?;
         if let (Some(content), Some(copy)) = (content, self.copies.get(column, group)) {
-            self.get_and_deliver(job, content, copy)?;
+            self.get_and_deliver(job, content, (column, group), copy)?;
         }
-        self.library.carry(job)?;
+        let carried = self.library.carry(job);
+        self.delivered(carried, (column, group))?;
         self.install_job(job)?;
         self.fetched(column, group);
         Ok(())
@@ -189,11 +190,12 @@ impl<E: Engine> Table<E> {
         self.stats.fetches += 1;
     }
 
-    /// Gets a content from the engine and delivers it to a job.
+    /// Gets a content, which is that of an object, from the engine and delivers it to a job.
     pub(super) fn get_and_deliver(
         &mut self,
         job: u64,
         content: u64,
+        object: (u32, u32),
         copy: Copy,
     ) -> Result<(), Failure<E::Error>> {
         self.content.clear();
@@ -203,7 +205,26 @@ impl<E: Engine> Table<E> {
         }
         self.stats.gets += 1;
         self.stats.bytes_got += self.content.len() as u64;
-        Ok(self.library.deliver(job, content, &self.content)?)
+        let delivered = self.library.deliver(job, content, &self.content);
+        self.delivered(delivered, object)
+    }
+
+    /// The outcome of a call that took the content of an object: a fault names the object.
+    pub(super) fn delivered(
+        &self,
+        outcome: Coded<()>,
+        (column, group): (u32, u32),
+    ) -> Result<(), Failure<E::Error>> {
+        match outcome {
+            Err(Code(FC_FAR_FAULT)) => Err(self.far_fault(column, group).into()),
+            outcome => Ok(outcome?),
+        }
+    }
+
+    /// The refusal of bytes that are not those that were put for an object.
+    pub(super) fn far_fault(&self, column: u32, group: u32) -> Refusal {
+        let column = self.schema.label(column);
+        Refusal::FarFault { column, group }
     }
 
     /// Ends a carried fetch. By an automatic policy others are evicted if there is no space.

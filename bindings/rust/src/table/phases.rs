@@ -144,7 +144,7 @@ impl<E: Engine> Table<E> {
         let job = Job::new(number, column, group, &self.abandoned);
         let copy = self.copies.get(column, group).ok_or(Refusal::StaleJob)?;
         let target = Target::Object { column, group };
-        self.incoming(job, target, |_, _| Ok(copy))
+        self.incoming(job, target, |_, _| Ok((column, copy)))
     }
 
     /// Begins to build a row group into an aggregate from the far copies of its columns, without fetching
@@ -178,7 +178,8 @@ impl<E: Engine> Table<E> {
         self.give_up_abandoned();
         let number = self.library.begin_offload(aggregate, group);
         let number = self.outcome(number)?;
-        let job = Job::new(number, 0, group, &self.abandoned);
+        let column = self.columns_of(aggregate).first().copied().unwrap_or(0);
+        let job = Job::new(number, column, group, &self.abandoned);
         self.incoming(job, Target::Aggregate, |table, content| {
             table.copy_for(aggregate, group, content)
         })
@@ -189,7 +190,7 @@ impl<E: Engine> Table<E> {
         &mut self,
         job: Job,
         target: Target,
-        mut copy: impl FnMut(&mut Self, u64) -> Result<Copy, Refusal>,
+        mut copy: impl FnMut(&mut Self, u64) -> Result<(u32, Copy), Refusal>,
     ) -> Result<Incoming, Error<E::Error>> {
         let mut wanted = Vec::new();
         loop {
@@ -201,9 +202,11 @@ impl<E: Engine> Table<E> {
                     target,
                 });
             };
+            let (column, copy) = copy(self, number)?;
             wanted.push(Wanted {
                 number,
-                copy: copy(self, number)?,
+                column,
+                copy,
                 bytes: Vec::new(),
             });
         }
@@ -213,7 +216,7 @@ impl<E: Engine> Table<E> {
     /// By an automatic policy others are evicted if a fetched object has no space.
     ///
     /// ```
-    /// # use fullercoral::{Limits, Memory, Refusal, Schema, Table, row};
+    /// # use fullercoral::{Error, Limits, Memory, Refusal, Schema, Table, row};
     /// let mut table = Table::open(Schema::new().int("price"), Limits::new(), Memory::new())?;
     /// table.insert(row![5])?;
     /// table.evict("price", 0)?;
@@ -221,8 +224,8 @@ impl<E: Engine> Table<E> {
     /// for (_, bytes) in incoming.contents() {
     ///     bytes.extend(*b"other bytes");
     /// }
-    /// let error = table.install(incoming).unwrap_err();
-    /// assert_eq!(error.refusal(), Some(&Refusal::FarFault));
+    /// let Err(Error::Refused(refusal)) = table.install(incoming) else { panic!() };
+    /// assert_eq!(refusal, Refusal::FarFault { column: "price".into(), group: 0 });
     /// # Ok::<(), Box<dyn std::error::Error>>(())
     /// ```
     ///
@@ -242,13 +245,21 @@ impl<E: Engine> Table<E> {
         for content in &wanted {
             self.stats.gets += 1;
             self.stats.bytes_got += content.bytes.len() as u64;
-            let delivered = self
-                .library
-                .deliver(job.number, content.number, &content.bytes);
+            let (number, bytes) = (content.number, &content.bytes);
+            let delivered = self.library.deliver(job.number, number, bytes);
+            let delivered = self.delivered(delivered, (content.column, job.group));
             self.outcome(delivered)?;
         }
         let carried = self.library.carry(job.number);
+        let carried = self.delivered(carried, (job.column, job.group));
         self.outcome(carried)?;
+        self.end_incoming(&job, target)?;
+        job.end();
+        Ok(())
+    }
+
+    // Ends a carried fetch or build.
+    fn end_incoming(&mut self, job: &Job, target: Target) -> Result<(), Error<E::Error>> {
         match target {
             Target::Object { column, group } => {
                 let installed = self.install_job(job.number);
@@ -261,7 +272,6 @@ impl<E: Engine> Table<E> {
                 self.stats.builds += 1;
             }
         }
-        job.end();
         Ok(())
     }
 }

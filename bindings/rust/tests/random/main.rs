@@ -89,7 +89,7 @@ where
     fn reply<T>(&mut self, result: Result<T, Error<E::Error>>) -> Reply<T> {
         match result {
             Ok(value) => Reply::Value(value),
-            Err(Error::Refused(Refusal::FarFault) | Error::Engine(_)) => {
+            Err(Error::Refused(Refusal::FarFault { .. }) | Error::Engine(_)) => {
                 assert!(self.faulty);
                 self.faults += 1;
                 Reply::Fault

@@ -4,7 +4,7 @@ use fullercoral::{Incoming, Outgoing, Refusal, Stored};
 
 use super::aggregates::{of_engine, with_handle};
 use super::{Checked, World, Wrong, no_space};
-use crate::call::Call;
+use crate::call::{Call, name};
 use crate::repeat::{told, told_of};
 
 /// What an object was when a job of it began: how often it was written, and how often it went away.
@@ -83,6 +83,11 @@ impl Job {
     pub fn is_unsure(&mut self) {
         self.is_unsure = true;
     }
+}
+
+fn far_fault(column: usize, group: u32) -> Refusal {
+    let column = name(column).into();
+    Refusal::FarFault { column, group }
 }
 
 impl World {
@@ -375,7 +380,7 @@ impl World {
                 may.extend((!right).then_some(21));
                 Err(Refusal::StaleJob)
             }
-            (false, false) => Err(Refusal::FarFault),
+            (false, false) => Err(far_fault(column, group)),
             _ if self.is_manual() && !self.model.has_space_for(column, group) => {
                 Err(Refusal::RegionFull)
             }
@@ -407,7 +412,11 @@ impl World {
             Ok("()".to_owned())
         };
         let due = match due {
-            Ok(_) if !is_right => Err(Refusal::FarFault),
+            Ok(_) if !is_right => {
+                // (or another of the columns that it needs)
+                let column = self.aggregates[&of].folding.value;
+                Err(far_fault(column, group))
+            }
             Err(refusal) => {
                 may.extend([20]);
                 may.extend((!is_right).then_some(21));
