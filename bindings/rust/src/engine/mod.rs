@@ -21,20 +21,41 @@ pub use retry::Retry;
 /// an answer wrong. If an engine panics, the table gives up what it was about to move: whoever catches
 /// the panic goes on with the table as after an error.
 ///
-/// An engine over the `redis` crate, whole:
+/// An engine over the `redis` crate, whole. The connection has a struct of its own, since an `impl` needs a
+/// trait or a type of its crate, and keys have a prefix that no other table has:
 ///
-/// ```ignore
-/// impl fullercoral::Engine for redis::Connection {
-///     type Error = redis::RedisError;
+/// ```
+/// # mod redis {
+/// #     // A stand-in for the crate.
+/// #     pub struct Connection;
+/// #     pub type RedisError = std::io::Error;
+/// #     pub type RedisResult<T> = Result<T, RedisError>;
+/// #     pub trait Commands {
+/// #         fn set<T: Default>(&mut self, _: String, _: &[u8]) -> RedisResult<T> {
+/// #             Ok(T::default())
+/// #         }
+/// #         fn get<T: Default>(&mut self, _: String) -> RedisResult<T> {
+/// #             Ok(T::default())
+/// #         }
+/// #     }
+/// #     impl Commands for Connection {}
+/// # }
+/// use redis::{Commands, RedisError, RedisResult};
 ///
-///     fn put(&mut self, number: u64, bytes: &[u8]) -> redis::RedisResult<()> {
-///         redis::Commands::set(self, number, bytes)
+/// struct Redis(redis::Connection);
+///
+/// impl fullercoral::Engine for Redis {
+///     type Error = RedisError;
+///
+///     fn put(&mut self, number: u64, bytes: &[u8]) -> RedisResult<()> {
+///         self.0.set(format!("sales:{number}"), bytes)
 ///     }
-///     fn get(&mut self, number: u64, buffer: &mut Vec<u8>) -> redis::RedisResult<()> {
-///         *buffer = redis::Commands::get(self, number)?;
+///     fn get(&mut self, number: u64, buffer: &mut Vec<u8>) -> RedisResult<()> {
+///         *buffer = self.0.get(format!("sales:{number}"))?;
 ///         Ok(())
 ///     }
 /// }
+/// # let _ = Redis(redis::Connection);
 /// ```
 ///
 /// One over a map:
