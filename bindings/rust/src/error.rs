@@ -61,6 +61,13 @@ impl<E> From<Refusal> for Error<E> {
     }
 }
 
+/// So `?` takes the error of [`Files::create`](crate::Files::create) too.
+impl From<io::Error> for Error {
+    fn from(error: io::Error) -> Error {
+        Error::Engine(error)
+    }
+}
+
 impl<E: fmt::Display> fmt::Display for Error<E> {
     fn fmt(&self, f: &mut fmt::Formatter<'_>) -> fmt::Result {
         match self {

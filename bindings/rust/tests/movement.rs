@@ -208,7 +208,7 @@ fn an_eviction_whose_put_failed_is_over_and_loses_no_cell() -> Outcome {
 
 #[test]
 fn jobs_of_another_table_are_stale() -> Outcome {
-    let mut tables: Vec<Table> = Vec::new();
+    let mut tables: Vec<Table<Memory>> = Vec::new();
     for _ in 0..2 {
         let mut table = Table::open(numbers(), Limits::new().group(8), Memory::new())?;
         table.extend((0..8).map(|n| row![n, n]))?;

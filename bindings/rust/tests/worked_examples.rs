@@ -8,11 +8,11 @@ use fullercoral::{
 
 type Outcome = Result<(), Box<dyn std::error::Error>>;
 
-fn table(schema: Schema) -> Table {
+fn table(schema: Schema) -> Table<Memory> {
     Table::open(schema, Limits::new().group(4), Memory::new()).unwrap()
 }
 
-fn by_hand(schema: Schema) -> Table {
+fn by_hand(schema: Schema) -> Table<Memory> {
     let mut table = table(schema);
     table.set_policy(Policy::Manual);
     table
@@ -84,6 +84,15 @@ fn the_bakery_of_the_readme() -> Outcome {
     let line = table.ask(ends)?.next().unwrap();
     assert_eq!((line.min, line.max), (2, 9));
     Ok(())
+}
+
+#[test]
+fn any_engine_has_an_error_that_is_one() -> Outcome {
+    fn add<E: Engine>(table: &mut Table<E>) -> Outcome {
+        table.insert(row![1])?;
+        Ok(())
+    }
+    add(&mut table(Schema::new().int("n")))
 }
 
 #[test]

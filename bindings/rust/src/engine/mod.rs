@@ -1,3 +1,4 @@
+use std::error;
 use std::sync::{Arc, Mutex, PoisonError};
 
 mod faulty;
@@ -95,9 +96,9 @@ pub use retry::Retry;
 /// # Ok::<(), Box<dyn std::error::Error>>(())
 /// ```
 pub trait Engine {
-    /// Why a `put` or a `get` failed. If it is a `std::error::Error`, so is the table's
-    /// [`Error`](crate::Error), and `?` turns that into a `Box<dyn Error>`.
-    type Error;
+    /// Why a `put` or a `get` failed. The table's [`Error`](crate::Error) holds it, and so is a
+    /// `std::error::Error` that `?` turns into a `Box<dyn Error>`, whichever engine it is.
+    type Error: error::Error + 'static;
 
     /// Keeps bytes under a number. A table gives each number once, from 0 on.
     fn put(&mut self, number: u64, bytes: &[u8]) -> Result<(), Self::Error>;

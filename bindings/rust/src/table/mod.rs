@@ -6,7 +6,7 @@ use crate::library::{Buffers, Code, Library};
 use crate::spec::Resolved;
 use crate::sys::{FC_INT, FC_TEXT, fc_limits};
 use crate::{
-    Cell, Column, ColumnRef, Engine, Error, Kind, Limits, Memory, Policy, Refusal, Schema, Stats,
+    Cell, Column, ColumnRef, Engine, Error, Files, Kind, Limits, Policy, Refusal, Schema, Stats,
 };
 
 mod aggregates;
@@ -46,6 +46,27 @@ use space::Live;
 /// [crate's documentation](crate#threads). Calls that only read need a `&mut` too, since the library
 /// serves one at a time. A table that is dropped is closed, and its engine dropped with it.
 ///
+/// `Table` alone is a table over [`Files`], whose calls return [`Error`] alone:
+///
+/// ```
+/// use fullercoral::{Error, Files, Limits, Schema, Table, row};
+///
+/// fn insert(table: &mut Table) -> Result<u32, Error> {
+///     table.insert(row!["rye", 3])
+/// }
+///
+/// fn run() -> Result<(), Error> {
+///     let schema = Schema::new().text("sku").int("quantity");
+///     let engine = Files::create(std::env::temp_dir())?;
+///     let mut table = Table::open(schema, Limits::new(), engine)?;
+///     insert(&mut table)?;
+///     Ok(())
+/// }
+/// # run().unwrap();
+/// ```
+///
+/// One over any engine:
+///
 /// ```
 /// use fullercoral::{Limits, Memory, Schema, Table, row, totals};
 ///
@@ -58,7 +79,7 @@ use space::Live;
 /// }
 /// # Ok::<(), Box<dyn std::error::Error>>(())
 /// ```
-pub struct Table<E: Engine = Memory> {
+pub struct Table<E: Engine = Files> {
     library: Library,
     engine: E,
     schema: Schema,
