@@ -44,6 +44,11 @@ pub enum Refusal {
         /// What the column holds.
         kind: Kind,
     },
+    /// 5: a key was asked for, and the aggregate has no key column; or none was, and it has one.
+    WrongKey {
+        /// The key column's name, if there is one.
+        column: Option<Arc<str>>,
+    },
     /// 6: a row has another number of cells than there are columns.
     RowWidth {
         /// How many cells the row has.
@@ -132,7 +137,7 @@ impl Refusal {
             Refusal::BadSchema { .. } => 2,
             Refusal::BadSpec => 3,
             Refusal::NoColumn { .. } => 4,
-            Refusal::WrongKind { .. } => 5,
+            Refusal::WrongKind { .. } | Refusal::WrongKey { .. } => 5,
             Refusal::RowWidth { .. } => 6,
             Refusal::TextTooLong { .. } => 7,
             Refusal::NoRow { .. } => 8,
@@ -197,6 +202,12 @@ impl fmt::Display for Refusal {
                 };
                 write!(f, "column `{column}` holds {own}, not {other}")
             }
+            Refusal::WrongKey { column: None } => {
+                f.write_str("the aggregate has no key column: ask for Key::None")
+            }
+            Refusal::WrongKey {
+                column: Some(column),
+            } => write!(f, "the aggregate has a line for each key of column `{column}`, and none without"),
             Refusal::RowWidth { cells, columns } => {
                 write!(
                     f,

@@ -291,8 +291,14 @@ fn one_key_is_asked() -> Outcome {
     let line = table.ask_key(ends, "a")?.unwrap();
     assert_eq!((line.min, line.max), (-2, 5));
     assert_eq!(table.ask_key(ends, "c")?, None);
-    assert_eq!(table.ask_key(by_text, 5)?, None);
-    assert_eq!(table.ask_key(by_text, Key::None)?, None);
+    let said = |refusal: Refusal| (refusal.number(), refusal.to_string());
+    let kind = "column `t` holds texts, not numbers";
+    assert_eq!(said(refusal(table.ask_key(by_text, 5))), (5, kind.into()));
+    let needed = "the aggregate has a line for each key of column `t`, and none without";
+    let refused = refusal(table.ask_key(by_text, Key::None));
+    assert_eq!(said(refused), (5, needed.into()));
+    let keyless = "the aggregate has no key column: ask for Key::None";
+    assert_eq!(said(refusal(table.ask_key(total, "a"))), (5, keyless.into()));
     let line = table.ask_key(total, Key::None)?.unwrap();
     assert_eq!((line.count, line.sum), (3, 10));
     assert_eq!(table.ask_key(none, Key::None)?, None);

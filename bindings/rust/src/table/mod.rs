@@ -105,6 +105,8 @@ pub struct Table<E: Engine = Files> {
 #[derive(Debug)]
 struct Watched {
     stamp: u64,
+    /// What its keys are, if it has a key column.
+    key: Option<Kind>,
     spec: Resolved,
 }
 
