@@ -220,8 +220,9 @@ pub(crate) mod sealed {
             if *self < schema.len() {
                 return Ok(*self as u32);
             }
-            Err(Refusal::NoColumn {
-                column: self.to_string().into(),
+            Err(Refusal::NoColumnAt {
+                index: *self,
+                columns: schema.len(),
             })
         }
     }

@@ -368,10 +368,17 @@ pub(crate) struct Resolved {
 }
 
 impl<A: sealed::Numbered> Spec<A> {
-    /// Finds the columns. Refused with the first of `BadSpec`, `NoColumn` and `WrongKind` that applies.
+    /// Finds the columns. Refused with the first of `BadSpec`, `NoColumn`, and `WrongKind` or `WrongOp`, that applies.
     pub(crate) fn resolve(&self, schema: &Schema) -> Result<Resolved, Refusal> {
-        if self.tests.len() > 4 || self.tests.iter().any(Test::is_too_long) {
-            return Err(Refusal::BadSpec);
+        let rules = [
+            (self.tests.len() <= 4, "it has at most 4 tests"),
+            (
+                !self.tests.iter().any(Test::is_too_long),
+                "a text constant has at most 4,096 bytes",
+            ),
+        ];
+        if let Some((_, rule)) = rules.iter().find(|(holds, _)| !holds) {
+            return Err(Refusal::BadSpec { rule });
         }
         let find = |column: &Arc<str>| (&**column).index_in(schema);
         let value = find(&self.value)?;
@@ -382,8 +389,7 @@ impl<A: sealed::Numbered> Spec<A> {
             return Err(schema.wrong_kind(value));
         }
         let raw = |(test, column): (&Test, u32)| {
-            let op = test.code(schema.kind_at(column as usize));
-            let op = op.ok_or_else(|| schema.wrong_kind(column))?;
+            let op = test.code(schema, column)?;
             Ok((column, op, test.constant.clone()))
         };
         let tests = self.tests.iter().zip(columns).map(raw);
@@ -401,20 +407,29 @@ impl Test {
         matches!(&self.constant, Constant::Text(text) if text.len() > 4_096)
     }
 
-    // The number of the comparison, if column, comparison and constant are of one kind.
-    fn code(&self, kind: Option<Kind>) -> Option<u32> {
-        let (own, code) = match (self.op, &self.constant) {
-            (Op::Eq | Op::Is, Constant::Int(_)) => (Kind::Int, 0),
-            (Op::Ne, Constant::Int(_)) => (Kind::Int, 1),
-            (Op::Lt, Constant::Int(_)) => (Kind::Int, 2),
-            (Op::Le, Constant::Int(_)) => (Kind::Int, 3),
-            (Op::Gt, Constant::Int(_)) => (Kind::Int, 4),
-            (Op::Ge, Constant::Int(_)) => (Kind::Int, 5),
-            (Op::Eq | Op::Is, Constant::Text(_)) => (Kind::Text, 6),
-            (Op::Begins, Constant::Text(_)) => (Kind::Text, 7),
-            _ => return None,
+    // The number of the comparison. Refused if column, comparison and constant are not of one kind.
+    fn code(&self, schema: &Schema, column: u32) -> Result<u32, Refusal> {
+        let kind = match self.constant {
+            Constant::Int(_) => Kind::Int,
+            Constant::Text(_) => Kind::Text,
         };
-        (kind == Some(own)).then_some(code)
+        if schema.kind_at(column as usize) != Some(kind) {
+            return Err(schema.wrong_kind(column));
+        }
+        match (self.op, kind) {
+            (Op::Eq | Op::Is, Kind::Int) => Ok(0),
+            (Op::Ne, Kind::Int) => Ok(1),
+            (Op::Lt, Kind::Int) => Ok(2),
+            (Op::Le, Kind::Int) => Ok(3),
+            (Op::Gt, Kind::Int) => Ok(4),
+            (Op::Ge, Kind::Int) => Ok(5),
+            (Op::Eq | Op::Is, Kind::Text) => Ok(6),
+            (Op::Begins, Kind::Text) => Ok(7),
+            (op, kind) => {
+                let column = schema.label(column);
+                Err(Refusal::WrongOp { column, op, kind })
+            }
+        }
     }
 }
 

@@ -2,8 +2,8 @@
 //! of the repository.
 
 use fullercoral::{
-    Cell, Engine, Error, Key, Kind, Limits, Memory, Op, Policy, Refusal, Schema, Table, TotalsLine,
-    extrema, row, totals,
+    Cell, Column, Engine, Error, Key, Kind, Limits, Memory, Op, Policy, Refusal, Schema, Table,
+    Totals, TotalsLine, extrema, row, totals,
 };
 
 type Outcome = Result<(), Box<dyn std::error::Error>>;
@@ -169,7 +169,10 @@ fn an_object_goes_away_and_comes_back() -> Outcome {
     assert_eq!(refusal(table.evict(0, 0)).number(), 16);
     assert_eq!(sum(&mut table, total), (1, 5));
     table.fetch(0, 0)?;
-    assert_eq!(refusal(table.fetch(0, 0)), Refusal::StaleJob);
+    let (column, group) = ("n".into(), 0);
+    let local = Refusal::IsLocal { column, group };
+    assert_eq!(local.to_string(), "row group 0 of column `n` is local already");
+    assert_eq!(refusal(table.fetch(0, 0)), local);
     table.set(0, 0, 6)?;
     assert_eq!(sum(&mut table, total), (1, 6));
     Ok(())
@@ -234,7 +237,9 @@ fn a_lent_part_marks_removed_rows() -> Outcome {
     );
     assert_eq!(piece.alive, [true, true, false]);
     assert!(table.ints("n", 2..2)?.next_piece()?.is_none());
-    assert_eq!(refusal(table.ints("n", 2..9)), Refusal::OutOfRange);
+    let said = refusal(table.ints("n", 2..9)).to_string();
+    assert_eq!(said, "the places 2..9 are not within 0..5");
+    assert_eq!(refusal(table.texts("t", ..=u32::MAX)).number(), 14);
     assert_eq!(
         refusal(table.ints("t", ..)),
         Refusal::WrongKind {
@@ -252,7 +257,8 @@ fn single_cells_and_lines_are_read() -> Outcome {
     table.remove(2)?;
     let read: Vec<_> = (0..3).map(|place| table.int("n", place)).collect();
     assert_eq!(read, [Ok(Some(5)), Ok(None), Ok(Some(7))]);
-    assert_eq!(refusal(table.int("n", 3)), Refusal::NoRow { place: 3 });
+    let (place, places) = (3, 3);
+    assert_eq!(refusal(table.int("n", 3)), Refusal::NoRow { place, places });
     let said = "column `t` holds texts, not numbers";
     assert_eq!(refusal(table.int("t", 0)).to_string(), said);
     table.evict("t", 0)?;
@@ -342,12 +348,17 @@ fn what_a_refusal_says() -> Outcome {
     );
     assert_eq!(
         refusal(table.set(2, 0, "a")).to_string(),
-        "there is no column `2`"
+        "there is no column with index 2 (the table has 2)"
     );
     assert_eq!(
-        refusal(table.set("sku", 1, "a")),
-        Refusal::NoRow { place: 1 }
+        refusal(table.set("sku", 1, "a")).to_string(),
+        "there is no place 1 (the table has 1)"
     );
+    let no_group = "there is no row group 77 (the table has 1)";
+    assert_eq!(refusal(table.evict("sku", 77)).to_string(), no_group);
+    assert_eq!(refusal(table.fetch("sku", 77)).to_string(), no_group);
+    assert_eq!(refusal(table.is_local("sku", 77)).to_string(), no_group);
+    assert_eq!(refusal(table.unpin("sku", 77)).to_string(), no_group);
     table.remove(0)?;
     assert_eq!(
         refusal(table.set("sku", 0, "a")).to_string(),
@@ -369,8 +380,53 @@ fn what_a_refused_registration_says() -> Outcome {
     );
     assert_eq!(refusal(table.watch(totals("sku"))).number(), 5);
     let five = (0..5).fold(totals("price"), |spec, n| spec.only("quantity", Op::Eq, n));
-    assert_eq!(refusal(table.watch(five)), Refusal::BadSpec);
+    let said = |result: Result<Totals, Error<_>>| refusal(result).to_string();
+    let tests = "no table has such an aggregate: it has at most 4 tests";
+    assert_eq!(said(table.watch(five)), tests);
+    let long = totals("quantity").only("sku", Op::Is, "x".repeat(4_097));
+    let constant = "no table has such an aggregate: a text constant has at most 4,096 bytes";
+    assert_eq!(said(table.watch(long)), constant);
+    let greater = totals("quantity").only("sku", Op::Gt, "a");
+    let op = "`Gt` compares numbers: column `sku` holds texts, for which there are Eq, Is and Begins";
+    assert_eq!(said(table.watch(greater)), op);
+    table.set_policy(Policy::Manual);
+    table.insert(row!["rye", 3])?;
+    let total = table.watch(totals("quantity"))?;
+    let pending = "1 row groups are pending in the aggregate: call scan or build";
+    assert_eq!(refusal(table.ask(total)).to_string(), pending);
+    let no_group = refusal(table.scan(total, 1)).to_string();
+    assert_eq!(no_group, "there is no row group 1 (the table has 1)");
     Ok(())
+}
+
+#[test]
+fn refused_columns_name_the_column_and_the_row() {
+    let mut table = table(Schema::new().text("sku").int("quantity"));
+    let mut said = |offsets: &[u64], bytes: &[u8], quantities: Column<'_>| {
+        let columns = [Column::texts(offsets, bytes), quantities];
+        refusal(table.extend_columns(&columns)).to_string()
+    };
+    let three = Column::ints(&[1, 2, 3]);
+    assert_eq!(
+        said(&[0, 1, 2], b"ab", three),
+        "column `quantity` is not as it should be at row 2: all columns have one length"
+    );
+    assert_eq!(
+        said(&[], b"", Column::ints(&[])),
+        "column `sku` is not as it should be at row 0: there is one offset more than texts"
+    );
+    assert_eq!(
+        said(&[0, 1, 2, 3], b"abc", three.valid(&[])),
+        "column `quantity` is not as it should be at row 0: there is a bit for each row"
+    );
+    assert_eq!(
+        said(&[0, 1, 2, 9], b"abc", three),
+        "column `sku` is not as it should be at row 2: offsets ascend, up to the length of the bytes"
+    );
+    assert_eq!(
+        said(&[0, 1, 2, 3], b"a\xffc", three),
+        "the text for column `sku` at row 1 is no UTF-8"
+    );
 }
 
 #[test]

@@ -32,6 +32,7 @@ impl<E: Engine> Table<E> {
     /// # Errors
     /// - `BadSpec`: there are more than 4 tests, or a text constant of more than 4,096 bytes.
     /// - `NoColumn`, `WrongKind`: a column does not exist, or is not of the kind that it should be.
+    /// - `WrongOp`: a comparison is not one of numbers, or of texts.
     /// - `TooManyAggregates`, `NoMemory`.
     #[doc(alias("aggregate", "group_by"))]
     pub fn watch<A: Aggregate>(&mut self, spec: Spec<A>) -> Result<A, Error<E::Error>> {

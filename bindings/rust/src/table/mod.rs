@@ -122,6 +122,7 @@ enum Given<'a> {
         place: u32,
     },
     Place(u32),
+    Group(u32),
 }
 
 /// Why a step did not happen: the library's code, or an error that is complete already.
@@ -299,7 +300,7 @@ impl<E: Engine> Table<E> {
         self.places().div_ceil(self.limits.group)
     }
 
-    /// Whether an object is local. Refused with `NoColumn` and `OutOfRange`.
+    /// Whether an object is local.
     ///
     /// ```
     /// # use fullercoral::{Limits, Memory, Schema, Table, row};
@@ -311,7 +312,7 @@ impl<E: Engine> Table<E> {
     /// ```
     ///
     /// # Errors
-    /// `NoColumn`, and `OutOfRange` if there is no such row group.
+    /// `NoColumn`, and `NoGroup` if there is no such row group.
     pub fn is_local(
         &mut self,
         column: impl ColumnRef,
@@ -319,7 +320,8 @@ impl<E: Engine> Table<E> {
     ) -> Result<bool, Error<E::Error>> {
         let column = column.index_in(&self.schema)?;
         let object = self.library.object(column, group);
-        self.outcome(object).map(|object| object.local)
+        self.outcome_of(Given::Group(group), object)
+            .map(|object| object.local)
     }
 
     /// What the table did since it was opened, and how full its local region is.
@@ -384,11 +386,16 @@ impl<E: Engine> Table<E> {
             (7, Given::Row(row)) => Refusal::TextTooLong {
                 column: self.too_long_in(row),
             },
-            (7, Given::RowOf(columns, row)) => Refusal::TextTooLong {
-                column: self.too_long_at(columns, row),
+            (7 | 102 | 103, Given::RowOf(columns, row)) => self.refused_row(code, columns, row),
+            (8, Given::Place(place) | Given::Cell { place, .. }) => Refusal::NoRow {
+                place,
+                places: self.places(),
             },
-            (8, Given::Place(place) | Given::Cell { place, .. }) => Refusal::NoRow { place },
             (9, Given::Place(place) | Given::Cell { place, .. }) => Refusal::RemovedRow { place },
+            (14, Given::Group(group)) => Refusal::NoGroup {
+                group,
+                groups: self.groups(),
+            },
             (code, _) => Refusal::of_code(code),
         };
         refusal.into()
@@ -399,8 +406,17 @@ impl<E: Engine> Table<E> {
         &mut self,
         result: Result<T, impl Into<Failure<E::Error>>>,
     ) -> Result<T, Error<E::Error>> {
+        self.outcome_of(Given::Nothing, result)
+    }
+
+    // The outcome of a step that was given this.
+    fn outcome_of<T>(
+        &mut self,
+        given: Given<'_>,
+        result: Result<T, impl Into<Failure<E::Error>>>,
+    ) -> Result<T, Error<E::Error>> {
         result.map_err(|failure| match failure.into() {
-            Failure::Code(code) => self.refused(code, Given::Nothing),
+            Failure::Code(code) => self.refused(code, given),
             Failure::Error(error) => error,
         })
     }
@@ -420,10 +436,24 @@ impl<E: Engine> Table<E> {
             .label(row.iter().position(long).unwrap_or(0) as u32)
     }
 
-    fn too_long_at(&self, columns: &[Column<'_>], row: usize) -> Arc<str> {
-        let long = |column: &Column<'_>| column.text_len(row) > 4_096;
-        self.schema
-            .label(columns.iter().position(long).unwrap_or(0) as u32)
+    // Why a row of columns of rows is refused, with the column that is at fault.
+    fn refused_row(&self, Code(code): Code, columns: &[Column<'_>], row: usize) -> Refusal {
+        let is_at_fault = |column: &Column<'_>| match code {
+            7 => column.text_len(row) > 4_096,
+            102 => column.has_no_utf8(row),
+            _ => column.has_bad_offsets(row),
+        };
+        let index = columns.iter().position(is_at_fault).unwrap_or(0);
+        let column = self.schema.label(index as u32);
+        match code {
+            7 => Refusal::TextTooLong { column },
+            102 => Refusal::NoUtf8 { column, row },
+            _ => Refusal::BadArgument {
+                column,
+                row,
+                rule: "offsets ascend, up to the length of the bytes",
+            },
+        }
     }
 }
 

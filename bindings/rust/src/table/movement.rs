@@ -1,7 +1,7 @@
 //! Objects that are evicted and fetched in one call.
 
 use super::copies::Copy;
-use super::{Failure, Table};
+use super::{Failure, Given, Table};
 use crate::library::{Code, Coded};
 use crate::sys::{FC_FAR_FAULT, FC_FAR_FULL, FC_REGION_FULL, FC_STALE_JOB};
 use crate::{ColumnRef, Engine, Error, Kind, Policy, Refusal};
@@ -19,7 +19,7 @@ impl<E: Engine> Table<E> {
     /// ```
     ///
     /// # Errors
-    /// - `NoColumn`, `OutOfRange`: there is no such object.
+    /// - `NoColumn`, `NoGroup`: there is no such object.
     /// - `Absent`: it is away already.
     /// - `Pinned`: it has a pin.
     /// - `FarFull`: the numbers of contents are used up.
@@ -30,10 +30,10 @@ impl<E: Engine> Table<E> {
         self.give_up_abandoned();
         match self.try_evict(column, group) {
             Err(Failure::Code(Code(FC_FAR_FULL))) => self.renew()?,
-            result => return self.outcome(result),
+            evicted => return self.outcome_of(Given::Group(group), evicted),
         }
         let evicted = self.try_evict(column, group);
-        self.outcome(evicted)
+        self.outcome_of(Given::Group(group), evicted)
     }
 
     fn try_evict(&mut self, column: u32, group: u32) -> Result<(), Failure<E::Error>> {
@@ -144,8 +144,8 @@ impl<E: Engine> Table<E> {
     /// ```
     ///
     /// # Errors
-    /// - `NoColumn`, `OutOfRange`: there is no such object.
-    /// - `StaleJob`: it is local.
+    /// - `NoColumn`, `NoGroup`: there is no such object.
+    /// - `IsLocal`: it is local.
     /// - `RegionFull`: there is no local memory for it.
     /// - `FarFault`: the engine returned other bytes than were put. The object stays away, and another
     ///   fetch may follow.
@@ -160,14 +160,27 @@ impl<E: Engine> Table<E> {
         self.give_up_abandoned();
         loop {
             let migrations = self.stats.migrations;
-            let job = self.library.begin_fetch(column, group);
-            let job = self.outcome(job)?;
+            let job = self.begin_fetch_of(column, group)?;
             match self.work(job, |table| table.end_fetch(job, column, group)) {
                 // An eviction that made space for it went on with new numbers, so all jobs are over. It
                 // begins again, with the space that was made.
                 Err(Failure::Code(Code(FC_STALE_JOB))) if self.stats.migrations > migrations => {}
                 ended => return self.outcome(ended),
             }
+        }
+    }
+
+    pub(super) fn begin_fetch_of(
+        &mut self,
+        column: u32,
+        group: u32,
+    ) -> Result<u64, Error<E::Error>> {
+        match self.library.begin_fetch(column, group) {
+            Err(Code(FC_STALE_JOB)) => {
+                let column = self.schema.label(column);
+                Err(Refusal::IsLocal { column, group }.into())
+            }
+            begun => self.outcome_of(Given::Group(group), begun),
         }
     }
 

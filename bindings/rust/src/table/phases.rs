@@ -1,6 +1,6 @@
 //! Movement in phases, between which any other call may come.
 
-use super::Table;
+use super::{Given, Table};
 use super::copies::Copy;
 use super::jobs::{Incoming, Job, Outgoing, Stored, Target, Wanted};
 use crate::library::Code;
@@ -23,7 +23,7 @@ impl<E: Engine> Table<E> {
     /// ```
     ///
     /// # Errors
-    /// - `NoColumn`, `OutOfRange`: there is no such object.
+    /// - `NoColumn`, `NoGroup`: there is no such object.
     /// - `Absent`: it is away already.
     /// - `FarFull`: the numbers of contents are used up.
     /// - `EditsUsedUp`, `NoMemory`.
@@ -36,10 +36,10 @@ impl<E: Engine> Table<E> {
         self.give_up_abandoned();
         match self.outgoing_of(column, group) {
             Err(Code(FC_FAR_FULL)) => self.renew()?,
-            begun => return self.outcome(begun),
+            begun => return self.outcome_of(Given::Group(group), begun),
         }
         let begun = self.outgoing_of(column, group);
-        self.outcome(begun)
+        self.outcome_of(Given::Group(group), begun)
     }
 
     /// Begins to evict the coldest object without a pin. None if there is no such object.
@@ -129,8 +129,8 @@ impl<E: Engine> Table<E> {
     /// ```
     ///
     /// # Errors
-    /// - `NoColumn`, `OutOfRange`: there is no such object.
-    /// - `StaleJob`: it is local.
+    /// - `NoColumn`, `NoGroup`: there is no such object.
+    /// - `IsLocal`: it is local.
     /// - `EditsUsedUp`, `NoMemory`.
     pub fn begin_fetch(
         &mut self,
@@ -139,8 +139,7 @@ impl<E: Engine> Table<E> {
     ) -> Result<Incoming, Error<E::Error>> {
         let column = column.index_in(&self.schema)?;
         self.give_up_abandoned();
-        let number = self.library.begin_fetch(column, group);
-        let number = self.outcome(number)?;
+        let number = self.begin_fetch_of(column, group)?;
         let job = Job::new(number, column, group, &self.abandoned);
         let copy = self.copies.get(column, group).ok_or(Refusal::StaleJob)?;
         let target = Target::Object { column, group };
@@ -165,7 +164,7 @@ impl<E: Engine> Table<E> {
     /// ```
     ///
     /// # Errors
-    /// - `NoAggregate`, `OutOfRange`: there is no such aggregate or row group.
+    /// - `NoAggregate`, `NoGroup`: there is no such aggregate or row group.
     /// - `StaleJob`: the row group is not pending, or a column that the aggregate needs has no far copy as
     ///   it is now.
     /// - `EditsUsedUp`, `NoMemory`.
@@ -177,7 +176,7 @@ impl<E: Engine> Table<E> {
         let aggregate = self.number_of(aggregate.id())?;
         self.give_up_abandoned();
         let number = self.library.begin_offload(aggregate, group);
-        let number = self.outcome(number)?;
+        let number = self.outcome_of(Given::Group(group), number)?;
         let column = self.columns_of(aggregate).first().copied().unwrap_or(0);
         let job = Job::new(number, column, group, &self.abandoned);
         self.incoming(job, Target::Aggregate, |table, content| {

@@ -20,7 +20,7 @@ impl<E: Engine> Table<E> {
     /// ```
     ///
     /// # Errors
-    /// - `NoColumn`, `OutOfRange`: there is no such object.
+    /// - `NoColumn`, `NoGroup`: there is no such object.
     /// - `Absent`: by [`Policy::Manual`](crate::Policy::Manual), it is away.
     /// - `RegionFull`: by an automatic policy, it has to be fetched, and pins leave no space for it.
     /// - `EditsUsedUp`: it has 65,535 pins.
@@ -30,7 +30,7 @@ impl<E: Engine> Table<E> {
         group: u32,
     ) -> Result<Pinned<'_, E>, Error<E::Error>> {
         let column = column.index_in(&self.schema)?;
-        self.persist(Given::Nothing, |library| library.pin(column, group))?;
+        self.persist(Given::Group(group), |library| library.pin(column, group))?;
         Ok(Pinned {
             table: self,
             column,
@@ -52,11 +52,11 @@ impl<E: Engine> Table<E> {
     /// ```
     ///
     /// # Errors
-    /// `NoColumn`, `OutOfRange`, and `NotPinned` if it has no pin.
+    /// `NoColumn`, `NoGroup`, and `NotPinned` if it has no pin.
     pub fn unpin(&mut self, column: impl ColumnRef, group: u32) -> Result<(), Error<E::Error>> {
         let column = column.index_in(&self.schema)?;
         let unpinned = self.library.unpin(column, group);
-        self.outcome(unpinned)
+        self.outcome_of(Given::Group(group), unpinned)
     }
 }
 
