@@ -24,7 +24,7 @@ use crate::Refusal;
 ///
 /// let mut table = Table::open(Schema::new().int("price"), Limits::new(), Memory::new())?;
 /// match table.remove(7) {
-///     Err(Error::Refused(Refusal::NoRow { place })) => assert_eq!(place, 7),
+///     Err(Error::Refused(Refusal::NoRow { place, places })) => assert_eq!((place, places), (7, 0)),
 ///     other => panic!("{other:?}"),
 /// }
 /// # Ok::<(), Box<dyn std::error::Error>>(())

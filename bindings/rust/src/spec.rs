@@ -107,6 +107,7 @@ pub trait Aggregate: Copy + sealed::Numbered {
 /// # Ok::<(), Box<dyn std::error::Error>>(())
 /// ```
 #[derive(Debug, Clone, Copy, PartialEq, Eq, Hash)]
+#[must_use = "an aggregate that nobody has a handle of can be neither asked nor forgotten"]
 pub struct Totals(pub(crate) Id);
 
 /// An aggregate of least and greatest values. [`Table::watch`](crate::Table::watch) returns it.
@@ -122,6 +123,7 @@ pub struct Totals(pub(crate) Id);
 /// # Ok::<(), Box<dyn std::error::Error>>(())
 /// ```
 #[derive(Debug, Clone, Copy, PartialEq, Eq, Hash)]
+#[must_use = "an aggregate that nobody has a handle of can be neither asked nor forgotten"]
 pub struct Extrema(pub(crate) Id);
 
 /// Which aggregate it is: its number in the table, and a stamp that no two registrations share, so

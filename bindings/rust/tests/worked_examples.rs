@@ -502,9 +502,9 @@ fn handles_of_other_tables_and_forgotten_ones_are_refused() -> Outcome {
     let third = one.watch(totals("n"))?;
     assert_eq!(refusal(one.ask(first)), Refusal::NoAggregate);
     assert_eq!(sum(&mut one, third), (0, 0));
-    for _ in 1..32 {
-        one.watch(totals("n"))?;
-    }
+    let others = (1..32).map(|_| one.watch(totals("n")));
+    let others = others.collect::<Result<Vec<Totals>, _>>()?;
+    assert_eq!(others.len(), 31);
     assert_eq!(refusal(one.watch(totals("n"))), Refusal::TooManyAggregates);
     Ok(())
 }

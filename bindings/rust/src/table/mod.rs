@@ -215,6 +215,7 @@ impl<E: Engine> Table<E> {
     /// assert!(table.engine().is_empty());
     /// # Ok::<(), Box<dyn std::error::Error>>(())
     /// ```
+    #[must_use]
     pub fn engine(&self) -> &E {
         &self.engine
     }
@@ -267,6 +268,7 @@ impl<E: Engine> Table<E> {
     /// assert_eq!(table.places(), 1);
     /// # Ok::<(), Box<dyn std::error::Error>>(())
     /// ```
+    #[must_use]
     #[doc(alias = "len")]
     pub fn places(&mut self) -> u32 {
         self.library.places()
@@ -296,6 +298,7 @@ impl<E: Engine> Table<E> {
     /// assert_eq!(table.groups(), 3);
     /// # Ok::<(), Box<dyn std::error::Error>>(())
     /// ```
+    #[must_use]
     pub fn groups(&mut self) -> u32 {
         self.places().div_ceil(self.limits.group)
     }
@@ -332,6 +335,7 @@ impl<E: Engine> Table<E> {
     /// assert_eq!(table.stats().evictions, 0);
     /// # Ok::<(), Box<dyn std::error::Error>>(())
     /// ```
+    #[must_use]
     pub fn stats(&mut self) -> Stats {
         let mut stats = self.stats;
         stats.faults = self.library.faults();
@@ -354,6 +358,7 @@ impl<E: Engine> Table<E> {
     /// assert!(table.into_engine().is_empty());
     /// # Ok::<(), Box<dyn std::error::Error>>(())
     /// ```
+    #[must_use]
     #[doc(alias = "close")]
     pub fn into_engine(self) -> E {
         self.engine
