@@ -176,7 +176,8 @@ impl Schema {
 
 /// What names a column in a call: its name, or its index in the schema, which saves the search.
 ///
-/// Implemented for `&str`, `&String` and `usize`.
+/// Implemented for `usize`, and for names as `&str`, `&&str`, `String`, `&String`, `Arc<str>` and
+/// `&Arc<str>`. The trait is sealed: no other type can implement it.
 ///
 /// ```
 /// # use fullercoral::{Limits, Memory, Schema, Table, row};
@@ -184,16 +185,23 @@ impl Schema {
 /// # table.insert(row![5])?;
 /// table.set("price", 0, 6)?;
 /// table.set(0, 0, 7)?;
+/// for column in ["price"].iter() {
+///     assert!(table.is_local(column, 0)?);
+/// }
 /// # Ok::<(), Box<dyn std::error::Error>>(())
 /// ```
 pub trait ColumnRef: sealed::Find {}
 
-impl ColumnRef for &str {}
-impl ColumnRef for &String {}
 impl ColumnRef for usize {}
+impl ColumnRef for &str {}
+impl ColumnRef for &&str {}
+impl ColumnRef for String {}
+impl ColumnRef for &String {}
+impl ColumnRef for Arc<str> {}
+impl ColumnRef for &Arc<str> {}
 
 pub(crate) mod sealed {
-    use super::{Refusal, Schema};
+    use super::{Arc, Refusal, Schema};
 
     /// Finds a column in a schema.
     pub trait Find {
@@ -209,11 +217,18 @@ pub(crate) mod sealed {
         }
     }
 
-    impl Find for &String {
-        fn index_in(&self, schema: &Schema) -> Result<u32, Refusal> {
-            self.as_str().index_in(schema)
-        }
+    macro_rules! find_by_name {
+        ($($name:ty),*) => { $(
+            impl Find for $name {
+                fn index_in(&self, schema: &Schema) -> Result<u32, Refusal> {
+                    let name: &str = self;
+                    name.index_in(schema)
+                }
+            }
+        )* };
     }
+
+    find_by_name!(&&str, String, &String, Arc<str>, &Arc<str>);
 
     impl Find for usize {
         fn index_in(&self, schema: &Schema) -> Result<u32, Refusal> {

@@ -2,6 +2,7 @@ use std::fmt;
 use std::marker::PhantomData;
 use std::sync::Arc;
 
+use crate::cell::from_number;
 use crate::schema::sealed::Find;
 use crate::sys::{FC_EXTREMA, FC_TOTALS, fc_bytes, fc_cell, fc_test};
 use crate::{Cell, Kind, Refusal, Schema};
@@ -37,13 +38,14 @@ pub enum Op {
     Begins,
 }
 
-/// The constant of a test, made of an `i64` (so `i64::from` of a smaller number), a `&str`, or a `String`
-/// or a reference to one.
+/// The constant of a test, made of a whole number that fits 64 bits signed, of a `&str`, or of a `String`
+/// or a reference to one. A number beyond 32 bits that is written out needs its type.
 ///
 /// ```
 /// use fullercoral::Constant;
 ///
 /// assert_eq!(Constant::from(5), Constant::Int(5));
+/// assert_eq!(Constant::from(5_000_000_000_i64), Constant::Int(5_000_000_000));
 /// assert_eq!(Constant::from(String::from("rye")), Constant::from("rye"));
 /// ```
 #[derive(Debug, Clone, PartialEq, Eq, Hash)]
@@ -54,11 +56,7 @@ pub enum Constant {
     Text(Box<str>),
 }
 
-impl From<i64> for Constant {
-    fn from(number: i64) -> Constant {
-        Constant::Int(number)
-    }
-}
+from_number!(Constant);
 
 impl From<&str> for Constant {
     fn from(text: &str) -> Constant {
@@ -142,7 +140,8 @@ impl Aggregate for Extrema {
     type Line<'a> = ExtremaLine<'a>;
 }
 
-/// What stands before a line of an answer: the key, if the aggregate has a key column.
+/// What stands before a line of an answer: the key, if the aggregate has a key column. It is made of a
+/// whole number that fits 64 bits signed, or of a borrowed text.
 ///
 /// ```
 /// use fullercoral::{Key, Limits, Memory, Schema, Table, row, totals};
@@ -204,11 +203,7 @@ impl<'a> Key<'a> {
     }
 }
 
-impl From<i64> for Key<'_> {
-    fn from(number: i64) -> Self {
-        Key::Int(number)
-    }
-}
+from_number!(Key<'_>);
 
 impl<'a> From<&'a str> for Key<'a> {
     fn from(text: &'a str) -> Self {

@@ -1,6 +1,8 @@
 //! The worked examples of the script language, through the crate: the replies are those of `examples/`
 //! of the repository.
 
+use std::sync::Arc;
+
 use fullercoral::{
     Cell, Column, Engine, Error, Key, Kind, Limits, Memory, Op, Policy, Refusal, Schema, Table,
     Totals, TotalsLine, extrema, row, totals,
@@ -310,6 +312,23 @@ fn one_key_is_asked() -> Outcome {
     assert_eq!(table.ask_key(none, Key::None)?, None);
     table.unwatch(ends)?;
     assert_eq!(refusal(table.ask_key(ends, "a")), Refusal::NoAggregate);
+    Ok(())
+}
+
+#[test]
+fn columns_keys_and_constants_come_as_programs_have_them() -> Outcome {
+    let mut table = table(Schema::new().int("n").int("m"));
+    table.extend([row![5, 1], row![7, 2]])?;
+    let names: Vec<Arc<str>> = vec!["n".into(), "m".into()];
+    for (name, owned) in names.iter().zip(["n".to_owned(), "m".to_owned()]) {
+        assert!(table.is_local(name, 0)? && table.is_local(Arc::clone(name), 0)?);
+        assert!(table.is_local(&&*owned, 0)? && table.is_local(owned, 0)?);
+    }
+    for (least, key) in [(6_i32, 2_u8), (0, 1)] {
+        let above = table.watch(totals("n").by("m").only("n", Op::Gt, least))?;
+        let line = table.ask_key(above, key)?.unwrap();
+        assert_eq!((line.key, line.count), (Key::from(&key), 1));
+    }
     Ok(())
 }
 

@@ -195,12 +195,17 @@ impl<E: Engine> Table<E> {
         })
     }
 
-    /// The columns.
+    /// The columns. A clone of it, which copies no name, can be used beside calls of the table.
     ///
     /// ```
-    /// # use fullercoral::{Limits, Memory, Schema, Table};
-    /// let table = Table::open(Schema::new().int("price"), Limits::new(), Memory::new())?;
+    /// # use fullercoral::{Cell, Limits, Memory, Schema, Table, row};
+    /// let mut table = Table::open(Schema::new().int("price"), Limits::new(), Memory::new())?;
     /// assert_eq!(table.schema().name(0), Some("price"));
+    /// table.insert(row![5])?;
+    /// let schema = table.schema().clone();
+    /// for (name, _) in schema.iter() {
+    ///     table.set(name, 0, Cell::Missing)?;
+    /// }
     /// # Ok::<(), Box<dyn std::error::Error>>(())
     /// ```
     pub fn schema(&self) -> &Schema {
