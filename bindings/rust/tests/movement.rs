@@ -179,6 +179,24 @@ fn a_fault_names_the_column_and_the_row_group() -> Outcome {
 }
 
 #[test]
+fn a_job_prints_no_bytes() -> Outcome {
+    let mut table = Table::open(numbers(), Limits::new().group(8), Memory::new())?;
+    table.extend((0..8).map(|n| row![n, n]))?;
+    let outgoing = table.begin_evict("m", 0)?;
+    let len = outgoing.content().map_or(0, |(_, bytes)| bytes.len());
+    let said = format!("{{ column: 1, group: 0, number: Some(0), len: Some({len}) }}");
+    assert_eq!(format!("{outgoing:?}"), format!("Outgoing {said}"));
+    let stored = outgoing.put(table.engine_mut())?;
+    assert_eq!(format!("{stored:?}"), format!("Stored {said}"));
+    table.commit(stored)?;
+    let mut incoming = table.begin_fetch("m", 0)?;
+    incoming.get(table.engine_mut())?;
+    let said = format!("{incoming:?}");
+    assert!(said.ends_with(&format!("contents: [(0, {len})] }}")), "{said}");
+    Ok(())
+}
+
+#[test]
 fn a_dropped_job_is_given_up() -> Outcome {
     let mut table = Table::open(numbers(), Limits::new().group(8), Memory::new())?;
     table.extend((0..8).map(|n| row![n, n]))?;

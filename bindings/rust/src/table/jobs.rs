@@ -1,3 +1,4 @@
+use std::fmt;
 use std::sync::{Arc, Mutex, PoisonError};
 
 use super::copies::Copy;
@@ -49,11 +50,23 @@ impl Abandoned {
 /// table.commit(outgoing)?;
 /// # Ok::<(), Box<dyn std::error::Error>>(())
 /// ```
-#[derive(Debug)]
 #[must_use]
 pub struct Outgoing {
     pub(crate) job: Job,
     pub(crate) content: Option<(u64, Vec<u8>)>,
+}
+
+/// It has the number and the length of the content.
+impl fmt::Debug for Outgoing {
+    fn fmt(&self, f: &mut fmt::Formatter<'_>) -> fmt::Result {
+        let content = self.content();
+        f.debug_struct("Outgoing")
+            .field("column", &self.job.column)
+            .field("group", &self.job.group)
+            .field("number", &content.map(|(number, _)| number))
+            .field("len", &content.map(|(_, bytes)| bytes.len()))
+            .finish()
+    }
 }
 
 /// An object that is about to be evicted, whose bytes the engine has.
@@ -71,12 +84,23 @@ pub struct Outgoing {
 /// assert!(!table.is_local("price", 0)?);
 /// # Ok::<(), Box<dyn std::error::Error>>(())
 /// ```
-#[derive(Debug)]
 #[must_use]
 pub struct Stored {
     pub(crate) job: Job,
     /// The copy that was put, unless the engine had it already.
     pub(crate) copy: Option<Copy>,
+}
+
+/// As that of [`Outgoing`].
+impl fmt::Debug for Stored {
+    fn fmt(&self, f: &mut fmt::Formatter<'_>) -> fmt::Result {
+        f.debug_struct("Stored")
+            .field("column", &self.job.column)
+            .field("group", &self.job.group)
+            .field("number", &self.copy.map(|copy| copy.number))
+            .field("len", &self.copy.map(|copy| copy.len))
+            .finish()
+    }
 }
 
 impl Outgoing {
@@ -165,7 +189,6 @@ impl Outgoing {
 /// assert_eq!(table.stats().fetches, 1);
 /// # Ok::<(), Box<dyn std::error::Error>>(())
 /// ```
-#[derive(Debug)]
 #[must_use]
 pub struct Incoming {
     pub(crate) job: Job,
@@ -173,8 +196,19 @@ pub struct Incoming {
     pub(crate) target: Target,
 }
 
+/// It has the numbers of the contents, and how many bytes of each were got.
+impl fmt::Debug for Incoming {
+    fn fmt(&self, f: &mut fmt::Formatter<'_>) -> fmt::Result {
+        let got = |wanted: &Wanted| (wanted.copy.number, wanted.bytes.len());
+        let contents: Vec<(u64, usize)> = self.wanted.iter().map(got).collect();
+        f.debug_struct("Incoming")
+            .field("target", &self.target)
+            .field("contents", &contents)
+            .finish()
+    }
+}
+
 /// A content that a job wants.
-#[derive(Debug)]
 pub(crate) struct Wanted {
     /// Its number for the library.
     pub number: u64,
