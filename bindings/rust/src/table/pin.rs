@@ -4,8 +4,8 @@ use super::{Given, Table};
 use crate::{ColumnRef, Engine, Error};
 
 impl<E: Engine> Table<E> {
-    /// Pins an object: it stays local for as long as the guard lives. The guard stands for the table
-    /// meanwhile. By an automatic policy an object that is away is fetched first.
+    /// Pins an object: it stays local for as long as the guard lives, unless [`unpin`](Table::unpin) is
+    /// called through the guard. By an automatic policy an object that is away is fetched first.
     ///
     /// ```
     /// # use fullercoral::{Limits, Memory, Refusal, Schema, Table, row};
@@ -62,6 +62,11 @@ impl<E: Engine> Table<E> {
 
 /// A table with an object that is pinned. It leads to the table; when it is dropped, the pin goes.
 ///
+/// An object counts its pins, and does not know whose they are. So what is done to the table through
+/// the guard may end the pin: [`unpin`](Table::unpin) of the same object removes a pin, and the guard's drop
+/// another one, if there is one, also if that was [kept](Pinned::keep). And `std::mem::swap` of the table with
+/// another leaves the pin with the table that has it, and the guard's drop unpins the other.
+///
 /// ```
 /// # use fullercoral::{Limits, Memory, Schema, Table, row};
 /// let mut table = Table::open(Schema::new().int("price"), Limits::new(), Memory::new())?;
@@ -95,7 +100,7 @@ impl<E: Engine> Pinned<'_, E> {
 
 impl<E: Engine> Drop for Pinned<'_, E> {
     fn drop(&mut self) {
-        // Another call may have removed the pin: then there is nothing to do.
+        // A call of `unpin` may have removed the pin: then there is nothing to do.
         let _ = self.table.library.unpin(self.column, self.group);
     }
 }
