@@ -44,14 +44,16 @@ fn tables_and_jobs_go_from_thread_to_thread() -> Outcome {
 
 #[test]
 fn a_row_that_local_memory_cannot_hold_is_refused() -> Outcome {
-    // Two segments of a row group each: one is left for the second column, none for a second row group.
+    // Three segments of a row group each, one of which is pinned when a second row group needs all.
     for policy in [Policy::Manual, Policy::Demand, Policy::Prefetch] {
-        let limits = Limits::new().group(64).local_memory(2 * 64 * 16);
+        let limits = Limits::new().group(4).local_memory(3 * 4 * 16);
         let schema = numbers().int("o");
         let mut table = Table::open(schema, limits, Memory::new())?;
         table.set_policy(policy);
+        table.extend((0..4).map(|n| row![n, n, n]))?;
+        table.pin("n", 0)?.keep();
         assert_eq!(refusal(table.insert(row![1, 2, 3])), Refusal::RegionFull);
-        assert_eq!(table.places(), 0);
+        assert_eq!(table.places(), 4);
     }
     Ok(())
 }

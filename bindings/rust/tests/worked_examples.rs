@@ -471,6 +471,22 @@ fn a_refused_schema_or_limit_says_which_rule_it_breaks() {
     assert_eq!(rule(one(), Limits::new().places((1 << 24) + 1)), places);
     let edits = "a table takes 1 to 2^40 edits";
     assert_eq!(rule(one(), Limits::new().edits(0)), edits);
+    let contents = "there is a number for one content at least";
+    assert_eq!(rule(one(), Limits::new().contents(0)), contents);
+    let group = "the local memory for numbers holds a row group of each of their columns";
+    assert_eq!(rule(one(), Limits::new().local_memory(0)), group);
+    let few = Limits::new().local_memory(1 << 10).group(65_536);
+    assert_eq!(rule(one(), few), group);
+    let few = Limits::new().local_memory(3 * 64 * 16 - 1).group(64);
+    assert_eq!(rule(one().int("b").int("c"), few), group);
+    let few = "the local memory for texts has 64 bytes or more";
+    let text = || Schema::new().text("a");
+    assert_eq!(rule(text(), Limits::new().local_memory(63)), few);
+    let most = Limits::new().local_memory((16 << 30) + 1);
+    let numbers = "the local memory for numbers has at most 16 GiB";
+    assert_eq!(rule(one(), most.clone()), numbers);
+    let texts = "the local memory for texts has at most 16 GiB";
+    assert_eq!(rule(text(), most), texts);
     let texts = "text_memory is a part of the local memory, and numbers have the rest";
     for bytes in [0, 64 << 20] {
         let limits = Limits::new().text_memory(bytes);
