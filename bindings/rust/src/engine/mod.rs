@@ -22,6 +22,11 @@ pub use retry::Retry;
 /// an answer wrong. If an engine panics, the table gives up what it was about to move: whoever catches
 /// the panic goes on with the table as after an error.
 ///
+/// One engine serves one table. Each table gives its contents the numbers 0, 1, 2, .., so two tables over one
+/// engine replace each other's contents, and fetches are refused with `FarFault`. That includes
+/// two tables over clones of one `Arc<Mutex<E>>`, over one `&mut E` in turn, and over clients that use the same
+/// keys of one server. Two [`Files`] in one folder, and two [`Resp`] with different prefixes, are two engines.
+///
 /// An engine over the `redis` crate, whole. The connection has a struct of its own, since an `impl` needs a
 /// trait or a type of its crate, and keys have a prefix that no other table has:
 ///
@@ -100,7 +105,8 @@ pub trait Engine {
     /// `std::error::Error` that `?` turns into a `Box<dyn Error>`, whichever engine it is.
     type Error: error::Error + 'static;
 
-    /// Keeps bytes under a number. A table gives each number once, from 0 on.
+    /// Keeps bytes under a number. A table gives each number once, from 0 on, so two tables must not share
+    /// one engine.
     fn put(&mut self, number: u64, bytes: &[u8]) -> Result<(), Self::Error>;
 
     /// Appends the bytes that were put under a number to `buffer`, which comes empty.
@@ -113,6 +119,8 @@ pub trait Engine {
     }
 }
 
+/// An engine that is lent to a table. The next table over it needs an engine without contents, since its
+/// numbers are the same.
 impl<E: Engine + ?Sized> Engine for &mut E {
     type Error = E::Error;
 
@@ -145,7 +153,8 @@ impl<E: Engine + ?Sized> Engine for Box<E> {
     }
 }
 
-/// An engine that a table shares with threads that move its objects. A panic of another thread does
+/// An engine that a table shares with threads that move its objects, and with no other table, since that
+/// has the same numbers. A panic of another thread does
 /// not spoil it: bytes that it left half written are refused as any wrong bytes are.
 impl<E: Engine + ?Sized> Engine for Arc<Mutex<E>> {
     type Error = E::Error;
