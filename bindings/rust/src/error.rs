@@ -30,6 +30,7 @@ use crate::Refusal;
 /// # Ok::<(), Box<dyn std::error::Error>>(())
 /// ```
 #[derive(Debug, Clone, PartialEq, Eq)]
+#[non_exhaustive]
 pub enum Error<E = io::Error> {
     /// The table refused the call.
     Refused(Refusal),

@@ -143,12 +143,14 @@ pub use error::Error;
 pub use limits::Limits;
 pub use policy::Policy;
 pub use refusal::Refusal;
-pub use schema::{ColumnRef, Kind, Schema};
+pub use schema::{ColumnRef, Kind, Schema, SchemaIter};
 pub use spec::{
     Aggregate, Constant, Extrema, ExtremaLine, Key, Op, Spec, Totals, TotalsLine, extrema, totals,
 };
 pub use stats::Stats;
-pub use table::{Incoming, IntPiece, Ints, Outgoing, Pinned, Row, Stored, Table, TextPiece, Texts};
+pub use table::{
+    Incoming, IntPiece, Ints, Outgoing, Pinned, Row, RowIter, Stored, Table, TextPiece, Texts,
+};
 
 // The examples of README.md are tested with those of the docs.
 #[cfg(doctest)]

@@ -246,7 +246,10 @@ impl fmt::Display for Refusal {
             Refusal::BadSchema { rule } => write!(f, "no table has such columns or limits: {rule}"),
             Refusal::BadSpec { rule } => write!(f, "no table has such an aggregate: {rule}"),
             Refusal::RowWidth { cells, columns } => {
-                write!(f, "the row has {cells} cells, and the table {columns} columns")
+                write!(
+                    f,
+                    "the row has {cells} cells, and the table {columns} columns"
+                )
             }
             Refusal::Building { pending } => write!(
                 f,
@@ -306,7 +309,10 @@ impl Refusal {
         match self {
             Refusal::NoColumn { column } => write!(f, "there is no column `{column}`"),
             Refusal::NoColumnAt { index, columns } => {
-                write!(f, "there is no column with index {index} (the table has {columns})")
+                write!(
+                    f,
+                    "there is no column with index {index} (the table has {columns})"
+                )
             }
             Refusal::WrongKind { column, kind } => {
                 let (own, other) = (of_kind(*kind), of_other_kind(*kind));
@@ -318,14 +324,20 @@ impl Refusal {
                     Kind::Int => "Eq, Ne, Lt, Le, Gt and Ge",
                     Kind::Text => "Eq, Is and Begins",
                 };
-                write!(f, "`{op:?}` compares {other}: column `{column}` holds {own}, for which there are {ops}")
+                write!(
+                    f,
+                    "`{op:?}` compares {other}: column `{column}` holds {own}, for which there are {ops}"
+                )
             }
             Refusal::WrongKey { column: None } => {
                 f.write_str("the aggregate has no key column: ask for Key::None")
             }
             Refusal::WrongKey {
                 column: Some(column),
-            } => write!(f, "the aggregate has a line for each key of column `{column}`, and none without"),
+            } => write!(
+                f,
+                "the aggregate has a line for each key of column `{column}`, and none without"
+            ),
             Refusal::TextTooLong { column } => {
                 write!(f, "the text for column `{column}` has more than 4096 bytes")
             }
@@ -333,7 +345,10 @@ impl Refusal {
                 write!(f, "the text for column `{column}` at row {row} is no UTF-8")
             }
             Refusal::BadArgument { column, row, rule } => {
-                write!(f, "column `{column}` is not as it should be at row {row}: {rule}")
+                write!(
+                    f,
+                    "column `{column}` is not as it should be at row {row}: {rule}"
+                )
             }
             plain => f.write_str(plain.sentence()),
         }

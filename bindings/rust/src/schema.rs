@@ -1,3 +1,4 @@
+use std::slice;
 use std::sync::Arc;
 
 use crate::Refusal;
@@ -139,8 +140,8 @@ impl Schema {
     ///     schema.iter().filter(|(_, kind)| *kind == Kind::Int).map(|(name, _)| name).collect();
     /// assert_eq!(numbers, ["quantity"]);
     /// ```
-    pub fn iter(&self) -> impl ExactSizeIterator<Item = (&str, Kind)> {
-        self.columns.iter().map(|(name, kind)| (&**name, *kind))
+    pub fn iter(&self) -> SchemaIter<'_> {
+        SchemaIter(self.columns.iter())
     }
 
     pub(crate) fn kind_at(&self, index: usize) -> Option<Kind> {
@@ -171,6 +172,43 @@ impl Schema {
             Some((name, _)) => Arc::clone(name),
             None => index.to_string().into(),
         }
+    }
+}
+
+/// The names and kinds of the columns of a [`Schema`], in order.
+///
+/// ```
+/// use fullercoral::Schema;
+///
+/// let schema = Schema::new().text("sku").int("quantity");
+/// for (name, kind) in &schema {
+///     println!("{name}: {kind:?}");
+/// }
+/// ```
+#[derive(Debug, Clone)]
+#[must_use]
+pub struct SchemaIter<'s>(slice::Iter<'s, (Arc<str>, Kind)>);
+
+impl<'s> Iterator for SchemaIter<'s> {
+    type Item = (&'s str, Kind);
+
+    fn next(&mut self) -> Option<(&'s str, Kind)> {
+        self.0.next().map(|(name, kind)| (&**name, *kind))
+    }
+
+    fn size_hint(&self) -> (usize, Option<usize>) {
+        self.0.size_hint()
+    }
+}
+
+impl ExactSizeIterator for SchemaIter<'_> {}
+
+impl<'s> IntoIterator for &'s Schema {
+    type Item = (&'s str, Kind);
+    type IntoIter = SchemaIter<'s>;
+
+    fn into_iter(self) -> SchemaIter<'s> {
+        self.iter()
     }
 }
 

@@ -1,4 +1,5 @@
 use std::fmt;
+use std::hash::Hash;
 use std::marker::PhantomData;
 use std::sync::Arc;
 
@@ -76,7 +77,7 @@ impl From<String> for Constant {
     }
 }
 
-/// A registered aggregate: [`Totals`] or [`Extrema`].
+/// A registered aggregate: [`Totals`] or [`Extrema`]. The trait is sealed: no other type can implement it.
 ///
 /// ```
 /// use fullercoral::{Aggregate, Spec, Totals, extrema, totals};
@@ -89,7 +90,7 @@ impl From<String> for Constant {
 /// ```
 pub trait Aggregate: Copy + sealed::Numbered {
     /// A line of its answer.
-    type Line<'a>: fmt::Debug + Copy + PartialEq;
+    type Line<'a>: fmt::Debug + Copy + Ord + Hash;
 }
 
 /// An aggregate that counts values and sums them. [`Table::watch`](crate::Table::watch) returns it.
@@ -227,7 +228,7 @@ impl fmt::Display for Key<'_> {
     }
 }
 
-/// A line of an answer of [`Totals`].
+/// A line of an answer of [`Totals`]. Lines are ordered by key.
 ///
 /// ```
 /// use fullercoral::{Key, TotalsLine};
@@ -235,7 +236,7 @@ impl fmt::Display for Key<'_> {
 /// let line = TotalsLine { key: Key::Text("rye"), count: 2, sum: 12 };
 /// assert_eq!(line.sum / i128::from(line.count), 6);
 /// ```
-#[derive(Debug, Clone, Copy, PartialEq, Eq)]
+#[derive(Debug, Clone, Copy, PartialEq, Eq, PartialOrd, Ord, Hash)]
 pub struct TotalsLine<'a> {
     /// The key.
     pub key: Key<'a>,
@@ -245,7 +246,7 @@ pub struct TotalsLine<'a> {
     pub sum: i128,
 }
 
-/// A line of an answer of [`Extrema`].
+/// A line of an answer of [`Extrema`]. Lines are ordered by key.
 ///
 /// ```
 /// use fullercoral::{ExtremaLine, Key};
@@ -253,7 +254,7 @@ pub struct TotalsLine<'a> {
 /// let line = ExtremaLine { key: Key::Int(3), min: -5, max: 7 };
 /// assert_eq!(line.max - line.min, 12);
 /// ```
-#[derive(Debug, Clone, Copy, PartialEq, Eq)]
+#[derive(Debug, Clone, Copy, PartialEq, Eq, PartialOrd, Ord, Hash)]
 pub struct ExtremaLine<'a> {
     /// The key.
     pub key: Key<'a>,

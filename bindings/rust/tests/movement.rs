@@ -194,7 +194,10 @@ fn a_job_prints_no_bytes() -> Outcome {
     let mut incoming = table.begin_fetch("m", 0)?;
     incoming.get(table.engine_mut())?;
     let said = format!("{incoming:?}");
-    assert!(said.ends_with(&format!("contents: [(0, {len})] }}")), "{said}");
+    assert!(
+        said.ends_with(&format!("contents: [(0, {len})] }}")),
+        "{said}"
+    );
     Ok(())
 }
 

@@ -173,7 +173,10 @@ fn an_object_goes_away_and_comes_back() -> Outcome {
     table.fetch(0, 0)?;
     let (column, group) = ("n".into(), 0);
     let local = Refusal::IsLocal { column, group };
-    assert_eq!(local.to_string(), "row group 0 of column `n` is local already");
+    assert_eq!(
+        local.to_string(),
+        "row group 0 of column `n` is local already"
+    );
     assert_eq!(refusal(table.fetch(0, 0)), local);
     table.set(0, 0, 6)?;
     assert_eq!(sum(&mut table, total), (1, 6));
@@ -306,7 +309,10 @@ fn one_key_is_asked() -> Outcome {
     let refused = refusal(table.ask_key(by_text, Key::None));
     assert_eq!(said(refused), (5, needed.into()));
     let keyless = "the aggregate has no key column: ask for Key::None";
-    assert_eq!(said(refusal(table.ask_key(total, "a"))), (5, keyless.into()));
+    assert_eq!(
+        said(refusal(table.ask_key(total, "a"))),
+        (5, keyless.into())
+    );
     let line = table.ask_key(total, Key::None)?.unwrap();
     assert_eq!((line.count, line.sum), (3, 10));
     assert_eq!(table.ask_key(none, Key::None)?, None);
@@ -329,6 +335,25 @@ fn columns_keys_and_constants_come_as_programs_have_them() -> Outcome {
         let line = table.ask_key(above, key)?.unwrap();
         assert_eq!((line.key, line.count), (Key::from(&key), 1));
     }
+    Ok(())
+}
+
+#[test]
+fn schemas_and_rows_are_iterated_and_lines_sorted() -> Outcome {
+    let mut table = table(Schema::new().text("sku").int("n"));
+    table.extend([row!["rye", 5], row!["bread", 7]])?;
+    let schema = table.schema().clone();
+    let mut said = Vec::new();
+    let row = table.row(1)?;
+    for ((name, _), cell) in (&schema).into_iter().zip(&row) {
+        said.push(format!("{name}: {cell}"));
+    }
+    assert_eq!(said, ["sku: bread", "n: 7"]);
+    assert_eq!(row.into_iter().len(), schema.iter().len());
+    let by_sku = table.watch(totals("n").by("sku"))?;
+    let mut lines: Vec<TotalsLine<'_>> = table.ask(by_sku)?.rev().collect();
+    lines.sort();
+    assert_eq!(lines[0].key.text(), Some("bread"));
     Ok(())
 }
 
@@ -406,7 +431,8 @@ fn what_a_refused_registration_says() -> Outcome {
     let constant = "no table has such an aggregate: a text constant has at most 4,096 bytes";
     assert_eq!(said(table.watch(long)), constant);
     let greater = totals("quantity").only("sku", Op::Gt, "a");
-    let op = "`Gt` compares numbers: column `sku` holds texts, for which there are Eq, Is and Begins";
+    let op =
+        "`Gt` compares numbers: column `sku` holds texts, for which there are Eq, Is and Begins";
     assert_eq!(said(table.watch(greater)), op);
     table.set_policy(Policy::Manual);
     table.insert(row!["rye", 3])?;

@@ -25,7 +25,7 @@ pub use retry::Retry;
 /// One engine serves one table. Each table gives its contents the numbers 0, 1, 2, .., so two tables over one
 /// engine replace each other's contents, and fetches are refused with `FarFault`. That includes
 /// two tables over clones of one `Arc<Mutex<E>>`, over one `&mut E` in turn, and over clients that use the same
-/// keys of one server. Two [`Files`] in one folder, and two [`Resp`] with different prefixes, are two engines.
+/// keys of one server. Two [`Files`] in one folder, and two `Resp` with different prefixes, are two engines.
 ///
 /// An engine over the `redis` crate, whole. The connection has a struct of its own, since an `impl` needs a
 /// trait or a type of its crate, and keys have a prefix that no other table has:

@@ -29,7 +29,7 @@ mod work;
 pub use jobs::{Incoming, Outgoing, Stored};
 pub use pieces::{IntPiece, Ints, TextPiece, Texts};
 pub use pin::Pinned;
-pub use row::Row;
+pub use row::{Row, RowIter};
 
 use copies::Copies;
 use jobs::Abandoned;

@@ -1,8 +1,8 @@
 //! Movement in phases, between which any other call may come.
 
-use super::{Given, Table};
 use super::copies::Copy;
 use super::jobs::{Incoming, Job, Outgoing, Stored, Target, Wanted};
+use super::{Given, Table};
 use crate::library::Code;
 use crate::spec::Aggregate;
 use crate::sys::FC_FAR_FULL;
