@@ -12,10 +12,11 @@
 //!
 //! let schema = Schema::new().text("sku").int("quantity");
 //! let limits = Limits::new().local_memory(64 << 20);
-//! let mut table = Table::open(schema, limits, Files::create(std::env::temp_dir())?)?;
+//! let mut table = Table::open(schema, limits, Files::create("/var/tmp")?)?;
 //!
 //! let sold = table.watch(totals("quantity").by("sku").only("quantity", Op::Gt, 0))?;
 //! table.extend([row!["bread", 5], row!["rye", 3], row!["bread", 2]])?;
+//! table.evict("quantity", 0)?;
 //! table.set("quantity", 1, 9)?;
 //! for line in table.ask(sold)? {
 //!     println!("{}: {} sales, {} sold", line.key, line.count, line.sum);
