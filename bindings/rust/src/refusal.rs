@@ -263,11 +263,11 @@ impl fmt::Display for Refusal {
             | Refusal::Absent { .. }
             | Refusal::IsLocal { .. }
             | Refusal::FarFault { .. } => self.fmt_place(f),
+            Refusal::WrongKind { .. } | Refusal::WrongOp { .. } | Refusal::WrongKey { .. } => {
+                self.fmt_kind(f)
+            }
             Refusal::NoColumn { .. }
             | Refusal::NoColumnAt { .. }
-            | Refusal::WrongKind { .. }
-            | Refusal::WrongOp { .. }
-            | Refusal::WrongKey { .. }
             | Refusal::TextTooLong { .. }
             | Refusal::NoUtf8 { .. }
             | Refusal::BadArgument { .. } => self.fmt_column(f),
@@ -304,16 +304,9 @@ impl Refusal {
         }
     }
 
-    // The sentence of a refusal that is about a column.
-    fn fmt_column(&self, f: &mut fmt::Formatter<'_>) -> fmt::Result {
+    // The sentence of a refusal of what is of another kind.
+    fn fmt_kind(&self, f: &mut fmt::Formatter<'_>) -> fmt::Result {
         match self {
-            Refusal::NoColumn { column } => write!(f, "there is no column `{column}`"),
-            Refusal::NoColumnAt { index, columns } => {
-                write!(
-                    f,
-                    "there is no column with index {index} (the table has {columns})"
-                )
-            }
             Refusal::WrongKind { column, kind } => {
                 let (own, other) = (of_kind(*kind), of_other_kind(*kind));
                 write!(f, "column `{column}` holds {own}, not {other}")
@@ -338,6 +331,20 @@ impl Refusal {
                 f,
                 "the aggregate has a line for each key of column `{column}`, and none without"
             ),
+            plain => f.write_str(plain.sentence()),
+        }
+    }
+
+    // The sentence of a refusal that is about a column.
+    fn fmt_column(&self, f: &mut fmt::Formatter<'_>) -> fmt::Result {
+        match self {
+            Refusal::NoColumn { column } => write!(f, "there is no column `{column}`"),
+            Refusal::NoColumnAt { index, columns } => {
+                write!(
+                    f,
+                    "there is no column with index {index} (the table has {columns})"
+                )
+            }
             Refusal::TextTooLong { column } => {
                 write!(f, "the text for column `{column}` has more than 4096 bytes")
             }

@@ -328,7 +328,10 @@ fn columns_keys_and_constants_come_as_programs_have_them() -> Outcome {
     let names: Vec<Arc<str>> = vec!["n".into(), "m".into()];
     for (name, owned) in names.iter().zip(["n".to_owned(), "m".to_owned()]) {
         assert!(table.is_local(name, 0)? && table.is_local(Arc::clone(name), 0)?);
-        assert!(table.is_local(&&*owned, 0)? && table.is_local(owned, 0)?);
+        assert!(table.is_local(&owned, 0)? && table.is_local(owned, 0)?);
+    }
+    for name in ["n", "m"].iter() {
+        assert!(table.is_local(name, 0)?);
     }
     for (least, key) in [(6_i32, 2_u8), (0, 1)] {
         let above = table.watch(totals("n").by("m").only("n", Op::Gt, least))?;
@@ -474,29 +477,20 @@ fn refused_columns_name_the_column_and_the_row() {
     );
 }
 
+/// The rule that a schema or its limits break.
+fn rule(schema: Schema, limits: Limits) -> String {
+    let refusal = refusal(Table::open(schema, limits, Memory::new()));
+    assert_eq!(refusal.number(), 2);
+    let said = refusal.to_string();
+    said.replace("no table has such columns or limits: ", "")
+}
+
+fn one() -> Schema {
+    Schema::new().int("a")
+}
+
 #[test]
-fn a_refused_schema_or_limit_says_which_rule_it_breaks() {
-    let rule = |schema: Schema, limits: Limits| {
-        let refusal = refusal(Table::open(schema, limits, Memory::new()));
-        assert_eq!(refusal.number(), 2);
-        let said = refusal.to_string();
-        said.replace("no table has such columns or limits: ", "")
-    };
-    let one = || Schema::new().int("a");
-    let columns = "a table has 1 to 16 columns";
-    assert_eq!(rule(Schema::new(), Limits::new()), columns);
-    let many = (0..17).fold(Schema::new(), |schema, n| schema.int(&n.to_string()));
-    assert_eq!(rule(many, Limits::new()), columns);
-    let names = "each column has a name of its own";
-    assert_eq!(rule(one().text("a"), Limits::new()), names);
-    let group = "a row group has 1 to 65,536 places";
-    assert_eq!(rule(one(), Limits::new().group(0)), group);
-    assert_eq!(rule(one(), Limits::new().group(65_537)), group);
-    let places = "a table has 1 to 16,777,216 places";
-    assert_eq!(rule(one(), Limits::new().places(0)), places);
-    assert_eq!(rule(one(), Limits::new().places((1 << 24) + 1)), places);
-    let edits = "a table takes 1 to 2^40 edits";
-    assert_eq!(rule(one(), Limits::new().edits(0)), edits);
+fn refused_memory_says_which_rule_it_breaks() {
     let contents = "there is a number for one content at least";
     assert_eq!(rule(one(), Limits::new().contents(0)), contents);
     let group = "the local memory for numbers holds a row group of each of their columns";
@@ -513,6 +507,24 @@ fn a_refused_schema_or_limit_says_which_rule_it_breaks() {
     assert_eq!(rule(one(), most.clone()), numbers);
     let texts = "the local memory for texts has at most 16 GiB";
     assert_eq!(rule(text(), most), texts);
+}
+
+#[test]
+fn a_refused_schema_or_limit_says_which_rule_it_breaks() {
+    let columns = "a table has 1 to 16 columns";
+    assert_eq!(rule(Schema::new(), Limits::new()), columns);
+    let many = (0..17).fold(Schema::new(), |schema, n| schema.int(&n.to_string()));
+    assert_eq!(rule(many, Limits::new()), columns);
+    let names = "each column has a name of its own";
+    assert_eq!(rule(one().text("a"), Limits::new()), names);
+    let group = "a row group has 1 to 65,536 places";
+    assert_eq!(rule(one(), Limits::new().group(0)), group);
+    assert_eq!(rule(one(), Limits::new().group(65_537)), group);
+    let places = "a table has 1 to 16,777,216 places";
+    assert_eq!(rule(one(), Limits::new().places(0)), places);
+    assert_eq!(rule(one(), Limits::new().places((1 << 24) + 1)), places);
+    let edits = "a table takes 1 to 2^40 edits";
+    assert_eq!(rule(one(), Limits::new().edits(0)), edits);
     let texts = "text_memory is a part of the local memory, and numbers have the rest";
     for bytes in [0, 64 << 20] {
         let limits = Limits::new().text_memory(bytes);
