@@ -9,7 +9,9 @@
  *
  * The code behind these calls is proved to do what their contracts say, for all arguments, if the caller keeps to these rules:
  *
- *   1. Every pointer is valid for what it points to, and not null; of an array, also if its length is 0. (fc_no_bytes is such an array.)
+ *   1. Every pointer is valid for what it points to, aligned for its type, and not null. No call checks that. It goes for arrays of length
+ *      0 too, as `tests` of an fc_spec without tests, and what an fc_column does not use: let these point to any object of their type, or
+ *      those of bytes to fc_no_bytes.at. So name every pointer of a struct: one that an initializer leaves out is null.
  *   2. A handle is zeroed before fc_open, never copied, and given to one call at a time. It may go from thread to thread.
  *   3. What a call lends (an fc_bytes that it wrote) is read only until the next call with this handle.
  *   4. An fc_bytes that a call writes is fc_no_bytes, or another valid one, before.
@@ -95,14 +97,18 @@ typedef struct fc_bytes {
 /* No bytes, at a valid address. */
 static const fc_bytes fc_no_bytes = {(const uint8_t *)"", 0};
 
-/* A cell. `number` counts if `kind` is FC_INT, `text` if it is FC_TEXT. */
+/* A cell. `number` counts if `kind` is FC_INT, `text` if it is FC_TEXT; else it is fc_no_bytes. */
 typedef struct fc_cell {
     int64_t number;
     fc_bytes text;
     uint32_t kind;
 } fc_cell;
 
-/* The limits of a table. */
+/* The limits of a table. The local memory is 16 * int_segments * int_size bytes for numbers and text_segments * text_size for texts. A row
+ * group of numbers takes `group` elements of a segment, one of texts the bytes of its texts, 4 for each place, 6, and a bit for each place
+ * if a text is missing; neither is divided between segments. So int_size is a multiple of `group`, and text_size several times what a row
+ * group needs. An edit may need a segment of numbers for each column of numbers, and two of texts for each column of texts, besides those
+ * of pinned objects. docs/EMBEDDING.md has an example. */
 typedef struct fc_limits {
     uint64_t edits;         /* how many edits, and how many jobs, are accepted: 1 to 2^40 */
     uint32_t group;         /* how many places a row group has: 1 to 65,536 */
@@ -116,14 +122,14 @@ typedef struct fc_limits {
 /* A test that a row must pass to be folded. */
 typedef struct fc_test {
     int64_t number;  /* the constant of FC_EQ to FC_GE */
-    fc_bytes text;   /* the constant of FC_TEXT_IS and FC_TEXT_BEGINS */
+    fc_bytes text;   /* the constant of FC_TEXT_IS and FC_TEXT_BEGINS; else fc_no_bytes */
     uint32_t column;
     uint32_t op;     /* an fc_op */
 } fc_test;
 
 /* An aggregate: what it computes, of which column, by which key column, over which rows. */
 typedef struct fc_spec {
-    const fc_test *tests; /* a row is folded if it passes all of them; at most 4 */
+    const fc_test *tests; /* a row is folded if it passes all of them; at most 4; not null if there is none (rule 1) */
     size_t tests_len;
     uint32_t fold;        /* an fc_fold */
     uint32_t value;       /* the column of the values, of numbers */
@@ -140,7 +146,8 @@ typedef struct fc_aggregate {
     bool has_key;
 } fc_aggregate;
 
-/* A column of rows to be inserted, or the cells of a column to be set, as Arrow lays columns out. */
+/* A column of rows to be inserted, or the cells of a column to be set, as Arrow lays columns out. No pointer is null, whatever its length
+ * is (rule 1). */
 typedef struct fc_column {
     const int64_t *numbers; /* of FC_INT: the values; else of length 0 */
     size_t numbers_len;
@@ -158,8 +165,8 @@ typedef struct fc_line {
     fc_bytes key_text;  /* the key, if `key_kind` is FC_TEXT; lent */
     int64_t key_number; /* the key, if `key_kind` is FC_INT */
     uint64_t count;     /* of FC_TOTALS: how many values */
-    uint64_t sum_low;   /* of FC_TOTALS: their sum, as a number of 128 bits in two's complement */
-    int64_t sum_high;
+    uint64_t sum_low;   /* of FC_TOTALS: their sum, as a number of 128 bits in two's complement; it fits 64 bits, as (int64_t)sum_low, */
+    int64_t sum_high;   /* if sum_high is -1 with the highest bit of sum_low set, or 0 without it */
     int64_t min;        /* of FC_EXTREMA */
     int64_t max;
     uint32_t key_kind; /* FC_MISSING if the aggregate has no key column */
@@ -212,8 +219,9 @@ typedef struct fc_space {
 /* --- The table ------------------------------------------------------------------------------------------------------------------ */
 
 /* Opens an empty table with these kinds of columns (FC_INT or FC_TEXT, 1 to 16 of them). All memory of its local region is allocated
- * here. It gives numbers below `capacity` to the contents that it evicts; memory for their digests comes as they are needed, 56 bytes
- * each. Refused with FC_BAD_SCHEMA, FC_NO_MEMORY, FC_BAD_ARGUMENT (a kind), FC_ALREADY_OPEN. */
+ * here. `capacity` is how many contents may be given a number before fc_migrate is needed. Memory for their digests comes as they are
+ * needed, 56 bytes each, so 2^32 suits most programs. Refused with FC_BAD_SCHEMA, FC_NO_MEMORY, FC_BAD_ARGUMENT (a kind),
+ * FC_ALREADY_OPEN. */
 uint32_t fc_open(fc_table *table, const uint32_t *kinds, size_t kinds_len, const fc_limits *limits, uint64_t capacity);
 
 /* Closes the table and frees all of its memory. */
@@ -295,7 +303,8 @@ uint32_t fc_find(fc_table *table, const fc_cell *key, size_t *index);
  * text); before these with FC_BAD_ARGUMENT (a kind) and FC_NO_UTF8. */
 uint32_t fc_ask_key(fc_table *table, uint32_t aggregate, const fc_cell *key, fc_line *line);
 
-/* Writes the count and the sum of an aggregate of totals without key. Refused with FC_NOTHING if it is none, or row groups are pending. */
+/* Writes the count and the sum of an aggregate of totals without key. Refused with FC_NOTHING if it is none, or row groups are pending:
+ * where fc_ask and fc_ask_key return FC_BUILDING. */
 uint32_t fc_plain(fc_table *table, uint32_t aggregate, fc_sum *sum);
 
 /* Writes what an aggregate is. Refused with FC_NO_AGGREGATE. */
@@ -359,8 +368,10 @@ uint32_t fc_proposals(fc_table *table, uint32_t column, uint32_t *groups, size_t
  *   fetch:   fc_begin_fetch; fc_wanted (find the bytes of this number); fc_deliver; fc_carry; fc_install
  *   offload: fc_begin_offload; fc_wanted for 0, 1, .. until FC_NOTHING, each with fc_deliver; fc_carry; fc_merge
  *
- * A job that is refused at its end with FC_STALE_JOB is over; after any other refusal it waits, to be ended again. fc_give_up ends a job
- * at any time. If the storage fails, the program calls fc_fault, or just fc_give_up. */
+ * fc_outgoing returns FC_NOTHING if the program keeps the content already, since the object was not written since it was fetched: then
+ * fc_commit follows at once. If fc_commit, fc_install or fc_merge returns FC_STALE_JOB (also when called before fc_carry), the job is over;
+ * after any other refusal it waits, to be ended again. fc_give_up ends a job at any time. If the storage fails, the program calls fc_fault,
+ * or just fc_give_up. */
 
 /* Begins to evict an object, and writes the job's number. Refused with FC_NO_COLUMN, FC_OUT_OF_RANGE, FC_ABSENT, FC_EDITS_USED_UP (as many
  * jobs were begun as edits are allowed), FC_NO_MEMORY. */
@@ -397,7 +408,8 @@ uint32_t fc_deliver(fc_table *table, uint64_t job, uint64_t number, const uint8_
 uint32_t fc_carry(fc_table *table, uint64_t job);
 
 /* Lends the bytes that the program is to keep for a carried eviction, and writes the number under which it will be asked for them.
- * Refused with FC_NOTHING if there is nothing to keep: the job is no carried eviction, or its content went out before. FC_STALE_JOB. */
+ * Refused with FC_NOTHING if there is nothing to keep: the content went out before, as that of an object that was not written since, or
+ * the job is no carried eviction. FC_STALE_JOB. */
 uint32_t fc_outgoing(fc_table *table, uint64_t job, uint64_t *number, fc_bytes *bytes);
 
 /* Ends a carried eviction: the object is away. Call it once the bytes are kept. Refused with FC_STALE_JOB, FC_PINNED. */
@@ -412,7 +424,8 @@ uint32_t fc_merge(fc_table *table, uint64_t job);
 /* Gives up a job, whatever its phase. Refused with FC_STALE_JOB if there is no such job. */
 uint32_t fc_give_up(fc_table *table, uint64_t job);
 
-/* Counts a fault of the storage. The job waits. Returns FC_FAR_FAULT, or FC_STALE_JOB if there is no such job, or FC_USED_UP. */
+/* Counts a fault of the storage. The job waits. Never FC_OK: FC_FAR_FAULT says that it was counted. Else FC_STALE_JOB if there is no such
+ * job, or FC_USED_UP. */
 uint32_t fc_fault(fc_table *table, uint64_t job);
 
 /* --- Going on with new numbers -------------------------------------------------------------------------------------------------- */

@@ -33,9 +33,9 @@ fn evict(table: &Mutex<Table<Far>>, mut far: Far, inserting: &AtomicU32) -> u32 
             thread::sleep(Duration::from_millis(1));
             continue;
         };
-        if outgoing.put(&mut far).is_ok() {
+        if let Ok(stored) = outgoing.put(&mut far) {
             // It is refused as stale if the object was written meanwhile, and then stays.
-            let committed = table.lock().expect("no thread panics").commit(outgoing);
+            let committed = table.lock().expect("no thread panics").commit(stored);
             evicted += u32::from(committed.is_ok());
         }
     }

@@ -120,7 +120,8 @@ pub struct Lines<'a, A> {
 impl<'a, A: Aggregate> Lines<'a, A> {
     /// The line of a key, if there is one among the lines that are left. It is found by halving.
     ///
-    /// For one key, [`Table::ask_key`](crate::Table::ask_key) makes no other line.
+    /// For one key, [`Table::ask_key`](crate::Table::ask_key) makes no other line. That refuses a key of the
+    /// other kind, for which this returns `None`.
     ///
     /// ```
     /// # use fullercoral::{Limits, Memory, Schema, Table, row, totals};

@@ -116,23 +116,28 @@ pub(crate) unsafe fn text_of<'a>(bytes: fc_bytes) -> &'a str {
     unsafe { std::str::from_utf8_unchecked(bytes.get()) }
 }
 
+/// Makes a type with a variant `Int` of all numbers that fit it, and of references to them.
 macro_rules! from_number {
-    ($($number:ty),*) => { $(
-        impl From<$number> for Cell<'_> {
+    ($type:ty: $($number:ty),*) => { $(
+        impl From<$number> for $type {
             fn from(number: $number) -> Self {
-                Cell::Int(number.into())
+                Self::Int(number.into())
             }
         }
 
-        impl From<&$number> for Cell<'_> {
+        impl From<&$number> for $type {
             fn from(number: &$number) -> Self {
-                Cell::Int((*number).into())
+                Self::Int((*number).into())
             }
         }
     )* };
+    ($($type:ty),*) => {
+        $( $crate::cell::from_number!($type: i64, i32, i16, i8, u32, u16, u8); )*
+    };
 }
+pub(crate) use from_number;
 
-from_number!(i64, i32, i16, i8, u32, u16, u8);
+from_number!(Cell<'_>);
 
 impl<'a> From<&'a str> for Cell<'a> {
     fn from(text: &'a str) -> Self {

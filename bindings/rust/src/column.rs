@@ -120,16 +120,37 @@ impl<'a> Column<'a> {
         }
     }
 
-    /// Whether offsets and bits are as many as the rows need.
-    pub(crate) fn is_whole(&self) -> bool {
-        let bits = self
-            .valid
-            .is_none_or(|bits| bits.len() >= self.len().div_ceil(8));
-        let ends = match self.data {
-            Data::Ints(_) => true,
-            Data::Texts { offsets, .. } => !offsets.is_empty(),
-        };
-        bits && ends
+    /// The first row for which offsets or bits are missing, with the rule that this breaks.
+    pub(crate) fn broken_rule(&self) -> Option<(usize, &'static str)> {
+        if let Data::Texts { offsets: [], .. } = self.data {
+            return Some((0, "there is one offset more than texts"));
+        }
+        let bits = self.valid.map(|bits| bits.len().saturating_mul(8));
+        let short = bits.filter(|bits| *bits < self.len());
+        short.map(|row| (row, "there is a bit for each row"))
+    }
+
+    /// The bytes of the text of a row, if its offsets ascend within the bytes.
+    fn bytes_at(&self, row: usize) -> Option<&'a [u8]> {
+        match self.data {
+            Data::Ints(_) => Some(&[]),
+            Data::Texts { offsets, bytes } => {
+                let from = usize::try_from(offsets[row]).ok()?;
+                let to = usize::try_from(offsets[row + 1]).ok()?;
+                bytes.get(from..to)
+            }
+        }
+    }
+
+    /// Whether the offsets of the text of a row descend or leave the bytes.
+    pub(crate) fn has_bad_offsets(&self, row: usize) -> bool {
+        self.bytes_at(row).is_none()
+    }
+
+    /// Whether the text of a row is no UTF-8.
+    pub(crate) fn has_no_utf8(&self, row: usize) -> bool {
+        let text = self.bytes_at(row).unwrap_or_default();
+        self.text_len(row) > 0 && std::str::from_utf8(text).is_err()
     }
 
     /// The rows from `from` up to `to` as the library takes them. The bits are copied to `bits` if

@@ -4,27 +4,19 @@ use std::io;
 
 use crate::Refusal;
 
-/// Why a call failed: the table refused it, or the engine behind it failed. `E` is the error of the
-/// engine: `std::io::Error`, as it is if it is not said, of [`Files`](crate::Files) and `Resp`.
+/// Why a call failed: the table refused it, or the engine failed. `E` defaults to `std::io::Error`, the
+/// error of [`Files`](crate::Files) and `Resp`.
 ///
-/// `Display` is the sentence of the refusal, or that the storage failed; `source` has the engine's
-/// error. Either way the call changed no row and no answer. By an automatic policy some objects may have been
+/// `Display` is the sentence of the refusal, or that the storage failed and why; `source` has the engine's
+/// error too. Either way the call changed no row and no answer. By an automatic policy some objects may have been
 /// evicted or fetched meanwhile.
 ///
 /// ```
-/// use std::error::Error as _;
-/// use fullercoral::{Error, Files, Table, row};
+/// use std::io;
+/// use fullercoral::Error;
 ///
-/// fn insert(table: &mut Table<Files>) -> Result<u32, Error> {
-///     table.insert(row!["rye", 3])
-/// }
-///
-/// fn print(error: &Error) {
-///     eprintln!("{error}");
-///     if let Some(cause) = error.source() {
-///         eprintln!("because {cause}");
-///     }
-/// }
+/// let error = Error::Engine(io::Error::other("the disk is full"));
+/// assert_eq!(error.to_string(), "the storage failed: the disk is full");
 /// ```
 ///
 /// ```
@@ -32,12 +24,13 @@ use crate::Refusal;
 ///
 /// let mut table = Table::open(Schema::new().int("price"), Limits::new(), Memory::new())?;
 /// match table.remove(7) {
-///     Err(Error::Refused(Refusal::NoRow { place })) => assert_eq!(place, 7),
+///     Err(Error::Refused(Refusal::NoRow { place, places })) => assert_eq!((place, places), (7, 0)),
 ///     other => panic!("{other:?}"),
 /// }
 /// # Ok::<(), Box<dyn std::error::Error>>(())
 /// ```
 #[derive(Debug, Clone, PartialEq, Eq)]
+#[non_exhaustive]
 pub enum Error<E = io::Error> {
     /// The table refused the call.
     Refused(Refusal),
@@ -69,11 +62,18 @@ impl<E> From<Refusal> for Error<E> {
     }
 }
 
-impl<E> fmt::Display for Error<E> {
+/// So `?` takes the error of [`Files::create`](crate::Files::create) too.
+impl From<io::Error> for Error {
+    fn from(error: io::Error) -> Error {
+        Error::Engine(error)
+    }
+}
+
+impl<E: fmt::Display> fmt::Display for Error<E> {
     fn fmt(&self, f: &mut fmt::Formatter<'_>) -> fmt::Result {
         match self {
             Error::Refused(refusal) => refusal.fmt(f),
-            Error::Engine(_) => f.write_str("the storage failed: see the source of this error"),
+            Error::Engine(error) => write!(f, "the storage failed: {error}"),
         }
     }
 }

@@ -12,10 +12,11 @@
 //!
 //! let schema = Schema::new().text("sku").int("quantity");
 //! let limits = Limits::new().local_memory(64 << 20);
-//! let mut table = Table::open(schema, limits, Files::create(std::env::temp_dir())?)?;
+//! let mut table = Table::open(schema, limits, Files::create("/var/tmp")?)?;
 //!
 //! let sold = table.watch(totals("quantity").by("sku").only("quantity", Op::Gt, 0))?;
 //! table.extend([row!["bread", 5], row!["rye", 3], row!["bread", 2]])?;
+//! table.evict("quantity", 0)?;
 //! table.set("quantity", 1, 9)?;
 //! for line in table.ask(sold)? {
 //!     println!("{}: {} sales, {} sold", line.key, line.count, line.sum);
@@ -101,9 +102,9 @@
 //!         for _ in 0..100 {
 //!             let begun = table.lock().unwrap().begin_evict_coldest().unwrap();
 //!             let Some(outgoing) = begun else { break };
-//!             outgoing.put(&mut engine).unwrap();
+//!             let stored = outgoing.put(&mut engine).unwrap();
 //!             // It is refused as stale if the object was written meanwhile, and then stays.
-//!             let _ = table.lock().unwrap().commit(outgoing);
+//!             let _ = table.lock().unwrap().commit(stored);
 //!         }
 //!     });
 //!     for price in 0..1_000 {
@@ -143,12 +144,14 @@ pub use error::Error;
 pub use limits::Limits;
 pub use policy::Policy;
 pub use refusal::Refusal;
-pub use schema::{ColumnRef, Kind, Schema};
+pub use schema::{ColumnRef, Kind, Schema, SchemaIter};
 pub use spec::{
     Aggregate, Constant, Extrema, ExtremaLine, Key, Op, Spec, Totals, TotalsLine, extrema, totals,
 };
 pub use stats::Stats;
-pub use table::{Incoming, IntPiece, Ints, Outgoing, Pinned, Row, Table, TextPiece, Texts};
+pub use table::{
+    Incoming, IntPiece, Ints, Outgoing, Pinned, Row, RowIter, Stored, Table, TextPiece, Texts,
+};
 
 // The examples of README.md are tested with those of the docs.
 #[cfg(doctest)]

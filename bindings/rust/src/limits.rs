@@ -11,6 +11,13 @@ const MOST_TEXT_SIZE: usize = 1 << 24;
 /// A number takes 16 bytes in the local region.
 const INT_BYTES: usize = 16;
 
+/// The most bytes that the segments of numbers, and those of texts, can have.
+const MOST_INTS: usize = MOST_SEGMENTS * MOST_INT_SIZE * INT_BYTES;
+const MOST_TEXTS: usize = MOST_SEGMENTS * MOST_TEXT_SIZE;
+
+/// The fewest bytes that a segment of texts has.
+const LEAST_TEXTS: usize = 64;
+
 /// How many row groups of each column are local, if the size of a row group is left to the table.
 const LOCAL_GROUPS: usize = 32;
 
@@ -64,8 +71,12 @@ impl Limits {
     }
 
     /// How many bytes the local region has. Each column gets an equal share, unless
-    /// [`text_memory`](Limits::text_memory) says otherwise. It should hold several row groups of
-    /// every column; a table that cannot hold what one row needs refuses it with `RegionFull`.
+    /// [`text_memory`](Limits::text_memory) says otherwise. It is rounded down to whole segments:
+    /// [`Stats::local_memory`](crate::Stats::local_memory) says what came of it.
+    ///
+    /// The share of numbers holds at least a row group of each of their columns, which takes
+    /// 16 bytes for each number; it should hold several. The share of texts has at least 64 bytes.
+    /// Each share has at most 16 GiB.
     ///
     /// ```
     /// let limits = fullercoral::Limits::new().local_memory(256 << 20);
@@ -89,7 +100,7 @@ impl Limits {
     }
 
     /// How many places a row group has: 1 to 65,536. A column's chunk of a row group is evicted and
-    /// fetched as a whole. If it is not said, it is a power of two of which some 32 row groups are
+    /// fetched as a whole. By default it is a power of two of which some 32 row groups are
     /// local, and at most 4,096, or 512 with a column of texts: to append a text costs time in
     /// proportion to the row group.
     ///
@@ -113,8 +124,7 @@ impl Limits {
         self
     }
 
-    /// How many edits, and how many jobs, are accepted: 1 to 2^40, which is what it is if it is not
-    /// said.
+    /// How many edits, and how many jobs, are accepted: 1 to 2^40. The default is 2^40.
     ///
     /// ```
     /// let limits = fullercoral::Limits::new().edits(1_000_000);
@@ -126,8 +136,8 @@ impl Limits {
     }
 
     /// How many numbers for contents there are: one is spent whenever an object is evicted that was
-    /// written since the last time. 2^32 if it is not said. Some 56 bytes are kept for each that was
-    /// spent. When all are spent the table goes on with new numbers and frees the old ones, if the
+    /// written since the last time. There is one at least; the default is 2^32. Some 56 bytes are kept for
+    /// each that was spent. When all are spent the table goes on with new numbers and frees the old ones, if the
     /// contents that are away fit half of its local memory; else it refuses with `FarFull`.
     ///
     /// ```
@@ -141,6 +151,38 @@ impl Limits {
 
     /// The rule that these limits break for a table with these columns, or that the columns break.
     pub(crate) fn broken_rule(&self, schema: &Schema) -> Option<&'static str> {
+        let rule = self.broken_rule_of_counts(schema);
+        rule.or_else(|| self.broken_rule_of_memory(schema))
+    }
+
+    // The same of the local memory, if all counts are right.
+    fn broken_rule_of_memory(&self, schema: &Schema) -> Option<&'static str> {
+        let texts = self.text_bytes(schema);
+        let (ints, columns) = (self.local_memory - texts, schema.count(Kind::Int));
+        let group = self.group.unwrap_or(1) as usize;
+        let rules = [
+            (
+                ints >= columns * group * INT_BYTES,
+                "the local memory for numbers holds a row group of each of their columns",
+            ),
+            (
+                schema.count(Kind::Text) == 0 || texts >= LEAST_TEXTS,
+                "the local memory for texts has 64 bytes or more",
+            ),
+            (
+                columns == 0 || ints <= MOST_INTS,
+                "the local memory for numbers has at most 16 GiB",
+            ),
+            (
+                texts <= MOST_TEXTS,
+                "the local memory for texts has at most 16 GiB",
+            ),
+        ];
+        let broken = rules.iter().find(|(holds, _)| !holds);
+        broken.map(|(_, rule)| *rule)
+    }
+
+    fn broken_rule_of_counts(&self, schema: &Schema) -> Option<&'static str> {
         let group = self.group.unwrap_or(1);
         let both = schema.count(Kind::Int) > 0 && schema.count(Kind::Text) > 0;
         let texts = self.text_memory.filter(|_| both);
@@ -164,6 +206,10 @@ impl Limits {
             (
                 (1..=MOST_EDITS).contains(&self.edits),
                 "a table takes 1 to 2^40 edits",
+            ),
+            (
+                self.contents > 0,
+                "there is a number for one content at least",
             ),
             (
                 texts.is_none_or(|texts| 0 < texts && texts < self.local_memory),
@@ -244,7 +290,7 @@ fn int_segments(bytes: usize, group: u32) -> (u32, u32) {
 fn text_segments(bytes: usize, group: u32) -> (u32, u32) {
     let long_texts = (group as usize).saturating_mul(512);
     let size = (bytes / 256).max(long_texts.min(bytes / 8));
-    let size = size.clamp(64, MOST_TEXT_SIZE);
+    let size = size.clamp(LEAST_TEXTS, MOST_TEXT_SIZE);
     let segments = (bytes / size).clamp(1, MOST_SEGMENTS);
     (segments as u32, size as u32)
 }

@@ -2,7 +2,7 @@ use std::error::Error;
 use std::fmt;
 use std::sync::Arc;
 
-use crate::Kind;
+use crate::{Kind, Op};
 
 /// Why a table refused a call. A refused call changes no row, no aggregate and no object.
 ///
@@ -31,11 +31,21 @@ pub enum Refusal {
         rule: &'static str,
     },
     /// 3: an aggregate has more than 4 tests, or a text constant of more than 4,096 bytes.
-    BadSpec,
-    /// 4: there is no such column.
+    BadSpec {
+        /// The rule that it breaks.
+        rule: &'static str,
+    },
+    /// 4: no column has this name.
     NoColumn {
-        /// The name or the index that was asked for.
+        /// The name.
         column: Arc<str>,
+    },
+    /// 4: no column has this index.
+    NoColumnAt {
+        /// The index.
+        index: usize,
+        /// How many columns the table has.
+        columns: usize,
     },
     /// 5: a cell, a constant or a column is of the other kind.
     WrongKind {
@@ -43,6 +53,20 @@ pub enum Refusal {
         column: Arc<str>,
         /// What the column holds.
         kind: Kind,
+    },
+    /// 5: a comparison is not one for constants of this kind.
+    WrongOp {
+        /// The name of the column that is tested.
+        column: Arc<str>,
+        /// The comparison.
+        op: Op,
+        /// What the column holds, and the constant is.
+        kind: Kind,
+    },
+    /// 5: a key was asked for, and the aggregate has no key column; or none was, and it has one.
+    WrongKey {
+        /// The key column's name, if there is one.
+        column: Option<Arc<str>>,
     },
     /// 6: a row has another number of cells than there are columns.
     RowWidth {
@@ -60,6 +84,8 @@ pub enum Refusal {
     NoRow {
         /// The place.
         place: u32,
+        /// How many the table has.
+        places: u32,
     },
     /// 9: the row of the place was removed.
     RemovedRow {
@@ -75,8 +101,22 @@ pub enum Refusal {
     NoAggregate,
     /// 13: 32 aggregates are registered.
     TooManyAggregates,
-    /// 14: a range, a row group or a segment does not exist.
-    OutOfRange,
+    /// 14: a range of places is not one of the table, or ends before it begins.
+    OutOfRange {
+        /// Where it begins.
+        from: u32,
+        /// Where it ends: the place after the last one.
+        to: u32,
+        /// How many places the table has.
+        places: u32,
+    },
+    /// 14: there is no such row group.
+    NoGroup {
+        /// The row group.
+        group: u32,
+        /// How many the table has.
+        groups: u32,
+    },
     /// 15: row groups are pending in the aggregate.
     Building {
         /// How many.
@@ -95,19 +135,43 @@ pub enum Refusal {
     NotPinned,
     /// 19: the object has a pin.
     Pinned,
-    /// 20: what the job or the scan rests on does not hold any more: its object was written, moved or is
-    /// where it should go, or the row group is not pending.
+    /// 20: what the job or the scan rests on does not hold any more: its object was written or moved, or
+    /// the row group is not pending.
     StaleJob,
+    /// 20: an object that is to be fetched is local.
+    IsLocal {
+        /// The object's column, by name.
+        column: Arc<str>,
+        /// The object's row group.
+        group: u32,
+    },
     /// 21: the storage returned other bytes than were put.
-    FarFault,
+    FarFault {
+        /// The column, by name, of the object whose bytes they should be.
+        column: Arc<str>,
+        /// The object's row group.
+        group: u32,
+    },
     /// 22: the numbers of contents are used up: see [`Limits::contents`](crate::Limits::contents).
     FarFull,
     /// 24: the limit of edits, of jobs or of pins is reached.
     EditsUsedUp,
     /// 102: a text is no UTF-8. Only columns of rows can have such a text.
-    NoUtf8,
+    NoUtf8 {
+        /// The column's name.
+        column: Arc<str>,
+        /// The row among those that are inserted.
+        row: usize,
+    },
     /// 103: columns of rows are of different lengths, or their offsets or bits are not as they should be.
-    BadArgument,
+    BadArgument {
+        /// The column's name.
+        column: Arc<str>,
+        /// The first row among those that are inserted where it is not as it should be.
+        row: usize,
+        /// The rule that the column breaks.
+        rule: &'static str,
+    },
     /// 106: 2^62 faults were counted. The table can be read, and no job carried.
     UsedUp,
     /// Any other code. None is known to come.
@@ -125,9 +189,9 @@ impl Refusal {
         match self {
             Refusal::NoMemory => 1,
             Refusal::BadSchema { .. } => 2,
-            Refusal::BadSpec => 3,
-            Refusal::NoColumn { .. } => 4,
-            Refusal::WrongKind { .. } => 5,
+            Refusal::BadSpec { .. } => 3,
+            Refusal::NoColumn { .. } | Refusal::NoColumnAt { .. } => 4,
+            Refusal::WrongKind { .. } | Refusal::WrongOp { .. } | Refusal::WrongKey { .. } => 5,
             Refusal::RowWidth { .. } => 6,
             Refusal::TextTooLong { .. } => 7,
             Refusal::NoRow { .. } => 8,
@@ -136,18 +200,18 @@ impl Refusal {
             Refusal::ChunkFull => 11,
             Refusal::NoAggregate => 12,
             Refusal::TooManyAggregates => 13,
-            Refusal::OutOfRange => 14,
+            Refusal::OutOfRange { .. } | Refusal::NoGroup { .. } => 14,
             Refusal::Building { .. } => 15,
             Refusal::Absent { .. } => 16,
             Refusal::RegionFull => 17,
             Refusal::NotPinned => 18,
             Refusal::Pinned => 19,
-            Refusal::StaleJob => 20,
-            Refusal::FarFault => 21,
+            Refusal::StaleJob | Refusal::IsLocal { .. } => 20,
+            Refusal::FarFault { .. } => 21,
             Refusal::FarFull => 22,
             Refusal::EditsUsedUp => 24,
-            Refusal::NoUtf8 => 102,
-            Refusal::BadArgument => 103,
+            Refusal::NoUtf8 { .. } => 102,
+            Refusal::BadArgument { .. } => 103,
             Refusal::UsedUp => 106,
             Refusal::Other(code) => *code,
         }
@@ -160,21 +224,16 @@ impl Refusal {
             2 => Refusal::BadSchema {
                 rule: "each limit has its bounds",
             },
-            3 => Refusal::BadSpec,
             10 => Refusal::TableFull,
             11 => Refusal::ChunkFull,
             12 => Refusal::NoAggregate,
             13 => Refusal::TooManyAggregates,
-            14 => Refusal::OutOfRange,
             17 => Refusal::RegionFull,
             18 => Refusal::NotPinned,
             19 => Refusal::Pinned,
             20 => Refusal::StaleJob,
-            21 => Refusal::FarFault,
             22 => Refusal::FarFull,
             24 => Refusal::EditsUsedUp,
-            102 => Refusal::NoUtf8,
-            103 => Refusal::BadArgument,
             106 => Refusal::UsedUp,
             other => Refusal::Other(other),
         }
@@ -184,35 +243,136 @@ impl Refusal {
 impl fmt::Display for Refusal {
     fn fmt(&self, f: &mut fmt::Formatter<'_>) -> fmt::Result {
         match self {
-            Refusal::NoColumn { column } => write!(f, "there is no column `{column}`"),
             Refusal::BadSchema { rule } => write!(f, "no table has such columns or limits: {rule}"),
-            Refusal::WrongKind { column, kind } => {
-                let (own, other) = match kind {
-                    Kind::Int => ("numbers", "texts"),
-                    Kind::Text => ("texts", "numbers"),
-                };
-                write!(f, "column `{column}` holds {own}, not {other}")
-            }
+            Refusal::BadSpec { rule } => write!(f, "no table has such an aggregate: {rule}"),
             Refusal::RowWidth { cells, columns } => {
                 write!(
                     f,
                     "the row has {cells} cells, and the table {columns} columns"
                 )
             }
-            Refusal::TextTooLong { column } => {
-                write!(f, "the text for column `{column}` has more than 4096 bytes")
+            Refusal::Building { pending } => write!(
+                f,
+                "{pending} row groups are pending in the aggregate: call scan or build"
+            ),
+            Refusal::Other(code) => write!(f, "the library refused with code {code}"),
+            Refusal::NoRow { .. }
+            | Refusal::RemovedRow { .. }
+            | Refusal::OutOfRange { .. }
+            | Refusal::NoGroup { .. }
+            | Refusal::Absent { .. }
+            | Refusal::IsLocal { .. }
+            | Refusal::FarFault { .. } => self.fmt_place(f),
+            Refusal::WrongKind { .. } | Refusal::WrongOp { .. } | Refusal::WrongKey { .. } => {
+                self.fmt_kind(f)
             }
-            Refusal::NoRow { place } => write!(f, "there is no place {place}"),
+            Refusal::NoColumn { .. }
+            | Refusal::NoColumnAt { .. }
+            | Refusal::TextTooLong { .. }
+            | Refusal::NoUtf8 { .. }
+            | Refusal::BadArgument { .. } => self.fmt_column(f),
+            plain => f.write_str(plain.sentence()),
+        }
+    }
+}
+
+impl Refusal {
+    // The sentence of a refusal that is about a place or a row group.
+    fn fmt_place(&self, f: &mut fmt::Formatter<'_>) -> fmt::Result {
+        match self {
+            Refusal::NoRow { place, places } => {
+                write!(f, "there is no place {place} (the table has {places})")
+            }
             Refusal::RemovedRow { place } => write!(f, "the row at place {place} was removed"),
-            Refusal::Building { pending } => {
-                write!(f, "{pending} row groups are pending in the aggregate")
+            Refusal::OutOfRange { from, to, places } => {
+                write!(f, "the places {from}..{to} are not within 0..{places}")
+            }
+            Refusal::NoGroup { group, groups } => {
+                write!(f, "there is no row group {group} (the table has {groups})")
             }
             Refusal::Absent { column, group } => {
                 write!(f, "row group {group} of column `{column}` is not local")
             }
-            Refusal::Other(code) => write!(f, "the library refused with code {code}"),
+            Refusal::IsLocal { column, group } => {
+                write!(f, "row group {group} of column `{column}` is local already")
+            }
+            Refusal::FarFault { column, group } => write!(
+                f,
+                "the storage returned other bytes than were put for row group {group} of column `{column}`"
+            ),
             plain => f.write_str(plain.sentence()),
         }
+    }
+
+    // The sentence of a refusal of what is of another kind.
+    fn fmt_kind(&self, f: &mut fmt::Formatter<'_>) -> fmt::Result {
+        match self {
+            Refusal::WrongKind { column, kind } => {
+                let (own, other) = (of_kind(*kind), of_other_kind(*kind));
+                write!(f, "column `{column}` holds {own}, not {other}")
+            }
+            Refusal::WrongOp { column, op, kind } => {
+                let (own, other) = (of_kind(*kind), of_other_kind(*kind));
+                let ops = match kind {
+                    Kind::Int => "Eq, Ne, Lt, Le, Gt and Ge",
+                    Kind::Text => "Eq, Is and Begins",
+                };
+                write!(
+                    f,
+                    "`{op:?}` compares {other}: column `{column}` holds {own}, for which there are {ops}"
+                )
+            }
+            Refusal::WrongKey { column: None } => {
+                f.write_str("the aggregate has no key column: ask for Key::None")
+            }
+            Refusal::WrongKey {
+                column: Some(column),
+            } => write!(
+                f,
+                "the aggregate has a line for each key of column `{column}`, and none without"
+            ),
+            plain => f.write_str(plain.sentence()),
+        }
+    }
+
+    // The sentence of a refusal that is about a column.
+    fn fmt_column(&self, f: &mut fmt::Formatter<'_>) -> fmt::Result {
+        match self {
+            Refusal::NoColumn { column } => write!(f, "there is no column `{column}`"),
+            Refusal::NoColumnAt { index, columns } => {
+                write!(
+                    f,
+                    "there is no column with index {index} (the table has {columns})"
+                )
+            }
+            Refusal::TextTooLong { column } => {
+                write!(f, "the text for column `{column}` has more than 4096 bytes")
+            }
+            Refusal::NoUtf8 { column, row } => {
+                write!(f, "the text for column `{column}` at row {row} is no UTF-8")
+            }
+            Refusal::BadArgument { column, row, rule } => {
+                write!(
+                    f,
+                    "column `{column}` is not as it should be at row {row}: {rule}"
+                )
+            }
+            plain => f.write_str(plain.sentence()),
+        }
+    }
+}
+
+fn of_kind(kind: Kind) -> &'static str {
+    match kind {
+        Kind::Int => "numbers",
+        Kind::Text => "texts",
+    }
+}
+
+fn of_other_kind(kind: Kind) -> &'static str {
+    match kind {
+        Kind::Int => "texts",
+        Kind::Text => "numbers",
     }
 }
 
@@ -221,26 +381,21 @@ impl Refusal {
     fn sentence(&self) -> &'static str {
         match self {
             Refusal::NoMemory => "an allocation failed",
-            Refusal::BadSpec => "the aggregate has more than 4 tests, or a constant too long",
             Refusal::TableFull => "the limit of places is reached: see Limits::places",
             Refusal::ChunkFull => {
                 "the texts of the row group would not fit a segment: see Limits::text_memory"
             }
             Refusal::NoAggregate => "the table does not have this aggregate",
             Refusal::TooManyAggregates => "32 aggregates are registered",
-            Refusal::OutOfRange => "the table does not have these places, or this row group",
             Refusal::RegionFull => "local memory has no space for it: see Limits::local_memory",
             Refusal::NotPinned => "the object has no pin",
             Refusal::Pinned => "the object has a pin",
-            Refusal::StaleJob => "there is nothing to do for the job, or its object was changed",
-            Refusal::FarFault => "the storage returned other bytes than were put",
+            Refusal::StaleJob => {
+                "the object was written or moved since, or the row group is not pending"
+            }
             Refusal::FarFull => "the numbers of contents are used up: see Limits::contents",
             Refusal::EditsUsedUp => {
                 "the limit of edits, of jobs or of pins is reached: see Limits::edits"
-            }
-            Refusal::NoUtf8 => "a text is no UTF-8",
-            Refusal::BadArgument => {
-                "the columns differ in length, or their offsets or bits are not as they should be"
             }
             Refusal::UsedUp => "too many faults were counted: no job is carried any more",
             _ => "the call was refused",

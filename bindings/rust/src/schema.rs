@@ -1,3 +1,4 @@
+use std::slice;
 use std::sync::Arc;
 
 use crate::Refusal;
@@ -139,8 +140,8 @@ impl Schema {
     ///     schema.iter().filter(|(_, kind)| *kind == Kind::Int).map(|(name, _)| name).collect();
     /// assert_eq!(numbers, ["quantity"]);
     /// ```
-    pub fn iter(&self) -> impl ExactSizeIterator<Item = (&str, Kind)> {
-        self.columns.iter().map(|(name, kind)| (&**name, *kind))
+    pub fn iter(&self) -> SchemaIter<'_> {
+        SchemaIter(self.columns.iter())
     }
 
     pub(crate) fn kind_at(&self, index: usize) -> Option<Kind> {
@@ -174,9 +175,47 @@ impl Schema {
     }
 }
 
+/// The names and kinds of the columns of a [`Schema`], in order.
+///
+/// ```
+/// use fullercoral::Schema;
+///
+/// let schema = Schema::new().text("sku").int("quantity");
+/// for (name, kind) in &schema {
+///     println!("{name}: {kind:?}");
+/// }
+/// ```
+#[derive(Debug, Clone)]
+#[must_use]
+pub struct SchemaIter<'s>(slice::Iter<'s, (Arc<str>, Kind)>);
+
+impl<'s> Iterator for SchemaIter<'s> {
+    type Item = (&'s str, Kind);
+
+    fn next(&mut self) -> Option<(&'s str, Kind)> {
+        self.0.next().map(|(name, kind)| (&**name, *kind))
+    }
+
+    fn size_hint(&self) -> (usize, Option<usize>) {
+        self.0.size_hint()
+    }
+}
+
+impl ExactSizeIterator for SchemaIter<'_> {}
+
+impl<'s> IntoIterator for &'s Schema {
+    type Item = (&'s str, Kind);
+    type IntoIter = SchemaIter<'s>;
+
+    fn into_iter(self) -> SchemaIter<'s> {
+        self.iter()
+    }
+}
+
 /// What names a column in a call: its name, or its index in the schema, which saves the search.
 ///
-/// Implemented for `&str`, `&String` and `usize`.
+/// Implemented for `usize`, and for names as `&str`, `&&str`, `String`, `&String`, `Arc<str>` and
+/// `&Arc<str>`. The trait is sealed: no other type can implement it.
 ///
 /// ```
 /// # use fullercoral::{Limits, Memory, Schema, Table, row};
@@ -184,16 +223,23 @@ impl Schema {
 /// # table.insert(row![5])?;
 /// table.set("price", 0, 6)?;
 /// table.set(0, 0, 7)?;
+/// for column in ["price"].iter() {
+///     assert!(table.is_local(column, 0)?);
+/// }
 /// # Ok::<(), Box<dyn std::error::Error>>(())
 /// ```
 pub trait ColumnRef: sealed::Find {}
 
-impl ColumnRef for &str {}
-impl ColumnRef for &String {}
 impl ColumnRef for usize {}
+impl ColumnRef for &str {}
+impl ColumnRef for &&str {}
+impl ColumnRef for String {}
+impl ColumnRef for &String {}
+impl ColumnRef for Arc<str> {}
+impl ColumnRef for &Arc<str> {}
 
 pub(crate) mod sealed {
-    use super::{Refusal, Schema};
+    use super::{Arc, Refusal, Schema};
 
     /// Finds a column in a schema.
     pub trait Find {
@@ -209,19 +255,27 @@ pub(crate) mod sealed {
         }
     }
 
-    impl Find for &String {
-        fn index_in(&self, schema: &Schema) -> Result<u32, Refusal> {
-            self.as_str().index_in(schema)
-        }
+    macro_rules! find_by_name {
+        ($($name:ty),*) => { $(
+            impl Find for $name {
+                fn index_in(&self, schema: &Schema) -> Result<u32, Refusal> {
+                    let name: &str = self;
+                    name.index_in(schema)
+                }
+            }
+        )* };
     }
+
+    find_by_name!(&&str, String, &String, Arc<str>, &Arc<str>);
 
     impl Find for usize {
         fn index_in(&self, schema: &Schema) -> Result<u32, Refusal> {
             if *self < schema.len() {
                 return Ok(*self as u32);
             }
-            Err(Refusal::NoColumn {
-                column: self.to_string().into(),
+            Err(Refusal::NoColumnAt {
+                index: *self,
+                columns: schema.len(),
             })
         }
     }

@@ -1,7 +1,9 @@
 use std::fmt;
+use std::hash::Hash;
 use std::marker::PhantomData;
 use std::sync::Arc;
 
+use crate::cell::from_number;
 use crate::schema::sealed::Find;
 use crate::sys::{FC_EXTREMA, FC_TOTALS, fc_bytes, fc_cell, fc_test};
 use crate::{Cell, Kind, Refusal, Schema};
@@ -37,13 +39,14 @@ pub enum Op {
     Begins,
 }
 
-/// The constant of a test, made of an `i64` (so `i64::from` of a smaller number), a `&str`, or a `String`
-/// or a reference to one.
+/// The constant of a test, made of a whole number that fits 64 bits signed, of a `&str`, or of a `String`
+/// or a reference to one. A number beyond 32 bits that is written out needs its type.
 ///
 /// ```
 /// use fullercoral::Constant;
 ///
 /// assert_eq!(Constant::from(5), Constant::Int(5));
+/// assert_eq!(Constant::from(5_000_000_000_i64), Constant::Int(5_000_000_000));
 /// assert_eq!(Constant::from(String::from("rye")), Constant::from("rye"));
 /// ```
 #[derive(Debug, Clone, PartialEq, Eq, Hash)]
@@ -54,11 +57,7 @@ pub enum Constant {
     Text(Box<str>),
 }
 
-impl From<i64> for Constant {
-    fn from(number: i64) -> Constant {
-        Constant::Int(number)
-    }
-}
+from_number!(Constant);
 
 impl From<&str> for Constant {
     fn from(text: &str) -> Constant {
@@ -78,7 +77,7 @@ impl From<String> for Constant {
     }
 }
 
-/// A registered aggregate: [`Totals`] or [`Extrema`].
+/// A registered aggregate: [`Totals`] or [`Extrema`]. The trait is sealed: no other type can implement it.
 ///
 /// ```
 /// use fullercoral::{Aggregate, Spec, Totals, extrema, totals};
@@ -91,7 +90,7 @@ impl From<String> for Constant {
 /// ```
 pub trait Aggregate: Copy + sealed::Numbered {
     /// A line of its answer.
-    type Line<'a>: fmt::Debug + Copy + PartialEq;
+    type Line<'a>: fmt::Debug + Copy + Ord + Hash;
 }
 
 /// An aggregate that counts values and sums them. [`Table::watch`](crate::Table::watch) returns it.
@@ -107,6 +106,7 @@ pub trait Aggregate: Copy + sealed::Numbered {
 /// # Ok::<(), Box<dyn std::error::Error>>(())
 /// ```
 #[derive(Debug, Clone, Copy, PartialEq, Eq, Hash)]
+#[must_use = "an aggregate that nobody has a handle of can be neither asked nor forgotten"]
 pub struct Totals(pub(crate) Id);
 
 /// An aggregate of least and greatest values. [`Table::watch`](crate::Table::watch) returns it.
@@ -122,6 +122,7 @@ pub struct Totals(pub(crate) Id);
 /// # Ok::<(), Box<dyn std::error::Error>>(())
 /// ```
 #[derive(Debug, Clone, Copy, PartialEq, Eq, Hash)]
+#[must_use = "an aggregate that nobody has a handle of can be neither asked nor forgotten"]
 pub struct Extrema(pub(crate) Id);
 
 /// Which aggregate it is: its number in the table, and a stamp that no two registrations share, so
@@ -140,7 +141,8 @@ impl Aggregate for Extrema {
     type Line<'a> = ExtremaLine<'a>;
 }
 
-/// What stands before a line of an answer: the key, if the aggregate has a key column.
+/// What stands before a line of an answer: the key, if the aggregate has a key column. It is made of a
+/// whole number that fits 64 bits signed, or of a borrowed text.
 ///
 /// ```
 /// use fullercoral::{Key, Limits, Memory, Schema, Table, row, totals};
@@ -202,11 +204,7 @@ impl<'a> Key<'a> {
     }
 }
 
-impl From<i64> for Key<'_> {
-    fn from(number: i64) -> Self {
-        Key::Int(number)
-    }
-}
+from_number!(Key<'_>);
 
 impl<'a> From<&'a str> for Key<'a> {
     fn from(text: &'a str) -> Self {
@@ -230,7 +228,7 @@ impl fmt::Display for Key<'_> {
     }
 }
 
-/// A line of an answer of [`Totals`].
+/// A line of an answer of [`Totals`]. Lines are ordered by key.
 ///
 /// ```
 /// use fullercoral::{Key, TotalsLine};
@@ -238,7 +236,7 @@ impl fmt::Display for Key<'_> {
 /// let line = TotalsLine { key: Key::Text("rye"), count: 2, sum: 12 };
 /// assert_eq!(line.sum / i128::from(line.count), 6);
 /// ```
-#[derive(Debug, Clone, Copy, PartialEq, Eq)]
+#[derive(Debug, Clone, Copy, PartialEq, Eq, PartialOrd, Ord, Hash)]
 pub struct TotalsLine<'a> {
     /// The key.
     pub key: Key<'a>,
@@ -248,7 +246,7 @@ pub struct TotalsLine<'a> {
     pub sum: i128,
 }
 
-/// A line of an answer of [`Extrema`].
+/// A line of an answer of [`Extrema`]. Lines are ordered by key.
 ///
 /// ```
 /// use fullercoral::{ExtremaLine, Key};
@@ -256,7 +254,7 @@ pub struct TotalsLine<'a> {
 /// let line = ExtremaLine { key: Key::Int(3), min: -5, max: 7 };
 /// assert_eq!(line.max - line.min, 12);
 /// ```
-#[derive(Debug, Clone, Copy, PartialEq, Eq)]
+#[derive(Debug, Clone, Copy, PartialEq, Eq, PartialOrd, Ord, Hash)]
 pub struct ExtremaLine<'a> {
     /// The key.
     pub key: Key<'a>,
@@ -368,10 +366,17 @@ pub(crate) struct Resolved {
 }
 
 impl<A: sealed::Numbered> Spec<A> {
-    /// Finds the columns. Refused with the first of `BadSpec`, `NoColumn` and `WrongKind` that applies.
+    /// Finds the columns. Refused with the first of `BadSpec`, `NoColumn`, and `WrongKind` or `WrongOp`, that applies.
     pub(crate) fn resolve(&self, schema: &Schema) -> Result<Resolved, Refusal> {
-        if self.tests.len() > 4 || self.tests.iter().any(Test::is_too_long) {
-            return Err(Refusal::BadSpec);
+        let rules = [
+            (self.tests.len() <= 4, "it has at most 4 tests"),
+            (
+                !self.tests.iter().any(Test::is_too_long),
+                "a text constant has at most 4,096 bytes",
+            ),
+        ];
+        if let Some((_, rule)) = rules.iter().find(|(holds, _)| !holds) {
+            return Err(Refusal::BadSpec { rule });
         }
         let find = |column: &Arc<str>| (&**column).index_in(schema);
         let value = find(&self.value)?;
@@ -382,8 +387,7 @@ impl<A: sealed::Numbered> Spec<A> {
             return Err(schema.wrong_kind(value));
         }
         let raw = |(test, column): (&Test, u32)| {
-            let op = test.code(schema.kind_at(column as usize));
-            let op = op.ok_or_else(|| schema.wrong_kind(column))?;
+            let op = test.code(schema, column)?;
             Ok((column, op, test.constant.clone()))
         };
         let tests = self.tests.iter().zip(columns).map(raw);
@@ -401,20 +405,29 @@ impl Test {
         matches!(&self.constant, Constant::Text(text) if text.len() > 4_096)
     }
 
-    // The number of the comparison, if column, comparison and constant are of one kind.
-    fn code(&self, kind: Option<Kind>) -> Option<u32> {
-        let (own, code) = match (self.op, &self.constant) {
-            (Op::Eq | Op::Is, Constant::Int(_)) => (Kind::Int, 0),
-            (Op::Ne, Constant::Int(_)) => (Kind::Int, 1),
-            (Op::Lt, Constant::Int(_)) => (Kind::Int, 2),
-            (Op::Le, Constant::Int(_)) => (Kind::Int, 3),
-            (Op::Gt, Constant::Int(_)) => (Kind::Int, 4),
-            (Op::Ge, Constant::Int(_)) => (Kind::Int, 5),
-            (Op::Eq | Op::Is, Constant::Text(_)) => (Kind::Text, 6),
-            (Op::Begins, Constant::Text(_)) => (Kind::Text, 7),
-            _ => return None,
+    // The number of the comparison. Refused if column, comparison and constant are not of one kind.
+    fn code(&self, schema: &Schema, column: u32) -> Result<u32, Refusal> {
+        let kind = match self.constant {
+            Constant::Int(_) => Kind::Int,
+            Constant::Text(_) => Kind::Text,
         };
-        (kind == Some(own)).then_some(code)
+        if schema.kind_at(column as usize) != Some(kind) {
+            return Err(schema.wrong_kind(column));
+        }
+        match (self.op, kind) {
+            (Op::Eq | Op::Is, Kind::Int) => Ok(0),
+            (Op::Ne, Kind::Int) => Ok(1),
+            (Op::Lt, Kind::Int) => Ok(2),
+            (Op::Le, Kind::Int) => Ok(3),
+            (Op::Gt, Kind::Int) => Ok(4),
+            (Op::Ge, Kind::Int) => Ok(5),
+            (Op::Eq | Op::Is, Kind::Text) => Ok(6),
+            (Op::Begins, Kind::Text) => Ok(7),
+            (op, kind) => {
+                let column = schema.label(column);
+                Err(Refusal::WrongOp { column, op, kind })
+            }
+        }
     }
 }
 

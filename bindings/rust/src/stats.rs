@@ -24,7 +24,7 @@ pub struct Stats {
     pub bytes_put: u64,
     /// Bytes of contents that were got.
     pub bytes_got: u64,
-    /// Objects that were fetched, those among them that were proposed.
+    /// Objects that were fetched, including prefetches.
     pub fetches: u64,
     /// Objects that were fetched since they were proposed.
     pub prefetches: u64,

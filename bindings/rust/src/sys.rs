@@ -8,6 +8,7 @@ pub const FC_BUILDING: u32 = 15;
 pub const FC_ABSENT: u32 = 16;
 pub const FC_REGION_FULL: u32 = 17;
 pub const FC_STALE_JOB: u32 = 20;
+pub const FC_FAR_FAULT: u32 = 21;
 pub const FC_FAR_FULL: u32 = 22;
 pub const FC_NOTHING: u32 = 104;
 

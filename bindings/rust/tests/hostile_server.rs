@@ -70,6 +70,14 @@ fn no_answer_is_taken_that_is_not_what_was_put() {
 }
 
 #[test]
+fn a_key_that_the_server_lacks_is_named() {
+    let address = server(b"$-1\r\n", 1);
+    let mut engine = Resp::connect(address, "sales", Duration::from_secs(5)).unwrap();
+    let error = engine.get(7, &mut Vec::new()).unwrap_err();
+    assert_eq!(error.to_string(), "the server has no key sales:7");
+}
+
+#[test]
 fn an_answer_without_end_is_not_read() {
     // 64 KB of zeros, again and again, behind a length that no content has.
     static ENDLESS: [u8; 1 << 16] = [b'0'; 1 << 16];

@@ -21,6 +21,11 @@ fn refusal<T: std::fmt::Debug, E: std::fmt::Debug>(result: Result<T, Error<E>>) 
     }
 }
 
+fn far_fault(column: &str, group: u32) -> Refusal {
+    let column = column.into();
+    Refusal::FarFault { column, group }
+}
+
 fn is_send<T: Send>(_: &T) {}
 
 #[test]
@@ -30,22 +35,25 @@ fn tables_and_jobs_go_from_thread_to_thread() -> Outcome {
     table.insert(row![1, 2])?;
     let outgoing = table.begin_evict("n", 0)?;
     is_send(&outgoing);
-    outgoing.put(table.engine_mut())?;
-    table.commit(outgoing)?;
+    let stored = outgoing.put(table.engine_mut())?;
+    is_send(&stored);
+    table.commit(stored)?;
     is_send(&table.begin_fetch("n", 0)?);
     Ok(())
 }
 
 #[test]
 fn a_row_that_local_memory_cannot_hold_is_refused() -> Outcome {
-    // Two segments of a row group each: one is left for the second column, none for a second row group.
+    // Three segments of a row group each, one of which is pinned when a second row group needs all.
     for policy in [Policy::Manual, Policy::Demand, Policy::Prefetch] {
-        let limits = Limits::new().group(64).local_memory(2 * 64 * 16);
+        let limits = Limits::new().group(4).local_memory(3 * 4 * 16);
         let schema = numbers().int("o");
         let mut table = Table::open(schema, limits, Memory::new())?;
         table.set_policy(policy);
+        table.extend((0..4).map(|n| row![n, n, n]))?;
+        table.pin("n", 0)?.keep();
         assert_eq!(refusal(table.insert(row![1, 2, 3])), Refusal::RegionFull);
-        assert_eq!(table.places(), 0);
+        assert_eq!(table.places(), 4);
     }
     Ok(())
 }
@@ -123,7 +131,7 @@ fn wrong_bytes_are_refused_and_the_right_ones_accepted_later() -> Outcome {
     let len = table.engine_mut().content_mut(0).unwrap().len();
     for bit in 0..8 * len {
         table.engine_mut().content_mut(0).unwrap()[bit / 8] ^= 1 << (bit % 8);
-        assert_eq!(refusal(table.fetch("n", 0)), Refusal::FarFault);
+        assert_eq!(refusal(table.fetch("n", 0)), far_fault("n", 0));
         table.engine_mut().content_mut(0).unwrap()[bit / 8] ^= 1 << (bit % 8);
     }
     assert_eq!(table.stats().faults, 8 * len as u64);
@@ -141,7 +149,7 @@ fn a_build_of_wrong_bytes_is_refused() -> Outcome {
     table.evict("m", 0)?;
     let total = table.watch(totals("n").by("m"))?;
     table.engine_mut().content_mut(1).unwrap()[7] ^= 1;
-    assert_eq!(refusal(table.ask(total)), Refusal::FarFault);
+    assert_eq!(refusal(table.ask(total)), far_fault("m", 0));
     assert_eq!(table.pending(total)?, 1);
     table.engine_mut().content_mut(1).unwrap()[7] ^= 1;
     let sums: Vec<i128> = table.ask(total)?.map(|line| line.sum).collect();
@@ -151,12 +159,54 @@ fn a_build_of_wrong_bytes_is_refused() -> Outcome {
 }
 
 #[test]
+fn a_fault_names_the_column_and_the_row_group() -> Outcome {
+    let mut table = Table::open(numbers(), Limits::new().group(8), Memory::new())?;
+    table.extend((0..16).map(|n| row![n, n]))?;
+    table.evict("n", 1)?;
+    table.evict("m", 1)?;
+    let total = table.watch(totals("n").by("m"))?;
+    for content in 0..2 {
+        table.engine_mut().content_mut(content).unwrap()[7] ^= 1;
+    }
+    assert_eq!(refusal(table.migrate()), far_fault("n", 1));
+    let mut incoming = table.begin_build(total, 1)?;
+    incoming.get(table.engine_mut())?;
+    assert_eq!(refusal(table.install(incoming)), far_fault("n", 1));
+    table.engine_mut().content_mut(0).unwrap()[7] ^= 1;
+    assert_eq!(refusal(table.migrate()), far_fault("m", 1));
+    let error = table.int("m", 15).unwrap_err();
+    let said = "the storage returned other bytes than were put for row group 1 of column `m`";
+    assert_eq!(error.to_string(), said);
+    Ok(())
+}
+
+#[test]
+fn a_job_prints_no_bytes() -> Outcome {
+    let mut table = Table::open(numbers(), Limits::new().group(8), Memory::new())?;
+    table.extend((0..8).map(|n| row![n, n]))?;
+    let outgoing = table.begin_evict("m", 0)?;
+    let len = outgoing.content().map_or(0, |(_, bytes)| bytes.len());
+    let said = format!("{{ column: 1, group: 0, number: Some(0), len: Some({len}) }}");
+    assert_eq!(format!("{outgoing:?}"), format!("Outgoing {said}"));
+    let stored = outgoing.put(table.engine_mut())?;
+    assert_eq!(format!("{stored:?}"), format!("Stored {said}"));
+    table.commit(stored)?;
+    let mut incoming = table.begin_fetch("m", 0)?;
+    incoming.get(table.engine_mut())?;
+    let said = format!("{incoming:?}");
+    assert!(
+        said.ends_with(&format!("contents: [(0, {len})] }}")),
+        "{said}"
+    );
+    Ok(())
+}
+
+#[test]
 fn a_dropped_job_is_given_up() -> Outcome {
     let mut table = Table::open(numbers(), Limits::new().group(8), Memory::new())?;
     table.extend((0..8).map(|n| row![n, n]))?;
     let outgoing = table.begin_evict("n", 0)?;
-    outgoing.put(table.engine_mut())?;
-    drop(outgoing);
+    drop(outgoing.put(table.engine_mut())?);
     assert_eq!(table.engine().len(), 1);
     drop(table.begin_evict("m", 0)?);
     assert!(table.engine().is_empty());
@@ -165,15 +215,31 @@ fn a_dropped_job_is_given_up() -> Outcome {
 }
 
 #[test]
+fn an_eviction_whose_put_failed_is_over_and_loses_no_cell() -> Outcome {
+    let engine = Faulty::new(Memory::new(), 1).with(Fault::Fail, 1_000);
+    let mut table = Table::open(numbers(), Limits::new().group(8), engine)?;
+    table.insert(row![5, 7])?;
+    let outgoing = table.begin_evict("n", 0)?;
+    assert!(outgoing.put(table.engine_mut()).is_err());
+    assert!(table.is_local("n", 0)?);
+    table.engine_mut().set(Fault::Fail, 0);
+    let stored = table.begin_evict("n", 0)?.put(table.engine_mut())?;
+    table.commit(stored)?;
+    assert_eq!(table.int("n", 0)?, Some(5));
+    Ok(())
+}
+
+#[test]
 fn jobs_of_another_table_are_stale() -> Outcome {
-    let mut tables: Vec<Table> = Vec::new();
+    let mut tables: Vec<Table<Memory>> = Vec::new();
     for _ in 0..2 {
         let mut table = Table::open(numbers(), Limits::new().group(8), Memory::new())?;
         table.extend((0..8).map(|n| row![n, n]))?;
         tables.push(table);
     }
     let outgoing = tables[0].begin_evict("n", 0)?;
-    assert_eq!(refusal(tables[1].commit(outgoing)), Refusal::StaleJob);
+    let stored = outgoing.put(tables[0].engine_mut())?;
+    assert_eq!(refusal(tables[1].commit(stored)), Refusal::StaleJob);
     assert!(tables[0].is_local("n", 0)? && tables[1].is_local("n", 0)?);
     Ok(())
 }
@@ -245,9 +311,9 @@ fn evict_coldest(table: &Mutex<Table<Shared>>, mut engine: Shared) {
     for _ in 0..300 {
         let begun = table.lock().unwrap().begin_evict_coldest().unwrap();
         if let Some(outgoing) = begun {
-            outgoing.put(&mut engine).unwrap();
+            let stored = outgoing.put(&mut engine).unwrap();
             // It is stale if the object was written meanwhile.
-            let _ = table.lock().unwrap().commit(outgoing);
+            let _ = table.lock().unwrap().commit(stored);
         }
     }
 }

@@ -1,18 +1,20 @@
 //! The worked examples of the script language, through the crate: the replies are those of `examples/`
 //! of the repository.
 
+use std::sync::Arc;
+
 use fullercoral::{
-    Cell, Engine, Error, Key, Kind, Limits, Memory, Op, Policy, Refusal, Schema, Table, TotalsLine,
-    extrema, row, totals,
+    Cell, Column, Engine, Error, Key, Kind, Limits, Memory, Op, Policy, Refusal, Schema, Table,
+    Totals, TotalsLine, extrema, row, totals,
 };
 
 type Outcome = Result<(), Box<dyn std::error::Error>>;
 
-fn table(schema: Schema) -> Table {
+fn table(schema: Schema) -> Table<Memory> {
     Table::open(schema, Limits::new().group(4), Memory::new()).unwrap()
 }
 
-fn by_hand(schema: Schema) -> Table {
+fn by_hand(schema: Schema) -> Table<Memory> {
     let mut table = table(schema);
     table.set_policy(Policy::Manual);
     table
@@ -84,6 +86,15 @@ fn the_bakery_of_the_readme() -> Outcome {
     let line = table.ask(ends)?.next().unwrap();
     assert_eq!((line.min, line.max), (2, 9));
     Ok(())
+}
+
+#[test]
+fn any_engine_has_an_error_that_is_one() -> Outcome {
+    fn add<E: Engine>(table: &mut Table<E>) -> Outcome {
+        table.insert(row![1])?;
+        Ok(())
+    }
+    add(&mut table(Schema::new().int("n")))
 }
 
 #[test]
@@ -160,7 +171,13 @@ fn an_object_goes_away_and_comes_back() -> Outcome {
     assert_eq!(refusal(table.evict(0, 0)).number(), 16);
     assert_eq!(sum(&mut table, total), (1, 5));
     table.fetch(0, 0)?;
-    assert_eq!(refusal(table.fetch(0, 0)), Refusal::StaleJob);
+    let (column, group) = ("n".into(), 0);
+    let local = Refusal::IsLocal { column, group };
+    assert_eq!(
+        local.to_string(),
+        "row group 0 of column `n` is local already"
+    );
+    assert_eq!(refusal(table.fetch(0, 0)), local);
     table.set(0, 0, 6)?;
     assert_eq!(sum(&mut table, total), (1, 6));
     Ok(())
@@ -225,7 +242,9 @@ fn a_lent_part_marks_removed_rows() -> Outcome {
     );
     assert_eq!(piece.alive, [true, true, false]);
     assert!(table.ints("n", 2..2)?.next_piece()?.is_none());
-    assert_eq!(refusal(table.ints("n", 2..9)), Refusal::OutOfRange);
+    let said = refusal(table.ints("n", 2..9)).to_string();
+    assert_eq!(said, "the places 2..9 are not within 0..5");
+    assert_eq!(refusal(table.texts("t", ..=u32::MAX)).number(), 14);
     assert_eq!(
         refusal(table.ints("t", ..)),
         Refusal::WrongKind {
@@ -243,7 +262,8 @@ fn single_cells_and_lines_are_read() -> Outcome {
     table.remove(2)?;
     let read: Vec<_> = (0..3).map(|place| table.int("n", place)).collect();
     assert_eq!(read, [Ok(Some(5)), Ok(None), Ok(Some(7))]);
-    assert_eq!(refusal(table.int("n", 3)), Refusal::NoRow { place: 3 });
+    let (place, places) = (3, 3);
+    assert_eq!(refusal(table.int("n", 3)), Refusal::NoRow { place, places });
     let said = "column `t` holds texts, not numbers";
     assert_eq!(refusal(table.int("t", 0)).to_string(), said);
     table.evict("t", 0)?;
@@ -282,13 +302,61 @@ fn one_key_is_asked() -> Outcome {
     let line = table.ask_key(ends, "a")?.unwrap();
     assert_eq!((line.min, line.max), (-2, 5));
     assert_eq!(table.ask_key(ends, "c")?, None);
-    assert_eq!(table.ask_key(by_text, 5)?, None);
-    assert_eq!(table.ask_key(by_text, Key::None)?, None);
+    let said = |refusal: Refusal| (refusal.number(), refusal.to_string());
+    let kind = "column `t` holds texts, not numbers";
+    assert_eq!(said(refusal(table.ask_key(by_text, 5))), (5, kind.into()));
+    let needed = "the aggregate has a line for each key of column `t`, and none without";
+    let refused = refusal(table.ask_key(by_text, Key::None));
+    assert_eq!(said(refused), (5, needed.into()));
+    let keyless = "the aggregate has no key column: ask for Key::None";
+    assert_eq!(
+        said(refusal(table.ask_key(total, "a"))),
+        (5, keyless.into())
+    );
     let line = table.ask_key(total, Key::None)?.unwrap();
     assert_eq!((line.count, line.sum), (3, 10));
     assert_eq!(table.ask_key(none, Key::None)?, None);
     table.unwatch(ends)?;
     assert_eq!(refusal(table.ask_key(ends, "a")), Refusal::NoAggregate);
+    Ok(())
+}
+
+#[test]
+fn columns_keys_and_constants_come_as_programs_have_them() -> Outcome {
+    let mut table = table(Schema::new().int("n").int("m"));
+    table.extend([row![5, 1], row![7, 2]])?;
+    let names: Vec<Arc<str>> = vec!["n".into(), "m".into()];
+    for (name, owned) in names.iter().zip(["n".to_owned(), "m".to_owned()]) {
+        assert!(table.is_local(name, 0)? && table.is_local(Arc::clone(name), 0)?);
+        assert!(table.is_local(&owned, 0)? && table.is_local(owned, 0)?);
+    }
+    for name in ["n", "m"].iter() {
+        assert!(table.is_local(name, 0)?);
+    }
+    for (least, key) in [(6_i32, 2_u8), (0, 1)] {
+        let above = table.watch(totals("n").by("m").only("n", Op::Gt, least))?;
+        let line = table.ask_key(above, key)?.unwrap();
+        assert_eq!((line.key, line.count), (Key::from(&key), 1));
+    }
+    Ok(())
+}
+
+#[test]
+fn schemas_and_rows_are_iterated_and_lines_sorted() -> Outcome {
+    let mut table = table(Schema::new().text("sku").int("n"));
+    table.extend([row!["rye", 5], row!["bread", 7]])?;
+    let schema = table.schema().clone();
+    let mut said = Vec::new();
+    let row = table.row(1)?;
+    for ((name, _), cell) in (&schema).into_iter().zip(&row) {
+        said.push(format!("{name}: {cell}"));
+    }
+    assert_eq!(said, ["sku: bread", "n: 7"]);
+    assert_eq!(row.into_iter().len(), schema.iter().len());
+    let by_sku = table.watch(totals("n").by("sku"))?;
+    let mut lines: Vec<TotalsLine<'_>> = table.ask(by_sku)?.rev().collect();
+    lines.sort();
+    assert_eq!(lines[0].key.text(), Some("bread"));
     Ok(())
 }
 
@@ -327,12 +395,17 @@ fn what_a_refusal_says() -> Outcome {
     );
     assert_eq!(
         refusal(table.set(2, 0, "a")).to_string(),
-        "there is no column `2`"
+        "there is no column with index 2 (the table has 2)"
     );
     assert_eq!(
-        refusal(table.set("sku", 1, "a")),
-        Refusal::NoRow { place: 1 }
+        refusal(table.set("sku", 1, "a")).to_string(),
+        "there is no place 1 (the table has 1)"
     );
+    let no_group = "there is no row group 77 (the table has 1)";
+    assert_eq!(refusal(table.evict("sku", 77)).to_string(), no_group);
+    assert_eq!(refusal(table.fetch("sku", 77)).to_string(), no_group);
+    assert_eq!(refusal(table.is_local("sku", 77)).to_string(), no_group);
+    assert_eq!(refusal(table.unpin("sku", 77)).to_string(), no_group);
     table.remove(0)?;
     assert_eq!(
         refusal(table.set("sku", 0, "a")).to_string(),
@@ -354,19 +427,90 @@ fn what_a_refused_registration_says() -> Outcome {
     );
     assert_eq!(refusal(table.watch(totals("sku"))).number(), 5);
     let five = (0..5).fold(totals("price"), |spec, n| spec.only("quantity", Op::Eq, n));
-    assert_eq!(refusal(table.watch(five)), Refusal::BadSpec);
+    let said = |result: Result<Totals, Error<_>>| refusal(result).to_string();
+    let tests = "no table has such an aggregate: it has at most 4 tests";
+    assert_eq!(said(table.watch(five)), tests);
+    let long = totals("quantity").only("sku", Op::Is, "x".repeat(4_097));
+    let constant = "no table has such an aggregate: a text constant has at most 4,096 bytes";
+    assert_eq!(said(table.watch(long)), constant);
+    let greater = totals("quantity").only("sku", Op::Gt, "a");
+    let op =
+        "`Gt` compares numbers: column `sku` holds texts, for which there are Eq, Is and Begins";
+    assert_eq!(said(table.watch(greater)), op);
+    table.set_policy(Policy::Manual);
+    table.insert(row!["rye", 3])?;
+    let total = table.watch(totals("quantity"))?;
+    let pending = "1 row groups are pending in the aggregate: call scan or build";
+    assert_eq!(refusal(table.ask(total)).to_string(), pending);
+    let no_group = refusal(table.scan(total, 1)).to_string();
+    assert_eq!(no_group, "there is no row group 1 (the table has 1)");
     Ok(())
 }
 
 #[test]
-fn a_refused_schema_or_limit_says_which_rule_it_breaks() {
-    let rule = |schema: Schema, limits: Limits| {
-        let refusal = refusal(Table::open(schema, limits, Memory::new()));
-        assert_eq!(refusal.number(), 2);
-        let said = refusal.to_string();
-        said.replace("no table has such columns or limits: ", "")
+fn refused_columns_name_the_column_and_the_row() {
+    let mut table = table(Schema::new().text("sku").int("quantity"));
+    let mut said = |offsets: &[u64], bytes: &[u8], quantities: Column<'_>| {
+        let columns = [Column::texts(offsets, bytes), quantities];
+        refusal(table.extend_columns(&columns)).to_string()
     };
-    let one = || Schema::new().int("a");
+    let three = Column::ints(&[1, 2, 3]);
+    assert_eq!(
+        said(&[0, 1, 2], b"ab", three),
+        "column `quantity` is not as it should be at row 2: all columns have one length"
+    );
+    assert_eq!(
+        said(&[], b"", Column::ints(&[])),
+        "column `sku` is not as it should be at row 0: there is one offset more than texts"
+    );
+    assert_eq!(
+        said(&[0, 1, 2, 3], b"abc", three.valid(&[])),
+        "column `quantity` is not as it should be at row 0: there is a bit for each row"
+    );
+    assert_eq!(
+        said(&[0, 1, 2, 9], b"abc", three),
+        "column `sku` is not as it should be at row 2: offsets ascend, up to the length of the bytes"
+    );
+    assert_eq!(
+        said(&[0, 1, 2, 3], b"a\xffc", three),
+        "the text for column `sku` at row 1 is no UTF-8"
+    );
+}
+
+/// The rule that a schema or its limits break.
+fn rule(schema: Schema, limits: Limits) -> String {
+    let refusal = refusal(Table::open(schema, limits, Memory::new()));
+    assert_eq!(refusal.number(), 2);
+    let said = refusal.to_string();
+    said.replace("no table has such columns or limits: ", "")
+}
+
+fn one() -> Schema {
+    Schema::new().int("a")
+}
+
+#[test]
+fn refused_memory_says_which_rule_it_breaks() {
+    let contents = "there is a number for one content at least";
+    assert_eq!(rule(one(), Limits::new().contents(0)), contents);
+    let group = "the local memory for numbers holds a row group of each of their columns";
+    assert_eq!(rule(one(), Limits::new().local_memory(0)), group);
+    let few = Limits::new().local_memory(1 << 10).group(65_536);
+    assert_eq!(rule(one(), few), group);
+    let few = Limits::new().local_memory(3 * 64 * 16 - 1).group(64);
+    assert_eq!(rule(one().int("b").int("c"), few), group);
+    let few = "the local memory for texts has 64 bytes or more";
+    let text = || Schema::new().text("a");
+    assert_eq!(rule(text(), Limits::new().local_memory(63)), few);
+    let most = Limits::new().local_memory((16 << 30) + 1);
+    let numbers = "the local memory for numbers has at most 16 GiB";
+    assert_eq!(rule(one(), most.clone()), numbers);
+    let texts = "the local memory for texts has at most 16 GiB";
+    assert_eq!(rule(text(), most), texts);
+}
+
+#[test]
+fn a_refused_schema_or_limit_says_which_rule_it_breaks() {
     let columns = "a table has 1 to 16 columns";
     assert_eq!(rule(Schema::new(), Limits::new()), columns);
     let many = (0..17).fold(Schema::new(), |schema, n| schema.int(&n.to_string()));
@@ -431,9 +575,9 @@ fn handles_of_other_tables_and_forgotten_ones_are_refused() -> Outcome {
     let third = one.watch(totals("n"))?;
     assert_eq!(refusal(one.ask(first)), Refusal::NoAggregate);
     assert_eq!(sum(&mut one, third), (0, 0));
-    for _ in 1..32 {
-        one.watch(totals("n"))?;
-    }
+    let others = (1..32).map(|_| one.watch(totals("n")));
+    let others = others.collect::<Result<Vec<Totals>, _>>()?;
+    assert_eq!(others.len(), 31);
     assert_eq!(refusal(one.watch(totals("n"))), Refusal::TooManyAggregates);
     Ok(())
 }

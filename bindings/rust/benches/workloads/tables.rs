@@ -23,11 +23,7 @@ pub struct Far<E: Engine> {
 }
 
 fn fail<T, E: Engine>(result: Result<T, fullercoral::Error<E::Error>>) -> T {
-    match result {
-        Ok(value) => value,
-        Err(fullercoral::Error::Refused(refusal)) => panic!("refused: {refusal}"),
-        Err(fullercoral::Error::Engine(_)) => panic!("the engine failed"),
-    }
+    result.unwrap_or_else(|error| panic!("{error}"))
 }
 
 impl<E: Engine> Far<E> {

@@ -127,12 +127,15 @@ fn aggregates() -> Outcome {
     let all = (0..16)
         .map(|_| table.watch(totals("n0")))
         .collect::<Result<Vec<_>, _>>()?;
-    for at_least in 0..16_i64 {
-        table.watch(extrema("n0").only("n1", Op::Ge, at_least))?;
-    }
+    let ends = (0..16).map(|at_least| extrema("n0").only("n1", Op::Ge, at_least));
+    let ends = ends.map(|spec| table.watch(spec));
+    let ends = ends.collect::<Result<Vec<_>, _>>()?;
     fill(&mut table, 2, 1 << 18)?;
     for of in all {
         asks_right(&mut table, of, 1 << 18)?;
+    }
+    for of in ends {
+        is_so(table.ask(of)?.len() == 1, "extrema have no line")?;
     }
     Ok(Met {
         met: "32 aggregates over 262144 rows".to_owned(),

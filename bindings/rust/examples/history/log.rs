@@ -86,6 +86,6 @@ impl Log {
 pub fn told(failure: &Failure) -> String {
     match failure {
         Error::Refused(refusal) => format!("refused {}", refusal.number()),
-        Error::Engine(_) => "failed".to_owned(),
+        _ => "failed".to_owned(),
     }
 }

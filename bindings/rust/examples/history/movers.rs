@@ -24,8 +24,8 @@ impl Shared {
         let Some(outgoing) = begun? else {
             return Ok(());
         };
-        outgoing.put(&mut far).map_err(Error::Engine)?;
-        self.table().commit(outgoing)
+        let stored = outgoing.put(&mut far).map_err(Error::Engine)?;
+        self.table().commit(stored)
     }
 
     /// Fetches an object.

@@ -169,7 +169,7 @@ impl<'t> Session<'t> {
                     }
                 }
                 Err(Error::Refused(Refusal::RegionFull)) => self.make_space(),
-                Err(Error::Refused(Refusal::FarFault) | Error::Engine(_)) => {}
+                Err(Error::Refused(Refusal::FarFault { .. }) | Error::Engine(_)) => {}
                 Err(_) => return false,
             }
         }

@@ -13,6 +13,14 @@ pub enum Down {
     Outage,
 }
 
+impl std::fmt::Display for Down {
+    fn fmt(&self, f: &mut std::fmt::Formatter<'_>) -> std::fmt::Result {
+        f.write_str("the far side is down")
+    }
+}
+
+impl std::error::Error for Down {}
+
 /// Storage that does to contents what storage may do: by a number that it is given before each call it
 /// fails, answers late, does a thing twice or in another order, cuts, flips bits, mixes contents up,
 /// answers with older ones, or loses them. It can be full, go away and come back.

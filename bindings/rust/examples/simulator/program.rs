@@ -135,25 +135,41 @@ fn line(step: &Step, setup: &Setup) -> String {
             "let (a{id}, reply) = split(table.watch({}));",
             spec(folding)
         ),
-        Call::BeginEvict(column, group) => {
-            format!("let (mut job{id}, reply) = split(table.begin_evict({column}, {group}));")
-        }
+        Call::BeginEvict(column, group) => format!(
+            "let (mut job{id}, reply) = split(table.begin_evict({column}, {group})); {}",
+            not_stored(id)
+        ),
         Call::BeginColdest => format!(
-            "let (job{id}, reply) = split(table.begin_evict_coldest()); let mut job{id} = job{id}.flatten();"
+            "let (job{id}, reply) = split(table.begin_evict_coldest()); let mut job{id} = job{id}.flatten(); {}",
+            not_stored(id)
         ),
         Call::BeginFetch(column, group) => {
-            format!("let (mut job{id}, reply) = split(table.begin_fetch({column}, {group}));")
+            format!(
+                "let (mut job{id}, reply) = split(table.begin_fetch({column}, {group})); {}",
+                not_stored(id)
+            )
         }
-        Call::BeginBuild(of, group) => {
-            format!("let (mut job{id}, reply) = split(table.begin_build(a{of}.unwrap(), {group}));")
-        }
-        Call::Drop(job) => format!("drop(job{job}.take());"),
+        Call::BeginBuild(of, group) => format!(
+            "let (mut job{id}, reply) = split(table.begin_build(a{of}.unwrap(), {group})); {}",
+            not_stored(id)
+        ),
+        Call::Put(job) => format!(
+            "let (mut stored{job}, reply) = match job{job}.take() {{ \
+             Some(it) => split(it.put(table.engine_mut()).map_err(Error::Engine)), \
+             None => (stored{job}.take(), String::new()) }};"
+        ),
+        Call::Drop(job) => format!("drop((job{job}.take(), stored{job}.take()));"),
         Call::SetPolicy(policy) => format!("table.set_policy(Policy::{policy:?});"),
         Call::ComeBack => "far.lock().unwrap().come_back();".to_owned(),
         Call::Limit(room) => format!("far.lock().unwrap().limit({room});"),
         Call::GoAway(calls) => format!("far.lock().unwrap().go_away({calls});"),
         other => format!("let reply = {};", reply(other, setup)),
     }
+}
+
+// The variable of a job's content once it is put.
+fn not_stored(id: u32) -> String {
+    format!("let mut stored{id} = None::<Stored>;")
 }
 
 // The expression of a call that returns nothing but its reply.
@@ -197,9 +213,10 @@ fn reply_of_handle(call: &Call) -> String {
         Call::Pending(of) => format!("told(table.pending(a{of}.unwrap()))"),
         Call::Scan(of, group) => format!("told(table.scan(a{of}.unwrap(), {group}))"),
         Call::Build(of, group) => format!("told(table.build(a{of}.unwrap(), {group}))"),
-        Call::Put(job) => format!("told(job{job}.as_ref().unwrap().put({engine})"),
         Call::Get(job) => format!("told(job{job}.as_mut().unwrap().get({engine})"),
-        Call::Commit(job) => format!("told(table.commit(job{job}.take().unwrap()))"),
+        Call::Commit(job) => format!(
+            "told(table.commit(stored{job}.take().or_else(|| job{job}.take().map(Outgoing::assume_stored)).unwrap()))"
+        ),
         Call::Install(job) => format!("told(table.install(job{job}.take().unwrap()))"),
         _ => String::new(),
     }

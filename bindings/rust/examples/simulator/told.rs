@@ -11,7 +11,7 @@ pub fn told<T: Debug>(reply: Result<T, Error<Down>>) -> String {
     match reply {
         Ok(value) => format!("{value:?}"),
         Err(Error::Refused(refusal)) => format!("refused {} {refusal}", refusal.number()),
-        Err(Error::Engine(_)) => "down".to_owned(),
+        Err(_) => "down".to_owned(),
     }
 }
 

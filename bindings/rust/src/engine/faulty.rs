@@ -249,12 +249,12 @@ pub enum FaultyError<E> {
     Engine(E),
 }
 
-impl<E> fmt::Display for FaultyError<E> {
+impl<E: fmt::Display> fmt::Display for FaultyError<E> {
     fn fmt(&self, f: &mut fmt::Formatter<'_>) -> fmt::Result {
-        f.write_str(match self {
-            FaultyError::Injected => "it failed on purpose",
-            FaultyError::Engine(_) => "the engine behind it failed",
-        })
+        match self {
+            FaultyError::Injected => f.write_str("it failed on purpose"),
+            FaultyError::Engine(error) => error.fmt(f),
+        }
     }
 }
 

@@ -19,6 +19,8 @@ const SEGMENT_BYTES: u64 = 64 << 20;
 /// are of use to this engine alone, while it lives. A process that is killed leaves its folder behind,
 /// named `fullercoral-` and the number of the process: it may be deleted.
 ///
+/// Errors name the file.
+///
 /// The folder should lie on a disk. Where the system keeps its temporary folder in memory, as many do,
 /// what is evicted into that folder takes as much memory as before.
 ///
@@ -97,6 +99,11 @@ impl Files {
         self.folder.join(segment.to_string())
     }
 
+    fn not_kept(&self, number: u64) -> io::Error {
+        let said = format!("{}: no content {number}", self.folder.display());
+        io::Error::new(io::ErrorKind::NotFound, said)
+    }
+
     fn begin_segment(&mut self, number: u32) -> io::Result<()> {
         let path = self.path(number);
         let file = File::options()
@@ -115,20 +122,26 @@ impl Files {
         Ok(())
     }
 
-    fn segment(&mut self, number: u32) -> io::Result<&mut Segment> {
-        self.segments.get_mut(&number).ok_or_else(not_kept)
-    }
-
-    fn append(&mut self, number: u64, bytes: &[u8]) -> io::Result<()> {
-        if self.segment(self.open)?.len >= self.segment_bytes {
-            let full = self.open;
+    // The segment that is appended to: a new one if the last one is full.
+    fn open_segment(&mut self) -> io::Result<u32> {
+        let full = self.open;
+        let is_full = |segment: &Segment| segment.len >= self.segment_bytes;
+        if self.segments.get(&full).is_none_or(is_full) {
             self.begin_segment(full + 1)?;
             self.delete_unneeded(full);
         }
+        Ok(self.open)
+    }
+
+    fn append(&mut self, number: u64, bytes: &[u8]) -> io::Result<()> {
+        let open = self.open_segment()?;
+        let path = self.path(open);
         let len = u32::try_from(bytes.len()).map_err(io::Error::other)?;
-        let open = self.open;
-        let segment = self.segment(open)?;
-        segment.file.write_all_at(bytes, segment.len)?;
+        let Some(segment) = self.segments.get_mut(&open) else {
+            return Err(self.not_kept(number));
+        };
+        let written = segment.file.write_all_at(bytes, segment.len);
+        written.map_err(|error| named(&path, &error))?;
         let location = Location {
             offset: segment.len,
             len,
@@ -210,10 +223,6 @@ fn named(path: &Path, error: &io::Error) -> io::Error {
     io::Error::new(error.kind(), format!("{}: {error}", path.display()))
 }
 
-fn not_kept() -> io::Error {
-    io::Error::new(io::ErrorKind::NotFound, "no such content")
-}
-
 impl Engine for Files {
     type Error = io::Error;
 
@@ -226,11 +235,16 @@ impl Engine for Files {
     }
 
     fn get(&mut self, number: u64, buffer: &mut Vec<u8>) -> io::Result<()> {
-        let at = *self.index.get(&number).ok_or_else(not_kept)?;
+        let Some(at) = self.index.get(&number) else {
+            return Err(self.not_kept(number));
+        };
+        let Some(segment) = self.segments.get(&at.segment) else {
+            return Err(self.not_kept(number));
+        };
         let from = buffer.len();
         buffer.resize(from + at.len as usize, 0);
-        let segment = self.segment(at.segment)?;
-        segment.file.read_exact_at(&mut buffer[from..], at.offset)
+        let read = segment.file.read_exact_at(&mut buffer[from..], at.offset);
+        read.map_err(|error| named(&self.path(at.segment), &error))
     }
 
     fn forget(&mut self, number: u64) {
@@ -309,6 +323,21 @@ mod tests {
         let error = Files::create(&file).unwrap_err();
         let said = error.to_string();
         assert!(said.starts_with(&*file.to_string_lossy()), "{said}");
+        Ok(())
+    }
+
+    #[test]
+    fn a_read_that_fails_names_the_file() -> io::Result<()> {
+        let mut files = files();
+        files.put(0, &bytes(0))?;
+        files.segments[&0].file.set_len(3)?;
+        let error = files.get(0, &mut Vec::new()).unwrap_err();
+        assert_eq!(error.kind(), io::ErrorKind::UnexpectedEof);
+        let file = files.folder().join("0");
+        assert!(error.to_string().starts_with(&*file.to_string_lossy()));
+        let error = files.get(1, &mut Vec::new()).unwrap_err();
+        let said = format!("{}: no content 1", files.folder().display());
+        assert_eq!(error.to_string(), said);
         Ok(())
     }
 

@@ -1,3 +1,4 @@
+use std::error;
 use std::sync::{Arc, Mutex, PoisonError};
 
 mod faulty;
@@ -21,20 +22,46 @@ pub use retry::Retry;
 /// an answer wrong. If an engine panics, the table gives up what it was about to move: whoever catches
 /// the panic goes on with the table as after an error.
 ///
-/// An engine over the `redis` crate, whole:
+/// One engine serves one table. Each table gives its contents the numbers 0, 1, 2, .., so two tables over one
+/// engine replace each other's contents, and fetches are refused with `FarFault`. That includes
+/// two tables over clones of one `Arc<Mutex<E>>`, over one `&mut E` in turn, and over clients that use the same
+/// keys of one server. Two [`Files`] in one folder, and two `Resp` with different prefixes, are two engines.
 ///
-/// ```ignore
-/// impl fullercoral::Engine for redis::Connection {
-///     type Error = redis::RedisError;
+/// An engine over the `redis` crate, whole. The connection has a struct of its own, since an `impl` needs a
+/// trait or a type of its crate, and keys have a prefix that no other table has:
 ///
-///     fn put(&mut self, number: u64, bytes: &[u8]) -> redis::RedisResult<()> {
-///         redis::Commands::set(self, number, bytes)
+/// ```
+/// # mod redis {
+/// #     // A stand-in for the crate.
+/// #     pub struct Connection;
+/// #     pub type RedisError = std::io::Error;
+/// #     pub type RedisResult<T> = Result<T, RedisError>;
+/// #     pub trait Commands {
+/// #         fn set<T: Default>(&mut self, _: String, _: &[u8]) -> RedisResult<T> {
+/// #             Ok(T::default())
+/// #         }
+/// #         fn get<T: Default>(&mut self, _: String) -> RedisResult<T> {
+/// #             Ok(T::default())
+/// #         }
+/// #     }
+/// #     impl Commands for Connection {}
+/// # }
+/// use redis::{Commands, RedisError, RedisResult};
+///
+/// struct Redis(redis::Connection);
+///
+/// impl fullercoral::Engine for Redis {
+///     type Error = RedisError;
+///
+///     fn put(&mut self, number: u64, bytes: &[u8]) -> RedisResult<()> {
+///         self.0.set(format!("sales:{number}"), bytes)
 ///     }
-///     fn get(&mut self, number: u64, buffer: &mut Vec<u8>) -> redis::RedisResult<()> {
-///         *buffer = redis::Commands::get(self, number)?;
+///     fn get(&mut self, number: u64, buffer: &mut Vec<u8>) -> RedisResult<()> {
+///         *buffer = self.0.get(format!("sales:{number}"))?;
 ///         Ok(())
 ///     }
 /// }
+/// # let _ = Redis(redis::Connection);
 /// ```
 ///
 /// One over a map:
@@ -74,11 +101,12 @@ pub use retry::Retry;
 /// # Ok::<(), Box<dyn std::error::Error>>(())
 /// ```
 pub trait Engine {
-    /// Why a `put` or a `get` failed. If it is a `std::error::Error`, so is the table's
-    /// [`Error`](crate::Error), and `?` turns that into a `Box<dyn Error>`.
-    type Error;
+    /// Why a `put` or a `get` failed. The table's [`Error`](crate::Error) holds it, and so is a
+    /// `std::error::Error` that `?` turns into a `Box<dyn Error>`, whichever engine it is.
+    type Error: error::Error + 'static;
 
-    /// Keeps bytes under a number. A table gives each number once, from 0 on.
+    /// Keeps bytes under a number. A table gives each number once, from 0 on, so two tables must not share
+    /// one engine.
     fn put(&mut self, number: u64, bytes: &[u8]) -> Result<(), Self::Error>;
 
     /// Appends the bytes that were put under a number to `buffer`, which comes empty.
@@ -91,6 +119,8 @@ pub trait Engine {
     }
 }
 
+/// An engine that is lent to a table. The next table over it needs an engine without contents, since its
+/// numbers are the same.
 impl<E: Engine + ?Sized> Engine for &mut E {
     type Error = E::Error;
 
@@ -123,7 +153,8 @@ impl<E: Engine + ?Sized> Engine for Box<E> {
     }
 }
 
-/// An engine that a table shares with threads that move its objects. A panic of another thread does
+/// An engine that a table shares with threads that move its objects, and with no other table, since that
+/// has the same numbers. A panic of another thread does
 /// not spoil it: bytes that it left half written are refused as any wrong bytes are.
 impl<E: Engine + ?Sized> Engine for Arc<Mutex<E>> {
     type Error = E::Error;

@@ -6,7 +6,7 @@ use crate::answer::{Lines, StoredLine};
 use crate::library::{Code, Coded};
 use crate::spec::{Aggregate, Id, Key, Resolved, Spec};
 use crate::sys::{FC_BUILDING, FC_TOTALS};
-use crate::{Engine, Error, Policy, Refusal};
+use crate::{Engine, Error, Kind, Policy, Refusal};
 
 /// The stamp of the next registration in this process.
 static STAMP: AtomicU64 = AtomicU64::new(0);
@@ -32,6 +32,7 @@ impl<E: Engine> Table<E> {
     /// # Errors
     /// - `BadSpec`: there are more than 4 tests, or a text constant of more than 4,096 bytes.
     /// - `NoColumn`, `WrongKind`: a column does not exist, or is not of the kind that it should be.
+    /// - `WrongOp`: a comparison is not one of numbers, or of texts.
     /// - `TooManyAggregates`, `NoMemory`.
     #[doc(alias("aggregate", "group_by"))]
     pub fn watch<A: Aggregate>(&mut self, spec: Spec<A>) -> Result<A, Error<E::Error>> {
@@ -47,7 +48,8 @@ impl<E: Engine> Table<E> {
         if self.watched.len() <= index {
             self.watched.resize_with(index + 1, || None);
         }
-        self.watched[index] = Some(Watched { stamp, spec });
+        let key = spec.key.and_then(|key| self.schema.kind_at(key as usize));
+        self.watched[index] = Some(Watched { stamp, key, spec });
         Ok(Id { number, stamp })
     }
 
@@ -120,7 +122,9 @@ impl<E: Engine> Table<E> {
     /// ```
     ///
     /// # Errors
-    /// As those of [`ask`](Table::ask).
+    /// - `WrongKind`: the key is a text, and the keys are numbers, or the other way round.
+    /// - `WrongKey`: the key is [`Key::None`], and there is a key column, or the other way round.
+    /// - Those of [`ask`](Table::ask).
     #[inline]
     pub fn ask_key<'k, A: Aggregate>(
         &mut self,
@@ -128,11 +132,36 @@ impl<E: Engine> Table<E> {
         key: impl Into<Key<'k>>,
     ) -> Result<Option<A::Line<'k>>, Error<E::Error>> {
         let (number, key) = (self.number_of(aggregate.id())?, key.into());
+        self.check_key(number, key)?;
         let found = match self.library.ask_key(number, key) {
             Ok(found) => found,
             Err(code) => self.ask_key_after(number, key, code)?,
         };
         Ok(found.map(|line| A::line(key, &line)))
+    }
+
+    // Refused if no key of the aggregate is of this kind.
+    #[inline]
+    fn check_key(&self, number: u32, key: Key<'_>) -> Result<(), Refusal> {
+        let watched = self.watched[number as usize].as_ref();
+        match (watched.and_then(|watched| watched.key), key) {
+            (None, Key::None)
+            | (Some(Kind::Int), Key::Int(_))
+            | (Some(Kind::Text), Key::Text(_)) => Ok(()),
+            _ => Err(self.wrong_key(number, key)),
+        }
+    }
+
+    #[cold]
+    fn wrong_key(&self, number: u32, key: Key<'_>) -> Refusal {
+        let watched = self.watched[number as usize].as_ref();
+        match (watched.and_then(|watched| watched.spec.key), key) {
+            (None, _) => Refusal::WrongKey { column: None },
+            (Some(column), Key::None) => Refusal::WrongKey {
+                column: Some(self.schema.label(column)),
+            },
+            (Some(column), _) => self.schema.wrong_kind(column),
+        }
     }
 
     #[cold]

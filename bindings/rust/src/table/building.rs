@@ -20,14 +20,14 @@ impl<E: Engine> Table<E> {
     /// ```
     ///
     /// # Errors
-    /// - `NoAggregate`, `OutOfRange`: there is no such aggregate or row group.
+    /// - `NoAggregate`, `NoGroup`: there is no such aggregate or row group.
     /// - `StaleJob`: the row group is not pending.
     /// - `Absent`: by [`Policy::Manual`](crate::Policy::Manual), an object that it needs is away.
     /// - `RegionFull`: by an automatic policy, an object has to be fetched, and pins leave no space for it.
     /// - `NoMemory`.
     pub fn scan<A: Aggregate>(&mut self, aggregate: A, group: u32) -> Result<(), Error<E::Error>> {
         let number = self.number_of(aggregate.id())?;
-        self.persist(Given::Nothing, |library| library.scan(number, group))?;
+        self.persist(Given::Group(group), |library| library.scan(number, group))?;
         self.stats.scans += 1;
         Ok(())
     }
@@ -47,7 +47,7 @@ impl<E: Engine> Table<E> {
     /// ```
     ///
     /// # Errors
-    /// - `NoAggregate`, `OutOfRange`: there is no such aggregate or row group.
+    /// - `NoAggregate`, `NoGroup`: there is no such aggregate or row group.
     /// - `StaleJob`: the row group is not pending, or a column that the aggregate needs has no far copy as
     ///   it is now.
     /// - `FarFault`, or the engine's error: a copy could not be read.
@@ -55,7 +55,7 @@ impl<E: Engine> Table<E> {
     pub fn build<A: Aggregate>(&mut self, aggregate: A, group: u32) -> Result<(), Error<E::Error>> {
         let number = self.number_of(aggregate.id())?;
         let built = self.build_from_copies(number, group);
-        self.outcome(built)
+        self.outcome_of(Given::Group(group), built)
     }
 
     // Builds all pending row groups into an aggregate, in whatever way each can be.
@@ -96,8 +96,8 @@ impl<E: Engine> Table<E> {
     fn end_build(&mut self, job: u64, number: u32, group: u32) -> Result<(), Failure<E::Error>> {
         let mut index = 0;
         while let Some(content) = self.library.wanted(job, index)? {
-            let copy = self.copy_for(number, group, content)?;
-            self.get_and_deliver(job, content, copy)?;
+            let (column, copy) = self.copy_for(number, group, content)?;
+            self.get_and_deliver(job, content, (column, group), copy)?;
             index += 1;
         }
         self.library.carry(job)?;
@@ -106,17 +106,18 @@ impl<E: Engine> Table<E> {
         Ok(())
     }
 
-    // The copy that has this number for the library, of the columns that an aggregate needs.
+    // The copy that has this number for the library, of the columns that an aggregate needs, and its column.
     pub(super) fn copy_for(
         &mut self,
         number: u32,
         group: u32,
         content: u64,
-    ) -> Result<Copy, Refusal> {
+    ) -> Result<(u32, Copy), Refusal> {
         for column in self.columns_of(number) {
             let object = self.library.object(column, group);
             if object.is_ok_and(|object| object.has_copy && object.copy == content) {
-                return self.copies.get(column, group).ok_or(Refusal::StaleJob);
+                let copy = self.copies.get(column, group).ok_or(Refusal::StaleJob)?;
+                return Ok((column, copy));
             }
         }
         Err(Refusal::StaleJob)

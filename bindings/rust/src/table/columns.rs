@@ -27,7 +27,7 @@ impl<E: Engine> Table<E> {
     /// # Errors
     /// - `RowWidth`, `WrongKind`: the columns are not those of the schema. No row is inserted.
     /// - `BadArgument`: the columns are of different lengths, or offsets or bits are not as many as they
-    ///   should be, or offsets descend or leave the bytes.
+    ///   should be: no row is inserted then. Or the offsets of a row descend or leave the bytes.
     /// - `NoUtf8`: a text is no UTF-8.
     /// - Those of [`insert`](Table::insert).
     pub fn extend_columns(&mut self, columns: &[Column<'_>]) -> Result<usize, Error<E::Error>> {
@@ -61,11 +61,16 @@ impl<E: Engine> Table<E> {
             }
         }
         let rows = columns.first().map_or(0, Column::len);
-        if columns
-            .iter()
-            .any(|column| column.len() != rows || !column.is_whole())
-        {
-            return Err(Refusal::BadArgument);
+        for (index, column) in columns.iter().enumerate() {
+            let broken = if column.len() == rows {
+                column.broken_rule()
+            } else {
+                Some((rows.min(column.len()), "all columns have one length"))
+            };
+            if let Some((row, rule)) = broken {
+                let column = self.schema.label(index as u32);
+                return Err(Refusal::BadArgument { column, row, rule });
+            }
         }
         Ok(rows)
     }

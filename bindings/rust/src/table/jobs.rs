@@ -1,3 +1,4 @@
+use std::fmt;
 use std::sync::{Arc, Mutex, PoisonError};
 
 use super::copies::Copy;
@@ -23,8 +24,9 @@ impl Abandoned {
 /// An object that is about to be evicted, with a copy of its bytes. It borrows nothing, so the engine's
 /// part of the work needs no table.
 ///
-/// [`Table::begin_evict`](crate::Table::begin_evict) returns it, and
-/// [`Table::commit`](crate::Table::commit) ends it. If it is dropped instead, the object stays local.
+/// [`Table::begin_evict`](crate::Table::begin_evict) returns it. [`put`](Outgoing::put) makes a [`Stored`]
+/// of it, which [`Table::commit`](crate::Table::commit) takes. If it is dropped instead, the object stays
+/// local.
 ///
 /// ```
 /// use fullercoral::{Limits, Memory, Schema, Table, row};
@@ -32,37 +34,120 @@ impl Abandoned {
 /// let mut table = Table::open(Schema::new().int("price"), Limits::new(), Memory::new())?;
 /// table.insert(row![5])?;
 /// let outgoing = table.begin_evict("price", 0)?;
-/// outgoing.put(table.engine_mut())?;
-/// table.commit(outgoing)?;
+/// let stored = outgoing.put(table.engine_mut())?;
+/// table.commit(stored)?;
 /// assert_eq!(table.stats().evictions, 1);
 /// # Ok::<(), Box<dyn std::error::Error>>(())
 /// ```
-#[derive(Debug)]
+///
+/// What was not put cannot be committed:
+///
+/// ```compile_fail,E0308
+/// # use fullercoral::{Limits, Memory, Schema, Table, row};
+/// # let mut table = Table::open(Schema::new().int("price"), Limits::new(), Memory::new())?;
+/// # table.insert(row![5])?;
+/// let outgoing = table.begin_evict("price", 0)?;
+/// table.commit(outgoing)?;
+/// # Ok::<(), Box<dyn std::error::Error>>(())
+/// ```
 #[must_use]
 pub struct Outgoing {
     pub(crate) job: Job,
     pub(crate) content: Option<(u64, Vec<u8>)>,
 }
 
+/// It has the number and the length of the content.
+impl fmt::Debug for Outgoing {
+    fn fmt(&self, f: &mut fmt::Formatter<'_>) -> fmt::Result {
+        let content = self.content();
+        f.debug_struct("Outgoing")
+            .field("column", &self.job.column)
+            .field("group", &self.job.group)
+            .field("number", &content.map(|(number, _)| number))
+            .field("len", &content.map(|(_, bytes)| bytes.len()))
+            .finish()
+    }
+}
+
+/// An object that is about to be evicted, whose bytes the engine has.
+///
+/// [`Outgoing::put`] returns it, and [`Table::commit`](crate::Table::commit) ends it. If it is dropped
+/// instead, the object stays local.
+///
+/// ```
+/// use fullercoral::{Limits, Memory, Schema, Stored, Table, row};
+///
+/// let mut table = Table::open(Schema::new().int("price"), Limits::new(), Memory::new())?;
+/// table.insert(row![5])?;
+/// let stored: Stored = table.begin_evict("price", 0)?.put(table.engine_mut())?;
+/// table.commit(stored)?;
+/// assert!(!table.is_local("price", 0)?);
+/// # Ok::<(), Box<dyn std::error::Error>>(())
+/// ```
+#[must_use]
+pub struct Stored {
+    pub(crate) job: Job,
+    /// The copy that was put, unless the engine had it already.
+    pub(crate) copy: Option<Copy>,
+}
+
+/// As that of [`Outgoing`].
+impl fmt::Debug for Stored {
+    fn fmt(&self, f: &mut fmt::Formatter<'_>) -> fmt::Result {
+        f.debug_struct("Stored")
+            .field("column", &self.job.column)
+            .field("group", &self.job.group)
+            .field("number", &self.copy.map(|copy| copy.number))
+            .field("len", &self.copy.map(|copy| copy.len))
+            .finish()
+    }
+}
+
 impl Outgoing {
     /// Puts the bytes into an engine: the table's own, a clone of it, or whatever leads to the same
-    /// contents. It does nothing if the engine has them already.
+    /// contents. It only returns if the engine has them already.
     ///
     /// ```
     /// # use fullercoral::{Limits, Memory, Schema, Table, row};
     /// # let mut table = Table::open(Schema::new().int("price"), Limits::new(), Memory::new())?;
     /// # table.insert(row![5])?;
     /// let outgoing = table.begin_evict("price", 0)?;
-    /// outgoing.put(table.engine_mut())?;
+    /// let stored = outgoing.put(table.engine_mut())?;
+    /// # let _ = stored;
     /// # Ok::<(), Box<dyn std::error::Error>>(())
     /// ```
     ///
     /// # Errors
-    /// That of the engine.
-    pub fn put<E: Engine + ?Sized>(&self, engine: &mut E) -> Result<(), E::Error> {
-        match &self.content {
-            Some((number, bytes)) => engine.put(*number, bytes),
-            None => Ok(()),
+    /// That of the engine. The eviction is over then, and the object stays local.
+    pub fn put<E: Engine + ?Sized>(self, engine: &mut E) -> Result<Stored, E::Error> {
+        if let Some((number, bytes)) = &self.content {
+            engine.put(*number, bytes)?;
+        }
+        Ok(self.assume_stored())
+    }
+
+    /// Says that the program put the bytes of [`content`](Outgoing::content) into the engine by itself: for
+    /// clients that no [`Engine`] can be made of. If it did not, the object's cells are lost with the commit.
+    ///
+    /// ```
+    /// # use fullercoral::{Engine, Limits, Memory, Schema, Table, row};
+    /// # let mut table = Table::open(Schema::new().int("price"), Limits::new(), Memory::new())?;
+    /// # table.insert(row![5])?;
+    /// let outgoing = table.begin_evict("price", 0)?;
+    /// if let Some((number, bytes)) = outgoing.content() {
+    ///     table.engine_mut().put(number, bytes)?;
+    /// }
+    /// table.commit(outgoing.assume_stored())?;
+    /// # Ok::<(), Box<dyn std::error::Error>>(())
+    /// ```
+    pub fn assume_stored(self) -> Stored {
+        let copy = self.content.map(|(number, bytes)| Copy {
+            number,
+            len: bytes.len() as u32,
+        });
+        Stored {
+            job: self.job,
+            copy,
         }
     }
 
@@ -104,7 +189,6 @@ impl Outgoing {
 /// assert_eq!(table.stats().fetches, 1);
 /// # Ok::<(), Box<dyn std::error::Error>>(())
 /// ```
-#[derive(Debug)]
 #[must_use]
 pub struct Incoming {
     pub(crate) job: Job,
@@ -112,11 +196,24 @@ pub struct Incoming {
     pub(crate) target: Target,
 }
 
+/// It has the numbers of the contents, and how many bytes of each were got.
+impl fmt::Debug for Incoming {
+    fn fmt(&self, f: &mut fmt::Formatter<'_>) -> fmt::Result {
+        let got = |wanted: &Wanted| (wanted.copy.number, wanted.bytes.len());
+        let contents: Vec<(u64, usize)> = self.wanted.iter().map(got).collect();
+        f.debug_struct("Incoming")
+            .field("target", &self.target)
+            .field("contents", &contents)
+            .finish()
+    }
+}
+
 /// A content that a job wants.
-#[derive(Debug)]
 pub(crate) struct Wanted {
     /// Its number for the library.
     pub number: u64,
+    /// The column of the object that it is of.
+    pub column: u32,
     pub copy: Copy,
     pub bytes: Vec<u8>,
 }

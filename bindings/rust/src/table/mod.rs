@@ -6,7 +6,7 @@ use crate::library::{Buffers, Code, Library};
 use crate::spec::Resolved;
 use crate::sys::{FC_INT, FC_TEXT, fc_limits};
 use crate::{
-    Cell, Column, ColumnRef, Engine, Error, Kind, Limits, Memory, Policy, Refusal, Schema, Stats,
+    Cell, Column, ColumnRef, Engine, Error, Files, Kind, Limits, Policy, Refusal, Schema, Stats,
 };
 
 mod aggregates;
@@ -26,10 +26,10 @@ mod row;
 mod space;
 mod work;
 
-pub use jobs::{Incoming, Outgoing};
+pub use jobs::{Incoming, Outgoing, Stored};
 pub use pieces::{IntPiece, Ints, TextPiece, Texts};
 pub use pin::Pinned;
-pub use row::Row;
+pub use row::{Row, RowIter};
 
 use copies::Copies;
 use jobs::Abandoned;
@@ -46,6 +46,27 @@ use space::Live;
 /// [crate's documentation](crate#threads). Calls that only read need a `&mut` too, since the library
 /// serves one at a time. A table that is dropped is closed, and its engine dropped with it.
 ///
+/// `Table` alone is a table over [`Files`], whose calls return [`Error`] alone:
+///
+/// ```
+/// use fullercoral::{Error, Files, Limits, Schema, Table, row};
+///
+/// fn insert(table: &mut Table) -> Result<u32, Error> {
+///     table.insert(row!["rye", 3])
+/// }
+///
+/// fn run() -> Result<(), Error> {
+///     let schema = Schema::new().text("sku").int("quantity");
+///     let engine = Files::create(std::env::temp_dir())?;
+///     let mut table = Table::open(schema, Limits::new(), engine)?;
+///     insert(&mut table)?;
+///     Ok(())
+/// }
+/// # run().unwrap();
+/// ```
+///
+/// One over any engine:
+///
 /// ```
 /// use fullercoral::{Limits, Memory, Schema, Table, row, totals};
 ///
@@ -58,7 +79,7 @@ use space::Live;
 /// }
 /// # Ok::<(), Box<dyn std::error::Error>>(())
 /// ```
-pub struct Table<E: Engine = Memory> {
+pub struct Table<E: Engine = Files> {
     library: Library,
     engine: E,
     schema: Schema,
@@ -84,6 +105,8 @@ pub struct Table<E: Engine = Memory> {
 #[derive(Debug)]
 struct Watched {
     stamp: u64,
+    /// What its keys are, if it has a key column.
+    key: Option<Kind>,
     spec: Resolved,
 }
 
@@ -99,6 +122,7 @@ enum Given<'a> {
         place: u32,
     },
     Place(u32),
+    Group(u32),
 }
 
 /// Why a step did not happen: the library's code, or an error that is complete already.
@@ -171,12 +195,17 @@ impl<E: Engine> Table<E> {
         })
     }
 
-    /// The columns.
+    /// The columns. A clone of it, which copies no name, can be used beside calls of the table.
     ///
     /// ```
-    /// # use fullercoral::{Limits, Memory, Schema, Table};
-    /// let table = Table::open(Schema::new().int("price"), Limits::new(), Memory::new())?;
+    /// # use fullercoral::{Cell, Limits, Memory, Schema, Table, row};
+    /// let mut table = Table::open(Schema::new().int("price"), Limits::new(), Memory::new())?;
     /// assert_eq!(table.schema().name(0), Some("price"));
+    /// table.insert(row![5])?;
+    /// let schema = table.schema().clone();
+    /// for (name, _) in schema.iter() {
+    ///     table.set(name, 0, Cell::Missing)?;
+    /// }
     /// # Ok::<(), Box<dyn std::error::Error>>(())
     /// ```
     pub fn schema(&self) -> &Schema {
@@ -191,6 +220,7 @@ impl<E: Engine> Table<E> {
     /// assert!(table.engine().is_empty());
     /// # Ok::<(), Box<dyn std::error::Error>>(())
     /// ```
+    #[must_use]
     pub fn engine(&self) -> &E {
         &self.engine
     }
@@ -243,6 +273,7 @@ impl<E: Engine> Table<E> {
     /// assert_eq!(table.places(), 1);
     /// # Ok::<(), Box<dyn std::error::Error>>(())
     /// ```
+    #[must_use]
     #[doc(alias = "len")]
     pub fn places(&mut self) -> u32 {
         self.library.places()
@@ -272,11 +303,12 @@ impl<E: Engine> Table<E> {
     /// assert_eq!(table.groups(), 3);
     /// # Ok::<(), Box<dyn std::error::Error>>(())
     /// ```
+    #[must_use]
     pub fn groups(&mut self) -> u32 {
         self.places().div_ceil(self.limits.group)
     }
 
-    /// Whether an object is local. Refused with `NoColumn` and `OutOfRange`.
+    /// Whether an object is local.
     ///
     /// ```
     /// # use fullercoral::{Limits, Memory, Schema, Table, row};
@@ -288,7 +320,7 @@ impl<E: Engine> Table<E> {
     /// ```
     ///
     /// # Errors
-    /// `NoColumn`, and `OutOfRange` if there is no such row group.
+    /// `NoColumn`, and `NoGroup` if there is no such row group.
     pub fn is_local(
         &mut self,
         column: impl ColumnRef,
@@ -296,7 +328,8 @@ impl<E: Engine> Table<E> {
     ) -> Result<bool, Error<E::Error>> {
         let column = column.index_in(&self.schema)?;
         let object = self.library.object(column, group);
-        self.outcome(object).map(|object| object.local)
+        self.outcome_of(Given::Group(group), object)
+            .map(|object| object.local)
     }
 
     /// What the table did since it was opened, and how full its local region is.
@@ -307,6 +340,7 @@ impl<E: Engine> Table<E> {
     /// assert_eq!(table.stats().evictions, 0);
     /// # Ok::<(), Box<dyn std::error::Error>>(())
     /// ```
+    #[must_use]
     pub fn stats(&mut self) -> Stats {
         let mut stats = self.stats;
         stats.faults = self.library.faults();
@@ -329,6 +363,7 @@ impl<E: Engine> Table<E> {
     /// assert!(table.into_engine().is_empty());
     /// # Ok::<(), Box<dyn std::error::Error>>(())
     /// ```
+    #[must_use]
     #[doc(alias = "close")]
     pub fn into_engine(self) -> E {
         self.engine
@@ -361,11 +396,16 @@ impl<E: Engine> Table<E> {
             (7, Given::Row(row)) => Refusal::TextTooLong {
                 column: self.too_long_in(row),
             },
-            (7, Given::RowOf(columns, row)) => Refusal::TextTooLong {
-                column: self.too_long_at(columns, row),
+            (7 | 102 | 103, Given::RowOf(columns, row)) => self.refused_row(code, columns, row),
+            (8, Given::Place(place) | Given::Cell { place, .. }) => Refusal::NoRow {
+                place,
+                places: self.places(),
             },
-            (8, Given::Place(place) | Given::Cell { place, .. }) => Refusal::NoRow { place },
             (9, Given::Place(place) | Given::Cell { place, .. }) => Refusal::RemovedRow { place },
+            (14, Given::Group(group)) => Refusal::NoGroup {
+                group,
+                groups: self.groups(),
+            },
             (code, _) => Refusal::of_code(code),
         };
         refusal.into()
@@ -376,8 +416,17 @@ impl<E: Engine> Table<E> {
         &mut self,
         result: Result<T, impl Into<Failure<E::Error>>>,
     ) -> Result<T, Error<E::Error>> {
+        self.outcome_of(Given::Nothing, result)
+    }
+
+    // The outcome of a step that was given this.
+    fn outcome_of<T>(
+        &mut self,
+        given: Given<'_>,
+        result: Result<T, impl Into<Failure<E::Error>>>,
+    ) -> Result<T, Error<E::Error>> {
         result.map_err(|failure| match failure.into() {
-            Failure::Code(code) => self.refused(code, Given::Nothing),
+            Failure::Code(code) => self.refused(code, given),
             Failure::Error(error) => error,
         })
     }
@@ -397,10 +446,24 @@ impl<E: Engine> Table<E> {
             .label(row.iter().position(long).unwrap_or(0) as u32)
     }
 
-    fn too_long_at(&self, columns: &[Column<'_>], row: usize) -> Arc<str> {
-        let long = |column: &Column<'_>| column.text_len(row) > 4_096;
-        self.schema
-            .label(columns.iter().position(long).unwrap_or(0) as u32)
+    // Why a row of columns of rows is refused, with the column that is at fault.
+    fn refused_row(&self, Code(code): Code, columns: &[Column<'_>], row: usize) -> Refusal {
+        let is_at_fault = |column: &Column<'_>| match code {
+            7 => column.text_len(row) > 4_096,
+            102 => column.has_no_utf8(row),
+            _ => column.has_bad_offsets(row),
+        };
+        let index = columns.iter().position(is_at_fault).unwrap_or(0);
+        let column = self.schema.label(index as u32);
+        match code {
+            7 => Refusal::TextTooLong { column },
+            102 => Refusal::NoUtf8 { column, row },
+            _ => Refusal::BadArgument {
+                column,
+                row,
+                rule: "offsets ascend, up to the length of the bytes",
+            },
+        }
     }
 }
 

@@ -1,9 +1,9 @@
 //! Objects that are evicted and fetched in one call.
 
 use super::copies::Copy;
-use super::{Failure, Table};
-use crate::library::Code;
-use crate::sys::{FC_FAR_FULL, FC_REGION_FULL, FC_STALE_JOB};
+use super::{Failure, Given, Table};
+use crate::library::{Code, Coded};
+use crate::sys::{FC_FAR_FAULT, FC_FAR_FULL, FC_REGION_FULL, FC_STALE_JOB};
 use crate::{ColumnRef, Engine, Error, Kind, Policy, Refusal};
 
 impl<E: Engine> Table<E> {
@@ -19,7 +19,7 @@ impl<E: Engine> Table<E> {
     /// ```
     ///
     /// # Errors
-    /// - `NoColumn`, `OutOfRange`: there is no such object.
+    /// - `NoColumn`, `NoGroup`: there is no such object.
     /// - `Absent`: it is away already.
     /// - `Pinned`: it has a pin.
     /// - `FarFull`: the numbers of contents are used up.
@@ -30,10 +30,10 @@ impl<E: Engine> Table<E> {
         self.give_up_abandoned();
         match self.try_evict(column, group) {
             Err(Failure::Code(Code(FC_FAR_FULL))) => self.renew()?,
-            result => return self.outcome(result),
+            evicted => return self.outcome_of(Given::Group(group), evicted),
         }
         let evicted = self.try_evict(column, group);
-        self.outcome(evicted)
+        self.outcome_of(Given::Group(group), evicted)
     }
 
     fn try_evict(&mut self, column: u32, group: u32) -> Result<(), Failure<E::Error>> {
@@ -144,8 +144,8 @@ impl<E: Engine> Table<E> {
     /// ```
     ///
     /// # Errors
-    /// - `NoColumn`, `OutOfRange`: there is no such object.
-    /// - `StaleJob`: it is local.
+    /// - `NoColumn`, `NoGroup`: there is no such object.
+    /// - `IsLocal`: it is local.
     /// - `RegionFull`: there is no local memory for it.
     /// - `FarFault`: the engine returned other bytes than were put. The object stays away, and another
     ///   fetch may follow.
@@ -160,8 +160,7 @@ impl<E: Engine> Table<E> {
         self.give_up_abandoned();
         loop {
             let migrations = self.stats.migrations;
-            let job = self.library.begin_fetch(column, group);
-            let job = self.outcome(job)?;
+            let job = self.begin_fetch_of(column, group)?;
             match self.work(job, |table| table.end_fetch(job, column, group)) {
                 // An eviction that made space for it went on with new numbers, so all jobs are over. It
                 // begins again, with the space that was made.
@@ -171,12 +170,27 @@ impl<E: Engine> Table<E> {
         }
     }
 
+    pub(super) fn begin_fetch_of(
+        &mut self,
+        column: u32,
+        group: u32,
+    ) -> Result<u64, Error<E::Error>> {
+        match self.library.begin_fetch(column, group) {
+            Err(Code(FC_STALE_JOB)) => {
+                let column = self.schema.label(column);
+                Err(Refusal::IsLocal { column, group }.into())
+            }
+            begun => self.outcome_of(Given::Group(group), begun),
+        }
+    }
+
     fn end_fetch(&mut self, job: u64, column: u32, group: u32) -> Result<(), Failure<E::Error>> {
         let content = self.library.wanted(job, 0)?;
         if let (Some(content), Some(copy)) = (content, self.copies.get(column, group)) {
-            self.get_and_deliver(job, content, copy)?;
+            self.get_and_deliver(job, content, (column, group), copy)?;
         }
-        self.library.carry(job)?;
+        let carried = self.library.carry(job);
+        self.delivered(carried, (column, group))?;
         self.install_job(job)?;
         self.fetched(column, group);
         Ok(())
@@ -189,11 +203,12 @@ impl<E: Engine> Table<E> {
         self.stats.fetches += 1;
     }
 
-    /// Gets a content from the engine and delivers it to a job.
+    /// Gets a content, which is that of an object, from the engine and delivers it to a job.
     pub(super) fn get_and_deliver(
         &mut self,
         job: u64,
         content: u64,
+        object: (u32, u32),
         copy: Copy,
     ) -> Result<(), Failure<E::Error>> {
         self.content.clear();
@@ -203,7 +218,26 @@ impl<E: Engine> Table<E> {
         }
         self.stats.gets += 1;
         self.stats.bytes_got += self.content.len() as u64;
-        Ok(self.library.deliver(job, content, &self.content)?)
+        let delivered = self.library.deliver(job, content, &self.content);
+        self.delivered(delivered, object)
+    }
+
+    /// The outcome of a call that took the content of an object: a fault names the object.
+    pub(super) fn delivered(
+        &self,
+        outcome: Coded<()>,
+        (column, group): (u32, u32),
+    ) -> Result<(), Failure<E::Error>> {
+        match outcome {
+            Err(Code(FC_FAR_FAULT)) => Err(self.far_fault(column, group).into()),
+            outcome => Ok(outcome?),
+        }
+    }
+
+    /// The refusal of bytes that are not those that were put for an object.
+    pub(super) fn far_fault(&self, column: u32, group: u32) -> Refusal {
+        let column = self.schema.label(column);
+        Refusal::FarFault { column, group }
     }
 
     /// Ends a carried fetch. By an automatic policy others are evicted if there is no space.

@@ -1,8 +1,8 @@
 //! Movement in phases, between which any other call may come.
 
-use super::Table;
 use super::copies::Copy;
-use super::jobs::{Incoming, Job, Outgoing, Target, Wanted};
+use super::jobs::{Incoming, Job, Outgoing, Stored, Target, Wanted};
+use super::{Given, Table};
 use crate::library::Code;
 use crate::spec::Aggregate;
 use crate::sys::FC_FAR_FULL;
@@ -10,20 +10,20 @@ use crate::{ColumnRef, Engine, Error, Refusal};
 
 impl<E: Engine> Table<E> {
     /// Begins to evict an object. The engine's part of the work is [`Outgoing::put`], which needs no
-    /// table; then [`commit`](Table::commit) ends it.
+    /// table; [`commit`](Table::commit) takes what that returns, and ends it.
     ///
     /// ```
     /// # use fullercoral::{Limits, Memory, Schema, Table, row};
     /// let mut table = Table::open(Schema::new().int("price"), Limits::new(), Memory::new())?;
     /// table.insert(row![5])?;
     /// let outgoing = table.begin_evict("price", 0)?;
-    /// outgoing.put(table.engine_mut())?;
-    /// table.commit(outgoing)?;
+    /// let stored = outgoing.put(table.engine_mut())?;
+    /// table.commit(stored)?;
     /// # Ok::<(), Box<dyn std::error::Error>>(())
     /// ```
     ///
     /// # Errors
-    /// - `NoColumn`, `OutOfRange`: there is no such object.
+    /// - `NoColumn`, `NoGroup`: there is no such object.
     /// - `Absent`: it is away already.
     /// - `FarFull`: the numbers of contents are used up.
     /// - `EditsUsedUp`, `NoMemory`.
@@ -36,10 +36,10 @@ impl<E: Engine> Table<E> {
         self.give_up_abandoned();
         match self.outgoing_of(column, group) {
             Err(Code(FC_FAR_FULL)) => self.renew()?,
-            begun => return self.outcome(begun),
+            begun => return self.outcome_of(Given::Group(group), begun),
         }
         let begun = self.outgoing_of(column, group);
-        self.outcome(begun)
+        self.outcome_of(Given::Group(group), begun)
     }
 
     /// Begins to evict the coldest object without a pin. None if there is no such object.
@@ -49,8 +49,8 @@ impl<E: Engine> Table<E> {
     /// let mut table = Table::open(Schema::new().int("price"), Limits::new(), Memory::new())?;
     /// table.insert(row![5])?;
     /// if let Some(outgoing) = table.begin_evict_coldest()? {
-    ///     outgoing.put(table.engine_mut())?;
-    ///     table.commit(outgoing)?;
+    ///     let stored = outgoing.put(table.engine_mut())?;
+    ///     table.commit(stored)?;
     /// }
     /// assert!(table.begin_evict_coldest()?.is_none());
     /// # Ok::<(), Box<dyn std::error::Error>>(())
@@ -89,9 +89,9 @@ impl<E: Engine> Table<E> {
     /// let mut table = Table::open(Schema::new().int("price"), Limits::new(), Memory::new())?;
     /// table.insert(row![5])?;
     /// let outgoing = table.begin_evict("price", 0)?;
-    /// outgoing.put(table.engine_mut())?;
+    /// let stored = outgoing.put(table.engine_mut())?;
     /// table.set("price", 0, 6)?;
-    /// let error = table.commit(outgoing).unwrap_err();
+    /// let error = table.commit(stored).unwrap_err();
     /// assert_eq!(error.refusal(), Some(&Refusal::StaleJob));
     /// # Ok::<(), Box<dyn std::error::Error>>(())
     /// ```
@@ -100,19 +100,17 @@ impl<E: Engine> Table<E> {
     /// The object stays local then.
     /// - `StaleJob`: the object was written or moved since it was begun, or it is of another table.
     /// - `Pinned`: it has a pin.
-    pub fn commit(&mut self, outgoing: Outgoing) -> Result<(), Error<E::Error>> {
-        self.check_job(&outgoing.job)?;
-        let Outgoing { mut job, content } = outgoing;
+    pub fn commit(&mut self, stored: Stored) -> Result<(), Error<E::Error>> {
+        self.check_job(&stored.job)?;
+        let Stored { mut job, copy } = stored;
         let committed = self.library.commit(job.number);
         self.outcome(committed)?;
         job.end();
-        let put = content.map(|(number, bytes)| {
+        if let Some(copy) = copy {
             self.stats.puts += 1;
-            self.stats.bytes_put += bytes.len() as u64;
-            let len = bytes.len() as u32;
-            Copy { number, len }
-        });
-        self.committed(job.column, job.group, put);
+            self.stats.bytes_put += u64::from(copy.len);
+        }
+        self.committed(job.column, job.group, copy);
         Ok(())
     }
 
@@ -131,8 +129,8 @@ impl<E: Engine> Table<E> {
     /// ```
     ///
     /// # Errors
-    /// - `NoColumn`, `OutOfRange`: there is no such object.
-    /// - `StaleJob`: it is local.
+    /// - `NoColumn`, `NoGroup`: there is no such object.
+    /// - `IsLocal`: it is local.
     /// - `EditsUsedUp`, `NoMemory`.
     pub fn begin_fetch(
         &mut self,
@@ -141,12 +139,11 @@ impl<E: Engine> Table<E> {
     ) -> Result<Incoming, Error<E::Error>> {
         let column = column.index_in(&self.schema)?;
         self.give_up_abandoned();
-        let number = self.library.begin_fetch(column, group);
-        let number = self.outcome(number)?;
+        let number = self.begin_fetch_of(column, group)?;
         let job = Job::new(number, column, group, &self.abandoned);
         let copy = self.copies.get(column, group).ok_or(Refusal::StaleJob)?;
         let target = Target::Object { column, group };
-        self.incoming(job, target, |_, _| Ok(copy))
+        self.incoming(job, target, |_, _| Ok((column, copy)))
     }
 
     /// Begins to build a row group into an aggregate from the far copies of its columns, without fetching
@@ -167,7 +164,7 @@ impl<E: Engine> Table<E> {
     /// ```
     ///
     /// # Errors
-    /// - `NoAggregate`, `OutOfRange`: there is no such aggregate or row group.
+    /// - `NoAggregate`, `NoGroup`: there is no such aggregate or row group.
     /// - `StaleJob`: the row group is not pending, or a column that the aggregate needs has no far copy as
     ///   it is now.
     /// - `EditsUsedUp`, `NoMemory`.
@@ -179,8 +176,9 @@ impl<E: Engine> Table<E> {
         let aggregate = self.number_of(aggregate.id())?;
         self.give_up_abandoned();
         let number = self.library.begin_offload(aggregate, group);
-        let number = self.outcome(number)?;
-        let job = Job::new(number, 0, group, &self.abandoned);
+        let number = self.outcome_of(Given::Group(group), number)?;
+        let column = self.columns_of(aggregate).first().copied().unwrap_or(0);
+        let job = Job::new(number, column, group, &self.abandoned);
         self.incoming(job, Target::Aggregate, |table, content| {
             table.copy_for(aggregate, group, content)
         })
@@ -191,7 +189,7 @@ impl<E: Engine> Table<E> {
         &mut self,
         job: Job,
         target: Target,
-        mut copy: impl FnMut(&mut Self, u64) -> Result<Copy, Refusal>,
+        mut copy: impl FnMut(&mut Self, u64) -> Result<(u32, Copy), Refusal>,
     ) -> Result<Incoming, Error<E::Error>> {
         let mut wanted = Vec::new();
         loop {
@@ -203,9 +201,11 @@ impl<E: Engine> Table<E> {
                     target,
                 });
             };
+            let (column, copy) = copy(self, number)?;
             wanted.push(Wanted {
                 number,
-                copy: copy(self, number)?,
+                column,
+                copy,
                 bytes: Vec::new(),
             });
         }
@@ -215,7 +215,7 @@ impl<E: Engine> Table<E> {
     /// By an automatic policy others are evicted if a fetched object has no space.
     ///
     /// ```
-    /// # use fullercoral::{Limits, Memory, Refusal, Schema, Table, row};
+    /// # use fullercoral::{Error, Limits, Memory, Refusal, Schema, Table, row};
     /// let mut table = Table::open(Schema::new().int("price"), Limits::new(), Memory::new())?;
     /// table.insert(row![5])?;
     /// table.evict("price", 0)?;
@@ -223,8 +223,8 @@ impl<E: Engine> Table<E> {
     /// for (_, bytes) in incoming.contents() {
     ///     bytes.extend(*b"other bytes");
     /// }
-    /// let error = table.install(incoming).unwrap_err();
-    /// assert_eq!(error.refusal(), Some(&Refusal::FarFault));
+    /// let Err(Error::Refused(refusal)) = table.install(incoming) else { panic!() };
+    /// assert_eq!(refusal, Refusal::FarFault { column: "price".into(), group: 0 });
     /// # Ok::<(), Box<dyn std::error::Error>>(())
     /// ```
     ///
@@ -244,13 +244,21 @@ impl<E: Engine> Table<E> {
         for content in &wanted {
             self.stats.gets += 1;
             self.stats.bytes_got += content.bytes.len() as u64;
-            let delivered = self
-                .library
-                .deliver(job.number, content.number, &content.bytes);
+            let (number, bytes) = (content.number, &content.bytes);
+            let delivered = self.library.deliver(job.number, number, bytes);
+            let delivered = self.delivered(delivered, (content.column, job.group));
             self.outcome(delivered)?;
         }
         let carried = self.library.carry(job.number);
+        let carried = self.delivered(carried, (job.column, job.group));
         self.outcome(carried)?;
+        self.end_incoming(&job, target)?;
+        job.end();
+        Ok(())
+    }
+
+    // Ends a carried fetch or build.
+    fn end_incoming(&mut self, job: &Job, target: Target) -> Result<(), Error<E::Error>> {
         match target {
             Target::Object { column, group } => {
                 let installed = self.install_job(job.number);
@@ -263,7 +271,6 @@ impl<E: Engine> Table<E> {
                 self.stats.builds += 1;
             }
         }
-        job.end();
         Ok(())
     }
 }

@@ -4,8 +4,8 @@ use super::{Given, Table};
 use crate::{ColumnRef, Engine, Error};
 
 impl<E: Engine> Table<E> {
-    /// Pins an object: it stays local for as long as the guard lives. The guard stands for the table
-    /// meanwhile. By an automatic policy an object that is away is fetched first.
+    /// Pins an object: it stays local for as long as the guard lives, unless [`unpin`](Table::unpin) is
+    /// called through the guard. By an automatic policy an object that is away is fetched first.
     ///
     /// ```
     /// # use fullercoral::{Limits, Memory, Refusal, Schema, Table, row};
@@ -20,7 +20,7 @@ impl<E: Engine> Table<E> {
     /// ```
     ///
     /// # Errors
-    /// - `NoColumn`, `OutOfRange`: there is no such object.
+    /// - `NoColumn`, `NoGroup`: there is no such object.
     /// - `Absent`: by [`Policy::Manual`](crate::Policy::Manual), it is away.
     /// - `RegionFull`: by an automatic policy, it has to be fetched, and pins leave no space for it.
     /// - `EditsUsedUp`: it has 65,535 pins.
@@ -30,7 +30,7 @@ impl<E: Engine> Table<E> {
         group: u32,
     ) -> Result<Pinned<'_, E>, Error<E::Error>> {
         let column = column.index_in(&self.schema)?;
-        self.persist(Given::Nothing, |library| library.pin(column, group))?;
+        self.persist(Given::Group(group), |library| library.pin(column, group))?;
         Ok(Pinned {
             table: self,
             column,
@@ -52,15 +52,20 @@ impl<E: Engine> Table<E> {
     /// ```
     ///
     /// # Errors
-    /// `NoColumn`, `OutOfRange`, and `NotPinned` if it has no pin.
+    /// `NoColumn`, `NoGroup`, and `NotPinned` if it has no pin.
     pub fn unpin(&mut self, column: impl ColumnRef, group: u32) -> Result<(), Error<E::Error>> {
         let column = column.index_in(&self.schema)?;
         let unpinned = self.library.unpin(column, group);
-        self.outcome(unpinned)
+        self.outcome_of(Given::Group(group), unpinned)
     }
 }
 
 /// A table with an object that is pinned. It leads to the table; when it is dropped, the pin goes.
+///
+/// An object counts its pins, and does not know whose they are. So what is done to the table through
+/// the guard may end the pin: [`unpin`](Table::unpin) of the same object removes a pin, and the guard's drop
+/// another one, if there is one, also if that was [kept](Pinned::keep). And `std::mem::swap` of the table with
+/// another leaves the pin with the table that has it, and the guard's drop unpins the other.
 ///
 /// ```
 /// # use fullercoral::{Limits, Memory, Schema, Table, row};
@@ -95,7 +100,7 @@ impl<E: Engine> Pinned<'_, E> {
 
 impl<E: Engine> Drop for Pinned<'_, E> {
     fn drop(&mut self) {
-        // Another call may have removed the pin: then there is nothing to do.
+        // A call of `unpin` may have removed the pin: then there is nothing to do.
         let _ = self.table.library.unpin(self.column, self.group);
     }
 }

@@ -188,7 +188,11 @@ impl<E: Engine> Table<E> {
         };
         match (from, to) {
             (Some(from), Some(to)) if from <= to && to <= places => Ok((column, from, to)),
-            _ => Err(Refusal::OutOfRange),
+            (from, to) => Err(Refusal::OutOfRange {
+                from: from.unwrap_or(u32::MAX),
+                to: to.unwrap_or(u32::MAX),
+                places,
+            }),
         }
     }
 

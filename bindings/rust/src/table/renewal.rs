@@ -70,7 +70,9 @@ impl<E: Engine> Table<E> {
     }
 
     fn deliver_copy_of(&mut self, column: u32, group: u32) -> Result<(), Error<E::Error>> {
-        let copy = self.copies.get(column, group).ok_or(Refusal::FarFault)?;
+        let Some(copy) = self.copies.get(column, group) else {
+            return Err(self.far_fault(column, group).into());
+        };
         self.content.clear();
         if let Err(error) = self.engine.get(copy.number, &mut self.content) {
             self.stats.engine_errors += 1;
@@ -79,6 +81,7 @@ impl<E: Engine> Table<E> {
         self.stats.gets += 1;
         self.stats.bytes_got += self.content.len() as u64;
         let delivered = self.library.deliver_copy(column, group, &self.content);
+        let delivered = self.delivered(delivered, (column, group));
         self.outcome(delivered)
     }
 

@@ -1,4 +1,5 @@
 use std::fmt;
+use std::slice;
 
 use crate::sys::fc_cell;
 use crate::{Cell, ColumnRef, Schema};
@@ -62,9 +63,8 @@ impl<'t> Row<'t> {
     /// assert_eq!(table.row(0)?.iter().len(), 1);
     /// # Ok::<(), Box<dyn std::error::Error>>(())
     /// ```
-    pub fn iter(&self) -> impl ExactSizeIterator<Item = Cell<'t>> + use<'t> {
-        // SAFETY: rule 3, by `new`.
-        self.cells.iter().map(|cell| unsafe { Cell::of_raw(cell) })
+    pub fn iter(&self) -> RowIter<'t> {
+        RowIter(self.cells.iter())
     }
 
     /// Whether the row was not removed. A removed row still has its cells.
@@ -80,6 +80,61 @@ impl<'t> Row<'t> {
     #[must_use]
     pub fn is_alive(&self) -> bool {
         self.alive
+    }
+}
+
+/// The cells of a [`Row`], in the order of the columns.
+///
+/// ```
+/// # use fullercoral::{Limits, Memory, Schema, Table, row};
+/// let schema = Schema::new().text("sku").int("quantity");
+/// let mut table = Table::open(schema, Limits::new(), Memory::new())?;
+/// table.insert(row!["rye", 3])?;
+/// for cell in table.row(0)? {
+///     println!("{cell}");
+/// }
+/// # Ok::<(), Box<dyn std::error::Error>>(())
+/// ```
+#[derive(Clone)]
+#[must_use]
+pub struct RowIter<'t>(slice::Iter<'t, fc_cell>);
+
+impl<'t> Iterator for RowIter<'t> {
+    type Item = Cell<'t>;
+
+    fn next(&mut self) -> Option<Cell<'t>> {
+        // SAFETY: rule 3, by `Row::new`.
+        self.0.next().map(|cell| unsafe { Cell::of_raw(cell) })
+    }
+
+    fn size_hint(&self) -> (usize, Option<usize>) {
+        self.0.size_hint()
+    }
+}
+
+impl ExactSizeIterator for RowIter<'_> {}
+
+impl fmt::Debug for RowIter<'_> {
+    fn fmt(&self, f: &mut fmt::Formatter<'_>) -> fmt::Result {
+        f.debug_list().entries(self.clone()).finish()
+    }
+}
+
+impl<'t> IntoIterator for Row<'t> {
+    type Item = Cell<'t>;
+    type IntoIter = RowIter<'t>;
+
+    fn into_iter(self) -> RowIter<'t> {
+        self.iter()
+    }
+}
+
+impl<'t> IntoIterator for &Row<'t> {
+    type Item = Cell<'t>;
+    type IntoIter = RowIter<'t>;
+
+    fn into_iter(self) -> RowIter<'t> {
+        self.iter()
     }
 }
 

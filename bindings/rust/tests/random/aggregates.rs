@@ -111,10 +111,15 @@ where
                     assert_eq!((line.min, line.max), (due.min, due.max));
                 }
             });
+        // Of an aggregate by texts no row has this key; any other refuses it.
         let absent = fullercoral::Key::Text("\u{1}no key");
-        match handle {
-            Handle::Totals(it) => assert_eq!(table.ask_key(it, absent).unwrap(), None),
-            Handle::Extrema(it) => assert_eq!(table.ask_key(it, absent).unwrap(), None),
+        let found = match handle {
+            Handle::Totals(it) => table.ask_key(it, absent).map(|line| line.is_some()),
+            Handle::Extrema(it) => table.ask_key(it, absent).map(|line| line.is_some()),
+        };
+        match self.reply(found) {
+            Reply::Value(is_found) => assert!(!is_found),
+            reply => assert_eq!(reply, Reply::Refused(5)),
         }
     }
 

@@ -89,17 +89,17 @@ where
     fn reply<T>(&mut self, result: Result<T, Error<E::Error>>) -> Reply<T> {
         match result {
             Ok(value) => Reply::Value(value),
-            Err(Error::Refused(Refusal::FarFault) | Error::Engine(_)) => {
-                assert!(self.faulty);
-                self.faults += 1;
-                Reply::Fault
-            }
-            Err(Error::Refused(refusal)) => {
+            Err(Error::Refused(refusal)) if refusal.number() != 21 => {
                 if let (Refusal::Absent { column, group }, true) = (&refusal, self.manual()) {
                     let column = schema().index(column).unwrap() as u32;
                     assert!(self.away.contains(&(column, *group)));
                 }
                 Reply::Refused(refusal.number())
+            }
+            Err(_) => {
+                assert!(self.faulty);
+                self.faults += 1;
+                Reply::Fault
             }
         }
     }

@@ -72,8 +72,9 @@ where
         }
         if self.table.is_local(column as usize, group).unwrap() {
             let outgoing = self.table.begin_evict(column as usize, group).unwrap();
-            if outgoing.put(self.table.engine_mut()).is_ok() && !self.random.one_in(5) {
-                self.table.commit(outgoing).unwrap();
+            let put = outgoing.put(self.table.engine_mut());
+            if let (Ok(stored), false) = (put, self.random.one_in(5)) {
+                self.table.commit(stored).unwrap();
                 self.note_away(column, group);
             }
         } else {

@@ -57,10 +57,16 @@ impl Model {
         self.place_refusal(place)
     }
 
+    /// There is no such place.
+    pub fn no_row(&self, place: u32) -> Refusal {
+        let places = self.places();
+        Refusal::NoRow { place, places }
+    }
+
     /// Why the row of a place cannot be edited, whatever is local.
     pub fn place_refusal(&self, place: u32) -> Result<(), Refusal> {
         match self.alive.get(place as usize) {
-            None => Err(Refusal::NoRow { place }),
+            None => Err(self.no_row(place)),
             Some(false) => Err(Refusal::RemovedRow { place }),
             Some(true) => Ok(()),
         }

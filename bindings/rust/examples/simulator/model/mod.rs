@@ -107,8 +107,10 @@ impl Model {
         if column < self.kinds.len() {
             return Ok(());
         }
-        let column = column.to_string().into();
-        Err(Refusal::NoColumn { column })
+        Err(Refusal::NoColumnAt {
+            index: column,
+            columns: self.kinds.len(),
+        })
     }
 
     /// Refused if an object of one of these columns of a row group is away.
@@ -137,8 +139,13 @@ impl Model {
     pub fn folding_refusal(&self, folding: &Folding) -> Result<(), Refusal> {
         use fullercoral::Constant::{Int, Text};
         let is_long = |constant: &fullercoral::Constant| matches!(constant, Text(text) if text.len() > LONGEST);
-        if folding.tests.len() > 4 || folding.tests.iter().any(|(_, _, it)| is_long(it)) {
-            return Err(Refusal::BadSpec);
+        if folding.tests.len() > 4 {
+            let rule = "it has at most 4 tests";
+            return Err(Refusal::BadSpec { rule });
+        }
+        if folding.tests.iter().any(|(_, _, it)| is_long(it)) {
+            let rule = "a text constant has at most 4,096 bytes";
+            return Err(Refusal::BadSpec { rule });
         }
         for column in folding.columns() {
             if column >= self.kinds.len() {
@@ -151,12 +158,16 @@ impl Model {
         }
         for (column, op, constant) in &folding.tests {
             use fullercoral::Op::{Begins, Eq, Is};
-            let suits = match constant {
-                Int(_) => self.kinds[*column] == Kind::Int && !matches!(op, Begins),
-                Text(_) => self.kinds[*column] == Kind::Text && matches!(op, Eq | Is | Begins),
+            let (kind, suits) = match constant {
+                Int(_) => (Kind::Int, !matches!(op, Begins)),
+                Text(_) => (Kind::Text, matches!(op, Eq | Is | Begins)),
             };
-            if !suits {
+            if self.kinds[*column] != kind {
                 return Err(self.wrong_kind(*column));
+            }
+            if !suits {
+                let (column, op) = (name(*column).into(), *op);
+                return Err(Refusal::WrongOp { column, op, kind });
             }
         }
         Ok(())

@@ -51,9 +51,14 @@ impl Model {
     /// The object of a row group of a column. Refused if there is none.
     pub fn object(&self, column: usize, group: u32) -> Result<&Object, Refusal> {
         self.column(column)?;
-        self.objects[column]
-            .get(group as usize)
-            .ok_or(Refusal::OutOfRange)
+        let object = self.objects[column].get(group as usize);
+        object.ok_or(self.no_group(group))
+    }
+
+    /// There is no such row group.
+    pub fn no_group(&self, group: u32) -> Refusal {
+        let groups = self.groups();
+        Refusal::NoGroup { group, groups }
     }
 
     pub fn object_mut(&mut self, column: usize, group: u32) -> &mut Object {

@@ -20,8 +20,9 @@ impl Model {
     /// Why a part of a column cannot be read, whatever is local.
     pub fn part_refusal(&self, column: usize, from: u32, to: u32) -> Result<(), Refusal> {
         self.column(column)?;
-        if from > to || to > self.places() {
-            return Err(Refusal::OutOfRange);
+        let places = self.places();
+        if from > to || to > places {
+            return Err(Refusal::OutOfRange { from, to, places });
         }
         Ok(())
     }

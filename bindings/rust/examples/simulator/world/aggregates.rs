@@ -160,7 +160,7 @@ impl World {
         let watched = self.aggregates.get(&id).filter(|it| it.is_registered);
         let watched = watched.ok_or(Refusal::NoAggregate)?;
         if group >= self.model.groups() {
-            return Err(Refusal::OutOfRange);
+            return Err(self.model.no_group(group));
         }
         if !watched.pending.contains(&group) {
             return Err(Refusal::StaleJob);

@@ -3,7 +3,7 @@
 use fullercoral::{Cell, Column, Kind, Refusal, TextBuffer};
 
 use super::{Checked, World, Wrong, no_space};
-use crate::call::{Call, Owned};
+use crate::call::{Call, Owned, name};
 use crate::repeat::told;
 
 impl World {
@@ -92,13 +92,15 @@ impl World {
                 columns: due,
             });
         }
-        if columns
-            .iter()
-            .any(|column| column.len() != columns[0].len())
-        {
-            return Err(Refusal::BadArgument);
+        let rows = columns.first().map_or(0, Vec::len);
+        match columns.iter().position(|column| column.len() != rows) {
+            None => Ok(()),
+            Some(column) => Err(Refusal::BadArgument {
+                column: name(column).into(),
+                row: rows.min(columns[column].len()),
+                rule: "all columns have one length",
+            }),
         }
-        Ok(())
     }
 
     fn extended(&mut self, columns: &[Vec<Owned>]) -> String {

@@ -124,7 +124,8 @@ impl World {
     // Why a fetch does not begin.
     pub fn fetch_refusal(&self, column: usize, group: u32) -> Result<(), Refusal> {
         if self.model.object(column, group)?.local {
-            return Err(Refusal::StaleJob);
+            let column = name(column).into();
+            return Err(Refusal::IsLocal { column, group });
         }
         self.model.begin_refusal()
     }

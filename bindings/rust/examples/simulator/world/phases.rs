@@ -1,10 +1,10 @@
 //! Movement in phases, between which other calls come.
 
-use fullercoral::{Incoming, Outgoing, Refusal};
+use fullercoral::{Incoming, Outgoing, Refusal, Stored};
 
 use super::aggregates::{of_engine, with_handle};
 use super::{Checked, World, Wrong, no_space};
-use crate::call::Call;
+use crate::call::{Call, name};
 use crate::repeat::{told, told_of};
 
 /// What an object was when a job of it began: how often it was written, and how often it went away.
@@ -21,10 +21,9 @@ pub struct Job {
 
 enum Work {
     Evict {
-        outgoing: Outgoing,
+        eviction: Eviction,
         /// What goes away, if it is known: not of the coldest object.
         object: Option<(usize, u32, State)>,
-        was_put: bool,
     },
     Fetch {
         incoming: Incoming,
@@ -38,6 +37,22 @@ enum Work {
         rests_on: (Vec<u64>, Vec<bool>),
         is_right: bool,
     },
+}
+
+/// An eviction that is to be put, or to be committed.
+enum Eviction {
+    Begun(Outgoing),
+    Stored(Stored),
+}
+
+impl Eviction {
+    // One whose content the far side has already needs no put.
+    fn new(outgoing: Outgoing) -> Eviction {
+        match outgoing.content() {
+            Some(_) => Eviction::Begun(outgoing),
+            None => Eviction::Stored(outgoing.assume_stored()),
+        }
+    }
 }
 
 impl Job {
@@ -56,7 +71,7 @@ impl Job {
     /// Whether the far side has its content, or it has those of the far side.
     pub fn is_ready(&self) -> bool {
         match self.work {
-            Work::Evict { was_put, .. } => was_put,
+            Work::Evict { ref eviction, .. } => matches!(eviction, Eviction::Stored(_)),
             Work::Fetch { is_right, .. } | Work::Build { is_right, .. } => is_right,
         }
     }
@@ -68,6 +83,11 @@ impl Job {
     pub fn is_unsure(&mut self) {
         self.is_unsure = true;
     }
+}
+
+fn far_fault(column: usize, group: u32) -> Refusal {
+    let column = name(column).into();
+    Refusal::FarFault { column, group }
 }
 
 impl World {
@@ -95,12 +115,8 @@ impl World {
                 return Err(Wrong::state(due, came));
             }
             let object = Some((column, group, self.state(column, group)));
-            let was_put = !has_content;
-            let work = Work::Evict {
-                outgoing,
-                object,
-                was_put,
-            };
+            let eviction = Eviction::new(outgoing);
+            let work = Work::Evict { eviction, object };
             self.jobs.insert(id, Job::new(work));
         }
         Ok(())
@@ -122,12 +138,10 @@ impl World {
         self.model.is_heat_known = false;
         self.model.begun += if found_none { 0 } else { left.min(2) };
         if let Ok(Some(outgoing)) = reply {
-            let was_put = outgoing.content().is_none();
-            self.model.contents += u64::from(!was_put);
+            self.model.contents += u64::from(outgoing.content().is_some());
             let work = Work::Evict {
-                outgoing,
+                eviction: Eviction::new(outgoing),
                 object: None,
-                was_put,
             };
             self.jobs.insert(id, Job::new(work));
         }
@@ -201,22 +215,35 @@ impl World {
         }
     }
 
+    // Puts the content of an eviction. If that fails, the eviction is over.
     fn put(&mut self, id: u32) -> Checked {
-        let Some(job) = self.jobs.get_mut(&id) else {
+        let is_begun = |job: &Job| {
+            let Work::Evict { eviction, .. } = &job.work else {
+                return false;
+            };
+            matches!(eviction, Eviction::Begun(_))
+        };
+        if !self.jobs.get(&id).is_some_and(is_begun) {
+            return Ok(());
+        }
+        let Some(mut job) = self.jobs.remove(&id) else {
             return Ok(());
         };
-        if let Work::Evict {
-            outgoing, was_put, ..
-        } = &mut job.work
-        {
-            if !*was_put {
-                let put = outgoing.put(self.table.engine_mut());
-                *was_put = put.is_ok();
-                let came = told(of_engine(put));
-                return self.settle(&came, Ok("()".to_owned()), &[]).map(drop);
-            }
+        let Work::Evict {
+            eviction: Eviction::Begun(outgoing),
+            object,
+        } = job.work
+        else {
+            return Ok(());
+        };
+        let put = outgoing.put(self.table.engine_mut());
+        let came = told(of_engine(put.as_ref().map(drop).map_err(|down| *down)));
+        if let Ok(stored) = put {
+            let eviction = Eviction::Stored(stored);
+            job.work = Work::Evict { eviction, object };
+            self.jobs.insert(id, job);
         }
-        Ok(())
+        self.settle(&came, Ok("()".to_owned()), &[]).map(drop)
     }
 
     // Gets the contents of a job. It does not know whether they are right.
@@ -250,15 +277,16 @@ impl World {
 
     // Ends an eviction whose bytes were put; any other job stays.
     fn commit(&mut self, id: u32) -> Checked {
-        let is_put = |job: &Job| matches!(job.work, Work::Evict { was_put: true, .. });
-        if !self.jobs.get(&id).is_some_and(is_put) {
+        let is_stored = |job: &Job| job.is_eviction() && job.is_ready();
+        if !self.jobs.get(&id).is_some_and(is_stored) {
             return Ok(());
         }
         let Some(job) = self.jobs.remove(&id) else {
             return Ok(());
         };
         let Work::Evict {
-            outgoing, object, ..
+            eviction: Eviction::Stored(stored),
+            object,
         } = job.work
         else {
             return Ok(());
@@ -270,7 +298,7 @@ impl World {
             Some((column, group, state)) => self.commit_refusal(column, group, state),
             None => Ok(()),
         };
-        let came = told(self.table.commit(outgoing));
+        let came = told(self.table.commit(stored));
         if self.settle(&came, due.map(|()| "()".to_owned()), may)? {
             match object {
                 Some((column, group, _)) => self.model.leave(column, group),
@@ -352,7 +380,7 @@ impl World {
                 may.extend((!right).then_some(21));
                 Err(Refusal::StaleJob)
             }
-            (false, false) => Err(Refusal::FarFault),
+            (false, false) => Err(far_fault(column, group)),
             _ if self.is_manual() && !self.model.has_space_for(column, group) => {
                 Err(Refusal::RegionFull)
             }
@@ -384,7 +412,11 @@ impl World {
             Ok("()".to_owned())
         };
         let due = match due {
-            Ok(_) if !is_right => Err(Refusal::FarFault),
+            Ok(_) if !is_right => {
+                // (or another of the columns that it needs)
+                let column = self.aggregates[&of].folding.value;
+                Err(far_fault(column, group))
+            }
             Err(refusal) => {
                 may.extend([20]);
                 may.extend((!is_right).then_some(21));

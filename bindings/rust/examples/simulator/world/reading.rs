@@ -21,7 +21,7 @@ impl World {
         if place < self.model.places() {
             return Ok(());
         }
-        Err(Refusal::NoRow { place })
+        Err(self.model.no_row(place))
     }
 
     fn row(&mut self, place: u32) -> Checked {

@@ -118,7 +118,10 @@ impl Engine for Resp {
         let key = self.key(number);
         match self.call(&[b"GET", key.as_bytes()], buffer)? {
             Reply::Value => Ok(()),
-            _ => Err(io::ErrorKind::NotFound.into()),
+            _ => Err(io::Error::new(
+                io::ErrorKind::NotFound,
+                format!("the server has no key {key}"),
+            )),
         }
     }
 
