@@ -22,7 +22,7 @@ import secrets
 import time
 from array import array
 from pathlib import Path
-from typing import Any, Callable, Protocol, Union, runtime_checkable
+from typing import Any, Callable, NoReturn, Protocol, SupportsIndex, Union, runtime_checkable
 
 from .errors import BadArgument
 
@@ -190,6 +190,10 @@ class Files:
 
     def __del__(self) -> None:
         self.close()
+
+    def __reduce_ex__(self, protocol: SupportsIndex) -> NoReturn:
+        """Refuses a copy, which would remove the file that it shares, and a pickle."""
+        raise TypeError("an engine of Files cannot be copied or pickled; make one of another path")
 
     def __repr__(self) -> str:
         return f"Files({str(self.path)!r})"

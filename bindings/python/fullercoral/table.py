@@ -7,7 +7,7 @@ import threading
 from collections import namedtuple
 from ctypes import byref, c_bool
 from types import TracebackType
-from typing import Any, Iterator, Sequence, Union, overload
+from typing import Any, Iterator, NoReturn, Sequence, SupportsIndex, Union, overload
 
 from . import _header as header
 from . import display
@@ -134,6 +134,10 @@ class Table(Editing, Moving):
                 self.close()
             except Exception:
                 pass  # an engine that cannot be closed is nobody's concern any more
+
+    def __reduce_ex__(self, protocol: SupportsIndex) -> NoReturn:
+        """Refuses a copy, which would close the table that it shares, and a pickle."""
+        raise TypeError("a table cannot be copied or pickled; to_csv or to_pandas gives its rows")
 
     # Rows
 

@@ -2,10 +2,13 @@
 
 from __future__ import annotations
 
+import copy
 import gc
 import pickle
+import tempfile
 import threading
 import unittest
+from pathlib import Path
 from typing import Any
 
 import fullercoral as fc
@@ -219,6 +222,19 @@ class Life(unittest.TestCase):
         del table
         gc.collect()
         fc.Table(COLUMNS, far=engine).close()
+
+    def test_no_copy_closes_a_table(self) -> None:
+        with fc.Table(COLUMNS, local="1MB") as table, tempfile.TemporaryDirectory() as folder:
+            table.append(("bread", 5))
+            table.move_to(fc.Files(Path(folder, "x.far")))
+            table.evict()
+            for call in (copy.copy, copy.deepcopy, pickle.dumps):
+                with self.assertRaisesRegex(TypeError, "copied or pickled; to_csv or to_pandas"):
+                    call(table)
+                with self.assertRaisesRegex(TypeError, "Files cannot be copied"):
+                    call(table.engine)
+            gc.collect()
+            self.assertEqual(list(table), [("bread", 5)])
 
     def test_no_engine(self) -> None:
         with self.assertRaisesRegex(TypeError, "no engine"):
