@@ -1,8 +1,9 @@
 """Engines keep the contents of objects that are away.
 
 An engine is any object with ``put(number, content)`` and ``get(number)``. It need not be trusted:
-the library checks each content that comes back. Two more methods are used if they are there:
-``discard(number)`` says that a content will not be asked for again, ``close()`` that none will.
+the library checks each content that comes back. Three more methods are used if they are there:
+``prepare()`` says that a table opens on it, and may refuse; ``discard(number)`` says that a content
+will not be asked for again, ``close()`` that none will.
 
 >>> class Folder:
 ...     "An engine in five lines: a file for each content."
@@ -19,6 +20,7 @@ from __future__ import annotations
 import fcntl
 import os
 import secrets
+import stat
 import time
 from array import array
 from pathlib import Path
@@ -42,12 +44,22 @@ _in_use: set[int] = set()
 
 
 def take(engine: Engine) -> Engine:
-    """Returns an engine for a table, which no other open table may use."""
+    """Returns an engine for a table, which no other open table may use.
+
+    Refuses what is no engine, one that is in use, and one that cannot keep contents.
+    """
     if not callable(getattr(engine, "put", None)) or not callable(getattr(engine, "get", None)):
         raise TypeError(f"{engine!r} is no engine: it has no put and get")
     if id(engine) in _in_use:
         raise BadArgument(f"{engine!r} is the engine of another table")
     _in_use.add(id(engine))
+    prepare = getattr(engine, "prepare", None)
+    if prepare is not None:
+        try:
+            prepare()
+        except BaseException:
+            release(engine)
+            raise
     return engine
 
 
@@ -99,10 +111,11 @@ class Memory:
 
 
 class Files:
-    """Keeps contents in a file, which is made at the first put and removed at the close.
+    """Keeps contents in a file, which is made when a table opens on it and removed at the close.
 
-    The file is of use to nobody once the table is gone: it is no saved table. A file that a process
-    left behind when it was killed is used again; any other file at this path is left alone, with
+    A path at which there can be no such file is refused then, with an ``OSError`` that names it. The
+    file is of use to nobody once the table is gone: it is no saved table. A file that a process left
+    when it was killed is used again; any other file at this path is left alone, with
     ``FileExistsError``. The space of a content that is discarded is used again for a content of the
     same length. Memory for each content: 12 bytes.
 
@@ -126,26 +139,38 @@ class Files:
         self._lengths = array("I")
         self._free: dict[int, list[int]] = {}
 
-    def _open(self) -> None:
-        file = os.open(self._whole_path, os.O_RDWR | os.O_CREAT | os.O_CLOEXEC, 0o600)
+    def prepare(self) -> None:
+        """Makes the file, unless it is there; refuses a path at which it cannot be."""
+        if self._file >= 0:
+            return
         try:
-            fcntl.flock(file, fcntl.LOCK_EX | fcntl.LOCK_NB)
-            if os.pread(file, len(self.MARK), 0) not in (b"", self.MARK):
-                raise FileExistsError(f"{self.path} is no file of contents, and is left as it is")
-        except BlockingIOError:
-            os.close(file)
-            raise FileExistsError(f"{self.path} is in use by another table") from None
+            file = os.open(self._whole_path, os.O_RDWR | os.O_CREAT | os.O_CLOEXEC, 0o600)
+        except OSError as error:
+            raise type(error)(_no_file(self.path, error)) from None
+        try:
+            self._begin(file)
         except BaseException:
             os.close(file)
             raise
+        self._file, self._end = file, len(self.MARK)
+
+    def _begin(self, file: int) -> None:
+        """Empties a file of contents; refuses one that is of someone else, or in use."""
+        other = "give Files another path"
+        try:
+            fcntl.flock(file, fcntl.LOCK_EX | fcntl.LOCK_NB)
+        except BlockingIOError:
+            said = f"{self.path} is in use by another table: close that one, or {other}"
+            raise FileExistsError(said) from None
+        is_plain = stat.S_ISREG(os.fstat(file).st_mode)
+        if not is_plain or os.pread(file, len(self.MARK), 0) not in (b"", self.MARK):
+            raise FileExistsError(f"{self.path} is no file of contents, and is left as it is: {other}")
         os.ftruncate(file, 0)
         os.pwrite(file, self.MARK, 0)
-        self._file, self._end = file, len(self.MARK)
 
     def put(self, number: int, content: bytes) -> None:
         """Writes a content to the file."""
-        if self._file < 0:
-            self._open()
+        self.prepare()
         free = self._free.get(len(content))
         offset = free.pop() if free else self._end
         try:
@@ -197,6 +222,15 @@ class Files:
 
     def __repr__(self) -> str:
         return f"Files({str(self.path)!r})"
+
+
+def _no_file(path: Path, error: OSError) -> str:
+    """Returns the sentence on a path at which no file can be opened."""
+    if isinstance(error, FileNotFoundError):
+        return f"{path}: there is no folder {path.parent}; make it, or give Files another path"
+    if isinstance(error, IsADirectoryError):
+        return f"{path} is a folder: give Files the path of a file in it"
+    return f"{path} cannot be written ({error.strerror}): give Files another path"
 
 
 def _write_all(file: int, content: bytes, offset: int) -> None:

@@ -384,18 +384,32 @@ class Engines(unittest.TestCase):
         with tempfile.TemporaryDirectory() as folder:
             path = Path(folder, "orders.csv")
             path.write_text("sku,quantity\n")
-            with filled(16, far=fc.Files(path)) as table:
-                with self.assertRaisesRegex(fc.EngineError, "FileExistsError"):
-                    table.evict()
+            with self.assertRaisesRegex(FileExistsError, "orders.csv is no file of contents"):
+                filled(16, far=fc.Files(path))
+            with filled(16) as table:
+                with self.assertRaisesRegex(FileExistsError, "give Files another path"):
+                    table.move_to(fc.Files(path))
                 self.assertEqual(table[0], ("sku0", 0))
             self.assertEqual(path.read_text(), "sku,quantity\n")
             path.write_bytes(fc.Files.MARK + b"what a process left that was killed")
             with filled(16, far=fc.Files(path)) as table:
                 table.evict()
-                with filled(16, far=fc.Files(path)) as other:
-                    with self.assertRaisesRegex(fc.EngineError, "in use by another table"):
-                        other.evict()
+                with self.assertRaisesRegex(FileExistsError, "in use by another table: close"):
+                    filled(16, far=fc.Files(path))
                 self.assertEqual(table[0], ("sku0", 0))
+
+    def test_a_path_that_no_file_can_have_is_refused_when_the_table_opens(self) -> None:
+        with tempfile.TemporaryDirectory() as folder:
+            for path, kind, said in (
+                (f"{folder}/no/x.far", FileNotFoundError, f"there is no folder {folder}/no"),
+                (folder, IsADirectoryError, "is a folder: give Files the path of a file"),
+                ("/proc/x.far", OSError, "/proc/x.far"),
+                ("/dev/null", FileExistsError, "left as it is"),
+            ):
+                engine = fc.Files(path)
+                for _ in range(2):
+                    with self.subTest(path=path), self.assertRaisesRegex(kind, said):
+                        fc.Table(KINDS, local="1MB", far=engine)
 
     def test_files_of_themselves(self) -> None:
         with tempfile.TemporaryDirectory() as folder:
