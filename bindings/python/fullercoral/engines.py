@@ -68,6 +68,12 @@ def release(engine: Engine) -> None:
     _in_use.discard(id(engine))
 
 
+def shown_engine(engine: Any) -> str:
+    """Returns an engine as a sentence names it: its repr, or its class if that is long."""
+    shown = repr(engine)
+    return type(engine).__name__ if len(shown) > 100 or " object at 0x" in shown else shown
+
+
 def close_engine(engine: Any) -> None:
     """Closes an engine, if it can be closed."""
     close = getattr(engine, "close", None)

@@ -280,11 +280,31 @@ class FarFault(Refused, OSError):
     number = 21
     text = "a content that came back is not the one that went out; nothing was changed"
 
+    def _sentence(self) -> str:
+        if "engine" not in self.details:
+            return self.text
+        return (
+            f"{self.details['engine']} returns other bytes than it was given for {self._object()}: "
+            "put those back and call again; nothing was changed, and built answers stay exact"
+        )
+
+    def _object(self) -> str:
+        """Returns what did not come back, or could not go."""
+        of_group = f" of row group {self.group}" if self.group is not None else ""
+        return f"column {self.column}{of_group}" if self.column is not None else "a content"
+
 
 class EngineError(FarFault):
     """The engine raised an exception, which is this one's ``__cause__``. Nothing was changed."""
 
     text = "the engine failed; nothing was changed"
+
+    def _sentence(self) -> str:
+        if "engine" not in self.details:
+            return self.text
+        engine, act, cause = (self.details[name] for name in ("engine", "act", "cause"))
+        said = f"{engine} cannot {act} {self._object()} ({cause})"
+        return f"{said}: nothing was changed, and the call works once it can"
 
     @property
     def name(self) -> str:

@@ -351,6 +351,33 @@ class Engines(unittest.TestCase):
             self.assertEqual(list(table["quantity"]), [77, *range(1, 16)])
             self.assertEqual(table.stats().faults, len(lies))
 
+    def test_a_fault_names_the_object_and_what_may_help(self) -> None:
+        engine = fc.Memory()
+        with filled(64, far=engine) as table:
+            sold = table.watch(fc.totals("quantity", by="sku"))
+            table.evict()
+            right = dict(engine._contents)
+            said = r"Memory\(\) returns other bytes than it was given for column sku of row group 2"
+            for contents, kind, due in (
+                (dict.fromkeys(right, b"x"), fc.FarFault, said + ": put those back and call again"),
+                ({}, fc.EngineError, r"cannot return column sku of row group 2 \(KeyError: "),
+            ):
+                engine._contents = contents
+                for call in (lambda: table[40], lambda: table["sku"][32:34]):
+                    with self.subTest(said=due), self.assertRaisesRegex(kind, due) as caught:
+                        call()
+                    self.assertEqual((caught.exception.column, caught.exception.group), ("sku", 2))
+                for call in (sold.items, lambda: table.move_to(fc.Memory())):
+                    with self.assertRaisesRegex(kind, "column sku of row group 0"):
+                        call()
+            engine._contents = right
+            self.assertEqual((table[40], sold["sku0"].count), (("sku0", 40), 13))
+            full = fc.EngineError
+            engine.put = lambda *content: 1 / 0  # type: ignore[assignment,method-assign]
+            table.set(40, "quantity", 7)
+            with self.assertRaisesRegex(full, r"cannot keep column quantity of row group 2 \(Zero"):
+                table.evict("quantity", 2)
+
     def test_an_engine_that_returns_no_bytes(self) -> None:
         engine = Dumb()
         with filled(16, far=engine) as table:
