@@ -94,7 +94,7 @@ class Editing:
             row = self._in_order(row)
         with self._lock:
             if len(row) != self._width:
-                raise RowWidth(f"the row has {len(row)} cells, and the table {self._width} columns")
+                raise self._wrong_width(row)
             words: Any = self._row_words
             texts: list[bytes] = []
             try:
@@ -110,8 +110,15 @@ class Editing:
                 return self._append_with_missing(row)
             return self._insert_filled(texts)
 
+    def _wrong_width(self, row: Sequence[Any]) -> Refused:
+        if not self._handle.is_open:
+            return Closed()
+        return RowWidth(f"the row has {len(row)} cells, and the table {self._width} columns")
+
     def _append_with_missing(self, row: Sequence[Any]) -> int:
         """Appends a row with missing cells; refuses one that has what does not fit."""
+        if not self._handle.is_open:
+            raise Closed()
         words: Any = self._row_words
         texts: list[bytes] = []
         try:
@@ -197,6 +204,8 @@ class Editing:
 
     def _odd_cell(self, place: int, column: str, value: Any) -> tuple[int, int, Any]:
         """Returns an index, a place and a cell of other kinds than most; refuses what is none."""
+        if not self._handle.is_open:
+            raise Closed()
         index, kind = self.schema.index(column), self.schema[column]
         if value is None or value is NA:
             return index, index_of(place), self._missing_at
@@ -320,6 +329,8 @@ class Editing:
         >>> table.extend_columns(sku=["bread", "rye", None], quantity=[5, None, 2])
         range(0, 3)
         """
+        if not self._handle.is_open:
+            raise Closed()
         buffers = self._column_buffers(columns, named)
         rows = buffers[0].length
         with self._lock:

@@ -38,8 +38,7 @@ class Column:
     def __init__(self, table: Table, name: str) -> None:
         self.table = table
         self.name = name
-        self.index = table.schema.index(name)
-        self.kind = table.schema.kinds[self.index]
+        self.index, self.kind = table._column(name)
 
     def __len__(self) -> int:
         """How many places there are, removed rows among them."""
@@ -113,7 +112,8 @@ class Column:
             yield from batch[self.name]
 
     def __repr__(self) -> str:
-        return f"<column {self.name!r} of {self.kind.__name__}, {len(self):,} places>"
+        places = "of a closed table" if self.table.closed else f"{len(self):,} places"
+        return f"<column {self.name!r} of {self.kind.__name__}, {places}>"
 
 
 class Batch(Mapping[str, Any]):

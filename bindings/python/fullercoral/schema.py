@@ -56,7 +56,7 @@ class Schema:
 
     def __init__(self, columns: SchemaLike) -> None:
         if isinstance(columns, Schema):
-            columns = zip(columns.names, columns.kinds)
+            columns = columns.pairs()
         elif isinstance(columns, Mapping):
             columns = columns.items()
         pairs = list(columns)
@@ -81,6 +81,10 @@ class Schema:
             return self._index[name]
         except (KeyError, TypeError):
             raise NoColumn(column=name, columns=self.names) from None
+
+    def pairs(self) -> Iterator[tuple[str, type]]:
+        """Returns the names with their kinds."""
+        return zip(self.names, self.kinds)
 
     def codes(self) -> list[int]:
         """Returns the columns' kinds as the library numbers them."""
@@ -111,7 +115,7 @@ class Schema:
         return hash((self.names, self.kinds))
 
     def __repr__(self) -> str:
-        pairs = (f"{name!r}: {kind.__name__}" for name, kind in zip(self.names, self.kinds))
+        pairs = (f"{name!r}: {kind.__name__}" for name, kind in self.pairs())
         return f"Schema({{{', '.join(pairs)}}})"
 
 

@@ -20,7 +20,7 @@ from .aggregates import Key, Spec, Watched, spec_struct
 from .column import Batch, Column, Value, read_batch
 from .csv_files import CsvOptions, load_csv, write_csv
 from .engines import Engine, Memory, close_engine, release, take
-from .errors import Absent, BadArgument, Closed, NoAggregate, RemovedRow
+from .errors import Absent, BadArgument, Closed, NoAggregate, NoColumn, RemovedRow
 from .limits import Limits
 from .movement import Mover
 from .policy import Helper, Policy, build
@@ -80,6 +80,7 @@ class Table(Editing, Moving):
         self._answer: Watched[Any] | None = None  # whose answer, as rows are now, is in the handle
         self._places = 0
         self._live = 0
+        self._kind_of = {name: (at, kind) for at, (name, kind) in enumerate(self.schema.pairs())}
         self._Row: Any = namedtuple("Row", self.schema.names, rename=True)  # type: ignore[misc]
         self._prepare_edits()
         self._prepare_rows()
@@ -105,6 +106,7 @@ class Table(Editing, Moving):
         with self._lock:
             if self._handle.is_open:
                 self._handle.close()
+                self._kind_of.clear()
                 self._watched.clear()
                 release(self._mover.engine)
                 close_engine(self._mover.engine)
@@ -143,12 +145,22 @@ class Table(Editing, Moving):
 
     def __len__(self) -> int:
         """How many rows are alive."""
+        self._open_handle()
         return self._live
 
     @property
     def places(self) -> int:
         """How many places there are, removed rows among them."""
+        self._open_handle()
         return self._places
+
+    def _column(self, name: str) -> tuple[int, type]:
+        """Returns the index and the kind of a column; refuses a name that is none."""
+        try:
+            return self._kind_of[name]
+        except (KeyError, TypeError):
+            self._open_handle()  # a closed table knows no column
+            raise NoColumn(column=name, columns=self.schema.names) from None
 
     @property
     def columns(self) -> tuple[str, ...]:

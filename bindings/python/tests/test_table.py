@@ -190,13 +190,23 @@ class Refusals(Case):
 
     def test_a_closed_table(self) -> None:
         table = self.table
-        sold = table.watch(fc.totals("quantity"))
+        sold, sku = table.watch(fc.totals("quantity")), table["sku"]
         table.append(("bread", 5))
         table.close()
         table.close()
         self.assertTrue(table.closed)
         for call in (
             lambda: table.append(("rye", 1)),
+            lambda: table.append(("rye",)),
+            lambda: table.append(("rye", "x")),
+            lambda: table.extend([("rye",)]),
+            lambda: table.extend_columns(sku=["rye"]),
+            lambda: len(table),
+            lambda: table.places,
+            lambda: list(table),
+            lambda: table["sku"],
+            lambda: table["prize"],
+            lambda: table.set(0, "prize", 1),
             lambda: table[0],
             lambda: table.set(0, "sku", "x"),
             lambda: table["sku"][0:1],
@@ -210,6 +220,7 @@ class Refusals(Case):
                 call()
         self.assertIn("closed", repr(table))
         self.assertIn("not watched", repr(sold))
+        self.assertIn("of a closed table", repr(sku))
         self.assertIn("closed", table._repr_html_())
 
 
