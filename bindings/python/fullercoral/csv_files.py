@@ -2,18 +2,21 @@
 
 from __future__ import annotations
 
+import codecs
 import csv
 import gzip
 import io
 import os
 import re
 from array import array
-from dataclasses import dataclass
+from dataclasses import dataclass, fields
+from inspect import signature
 from itertools import islice
 from typing import TYPE_CHECKING, Any, Callable, Iterator, Mapping, Sequence, Union
 
 from ._buffers import MaskedNumbers, pack_bits
 from ._header import MAX_COLUMNS, MAX_TEXT
+from ._options import refuse_unknown
 from .errors import Refused
 from .progress import Shown
 from .schema import Kind, Schema
@@ -64,6 +67,7 @@ class CsvOptions:
     types: Mapping[str, Kind] | None = None
     missing: str | None = None
     convert: Mapping[str, Convert] | None = None
+    encoding: str = "utf-8"
 
 
 def scaled(digits: int) -> Convert:
@@ -98,7 +102,8 @@ class _Source:
     def __init__(self, path: Any, options: CsvOptions) -> None:
         self.name = getattr(path, "name", "the file") if hasattr(path, "read") else str(path)
         self._owns = not hasattr(path, "read")
-        self._file, self._counted, self.size = _opened(path)
+        self.encoding = _codec(self.name, options.encoding)
+        self._file, self._counted, self.size = _opened(path, self.encoding)
         self._reader = csv.reader(self._file, delimiter=options.delimiter, strict=True)
         self._first_line = 0
 
@@ -126,9 +131,18 @@ class _Source:
         return self._first_line + index + before + 1
 
 
-def _opened(path: Any) -> tuple[Any, Any, int]:
+def _codec(path: Any, encoding: str) -> str:
+    """Returns the name of an encoding, and refuses one that there is not."""
+    try:
+        return codecs.lookup(encoding).name
+    except LookupError:
+        raise CsvError(path, f"there is no encoding {encoding!r}") from None
+
+
+def _opened(path: Any, encoding: str) -> tuple[Any, Any, int]:
     """Returns a file of text, the file whose position is counted, and its size, 0 if unknown."""
-    coding: Any = {"encoding": "utf-8-sig", "errors": "surrogateescape", "newline": ""}
+    encoding = "utf-8-sig" if encoding == "utf-8" else encoding
+    coding: Any = {"encoding": encoding, "errors": "surrogateescape", "newline": ""}
     if hasattr(path, "read"):
         if isinstance(path.read(0), bytes):
             path = io.TextIOWrapper(path, **coding)
@@ -173,16 +187,16 @@ class _Plan:
         if options.names is not None:
             if options.header and self.first:
                 self.first[0] = []
-            return _checked(source.name, list(options.names))
+            return _checked(source, list(options.names))
         if not options.header:
             width = len(next((row for row in self.first if row), []))
-            return _checked(source.name, [f"column_{index}" for index in range(width)])
+            return _checked(source, [f"column_{index}" for index in range(width)])
         head = next((at for at, row in enumerate(self.first) if row), None)
         if head is None:
             raise CsvError(source.name, "the file is empty")
         names = [name.strip() for name in self.first[head]]
         self.first[head] = []
-        return _checked(source.name, names)
+        return _checked(source, names)
 
     def _kinds(self, names: Sequence[str]) -> dict[str, Kind]:
         given = dict(self.options.types or {})
@@ -289,10 +303,17 @@ class _Plan:
         try:
             length = len(text.encode())
         except UnicodeEncodeError:
-            return f"{shown} is not in UTF-8"
+            return _not_in(self.source.encoding, text)
         if length > MAX_TEXT:
             return f"{shown} has {length:,} bytes, and a text at most {MAX_TEXT:,}"
         return None
+
+
+def _not_in(encoding: str, text: str) -> str:
+    """Returns the sentence on a text that has bytes which are none of an encoding."""
+    name = "UTF-8" if encoding == "utf-8" else encoding
+    raw = text.encode("utf-8", "surrogateescape")[:40]
+    return f'{raw!r} is not in {name}: encoding="latin-1" may help'
 
 
 def _tried(convert: Convert, text: str) -> Any:
@@ -307,12 +328,16 @@ def _fits(number: int) -> bool:
     return -(1 << 63) <= number < 1 << 63
 
 
-def _checked(path: str, names: list[str]) -> list[str]:
+def _checked(source: _Source, names: list[str]) -> list[str]:
+    """Returns names of columns; refuses one that is empty, not printable, or there twice."""
+    path = source.name
     for index, name in enumerate(names):
         if not name:
             raise CsvError(path, f"column {index + 1} has no name", 1)
         if names.index(name) < index:
             raise CsvError(path, f"two columns are named {name!r}", 1)
+        if any("\ud800" <= letter < "\ue000" for letter in name):
+            raise CsvError(path, _not_in(source.encoding, name), 1)
         if not name.isprintable():
             raise CsvError(path, f"{name!r} is no name of a column", 1)
     return names
@@ -363,6 +388,7 @@ def read_csv(
     types: Mapping[str, Kind] | None = None,
     missing: str | None = None,
     convert: Mapping[str, Convert] | None = None,
+    encoding: str = "utf-8",
     **table: Any,
 ) -> Table:
     """Makes a table of a CSV file, which is read in chunks; it may be larger than memory.
@@ -375,6 +401,7 @@ def read_csv(
     - ``missing``: a field that stands for a missing cell. An empty field of a column of numbers is
       one, too; of texts it is an empty text, unless ``missing=""``.
     - ``convert``: functions of a field's text for some columns, as ``{"price": scaled(2)}``.
+    - ``encoding``: how the file's texts are encoded, as ``"latin-1"``.
     - ``progress``: True shows a bar on a terminal; or a callable of bytes done and all bytes.
     - All else goes to `Table`: ``local="64MB"``, ``far=``, ``policy=`` ..
 
@@ -386,13 +413,22 @@ def read_csv(
         0  bread         5
         1  rye          NA
     """
-    options = CsvOptions(delimiter, header, names, columns, types, missing, convert)
+    options = CsvOptions(delimiter, header, names, columns, types, missing, convert, encoding)
     return _made(path, options, progress, table)
+
+
+def csv_options(call: str, given: dict[str, Any]) -> CsvOptions:
+    """Returns options that are given by names; refuses one that there is not."""
+    refuse_unknown(call, given, [field.name for field in fields(CsvOptions)])
+    return CsvOptions(**given)
 
 
 def _made(path: Any, options: CsvOptions, progress: Any, arguments: dict[str, Any]) -> Table:
     from .table import Table
 
+    known = [*(field.name for field in fields(CsvOptions)), "progress"]
+    known += [name for name in signature(Table).parameters if name != "columns"]
+    refuse_unknown("read_csv", arguments, known)
     source = _Source(path, options)
     try:
         plan = _Plan(source, options, None)

@@ -18,7 +18,7 @@ from ._moving import Moving
 from ._reading import Reader
 from .aggregates import Key, Spec, Watched, spec_struct
 from .column import Batch, Column, Value, read_batch
-from .csv_files import CsvOptions, load_csv, write_csv
+from .csv_files import csv_options, load_csv, write_csv
 from .engines import Engine, Memory, close_engine, release, take
 from .errors import Absent, BadArgument, Closed, NoAggregate, NoColumn, RemovedRow
 from .limits import Limits
@@ -372,7 +372,7 @@ class Table(Editing, Moving):
         [Row(sku='bread', quantity=5), Row(sku='rye', quantity=None)]
         """
         with Shown(progress, str(path)) as shown:
-            return load_csv(self, path, CsvOptions(**options), shown)
+            return load_csv(self, path, csv_options("load_csv", options), shown)
 
     def to_csv(
         self,

@@ -169,6 +169,31 @@ class Broken(unittest.TestCase):
             HEAD + '"a\nb\nc",5\nd,x\n', "'x' is no", line=5, options={"types": {"quantity": int}}
         )
 
+    def test_options_that_there_are_not(self) -> None:
+        for option, said in (
+            ("sep", "read_csv has no option sep; use delimiter"),
+            ("dtype", "use types"),
+            ("usecols", "use columns"),
+            ("lokal", "use local"),
+            ("index_col", "there are delimiter, header, names"),
+        ):
+            with self.assertRaisesRegex(TypeError, said):
+                read(HEAD, **{option: 1})
+        with fc.Table({"n": int}, local="1MB") as table:
+            with self.assertRaisesRegex(TypeError, "load_csv has no option local"):
+                table.load_csv(io.StringIO("n\n5\n"), local="1MB")
+
+    def test_encodings(self) -> None:
+        text = HEAD + "Müller,5\n"
+        with read(text.encode("latin-1"), encoding="latin-1") as table:
+            self.assertEqual(list(table), [("Müller", 5)])
+        with read(text.encode("utf-16"), encoding="utf-16") as table:
+            self.assertEqual(list(table), [("Müller", 5)])
+        said = "b'M\\xfcller' is not in UTF-8: encoding=\"latin-1\" may help"
+        self.refused(text.encode("latin-1"), said, line=2, column="sku")
+        self.refused("Größe\n5\n".encode("latin-1"), 'encoding="latin-1" may help', line=1)
+        self.refused(text, "there is no encoding 'utf8000'", options={"encoding": "utf8000"})
+
     def test_a_file_that_is_not_there(self) -> None:
         with self.assertRaises(FileNotFoundError):
             fc.read_csv("/no/such/file.csv")
