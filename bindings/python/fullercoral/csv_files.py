@@ -90,7 +90,7 @@ def scaled(digits: int) -> Convert:
             raise ValueError(f"{text!r} is no decimal number")
         part = (found[3] or "").rstrip("0")
         if len(part) > digits:
-            raise ValueError(f"{text!r} has more than {digits} decimals")
+            raise ValueError(f"{text!r} has more than {digits} decimals: scaled({len(part)}) reads it")
         return int(f"{found[1]}{found[2]}{part:0<{digits}}")
 
     return convert
@@ -166,6 +166,10 @@ class _Plan:
 
     def __init__(self, source: _Source, options: CsvOptions, schema: Schema | None) -> None:
         self.source, self.options = source, options
+        for name, convert in (options.convert or {}).items():
+            if not callable(convert):
+                said = "is no function of a text; give one, as fc.scaled(2)"
+                raise TypeError(f"convert of column {name}: {convert!r} {said}")
         self.first = source.read(_GUESSED + 1)
         names = self._names()
         wanted = list(options.columns or (schema.names if schema else names))
@@ -280,11 +284,22 @@ class _Plan:
             for name, kind, field in zip(self.schema.names, self.schema.kinds, self.fields):
                 sentence = self._fault(name, kind, row[field]) if row else None
                 if sentence is not None:
-                    if self.guessed and kind is int and name not in (self.options.types or {}):
-                        sentence += f" (int was guessed; types={{{name!r}: str}} has texts)"
+                    if self.guessed and kind is int and not self._is_chosen(name):
+                        sentence += f" (int was guessed; {self._advice(name, rows, field)})"
                     line = self.source.line_of(rows, index)
                     return CsvError(self.source.name, sentence, line, name, row[field])
         return error
+
+    def _is_chosen(self, name: str) -> bool:
+        """Whether the caller says how a column is read."""
+        return name in (self.options.types or {}) or name in (self.options.convert or {})
+
+    def _advice(self, name: str, rows: list[list[str]], field: int) -> str:
+        """Returns how to read a column that was taken for whole numbers."""
+        found = [_DECIMAL.fullmatch(row[field].strip()) for row in rows if row]
+        digits = max((len(match[3] or "") for match in found if match), default=0)
+        decimals = f"convert={{{name!r}: fc.scaled({digits})}} reads decimals, " if digits else ""
+        return f"{decimals}types={{{name!r}: str}} has texts"
 
     def _fault(self, name: str, kind: type, text: str) -> str | None:
         convert = (self.options.convert or {}).get(name)

@@ -89,6 +89,19 @@ class Reading(unittest.TestCase):
             self.assertIn(said, str(caught.exception))
             self.assertEqual((caught.exception.line, caught.exception.column), (5, "price"))
 
+    def test_decimals_after_guessed_numbers(self) -> None:
+        text = "a\n" + "1\n" * 1500 + "1.5\n2.25\n"
+        with self.assertRaises(fc.CsvError) as caught:
+            read(text)
+        self.assertIn("convert={'a': fc.scaled(2)} reads decimals", str(caught.exception))
+        with read(text, convert={"a": fc.scaled(2)}) as table:
+            self.assertEqual(table[-2:], [(150,), (225,)])
+        with self.assertRaises(fc.CsvError) as caught:
+            read(text, convert={"a": fc.scaled(1)})
+        self.assertTrue(str(caught.exception).endswith("more than 1 decimals: scaled(2) reads it"))
+        with self.assertRaisesRegex(TypeError, "convert of column a: 'cents' is no function"):
+            read(text, convert={"a": "cents"})
+
     def test_a_file_of_a_header_alone(self) -> None:
         self.assertEqual(self.rows(HEAD), [])
 
