@@ -1,4 +1,4 @@
-"""CSV: read in chunks into a table, and written."""
+"""CSV files, which are read in chunks into a table."""
 
 from __future__ import annotations
 
@@ -60,7 +60,7 @@ class CsvError(ValueError):
 class CsvOptions:
     """How a CSV file is read, as `read_csv` says."""
 
-    delimiter: str = ","
+    delimiter: str | None = None
     header: bool = True
     names: Sequence[str] | None = None
     columns: Sequence[str] | None = None
@@ -102,9 +102,12 @@ class _Source:
     def __init__(self, path: Any, options: CsvOptions) -> None:
         self.name = getattr(path, "name", "the file") if hasattr(path, "read") else str(path)
         self._owns = not hasattr(path, "read")
+        delimiter = "," if options.delimiter is None else options.delimiter
+        if not isinstance(delimiter, str) or len(delimiter) != 1:
+            raise CsvError(self.name, f"a delimiter is one character, and {delimiter!r} is none")
         self.encoding = _codec(self.name, options.encoding)
         self._file, self._counted, self.size = _opened(path, self.encoding)
-        self._reader = csv.reader(self._file, delimiter=options.delimiter, strict=True)
+        self._reader = csv.reader(self._file, delimiter=delimiter, strict=True)
         self._first_line = 0
 
     def close(self) -> None:
@@ -171,6 +174,7 @@ class _Plan:
                 said = "is no function of a text; give one, as fc.scaled(2)"
                 raise TypeError(f"convert of column {name}: {convert!r} {said}")
         self.first = source.read(_GUESSED + 1)
+        self._refuse_one_field()
         names = self._names()
         wanted = list(options.columns or (schema.names if schema else names))
         for name in wanted:
@@ -185,6 +189,14 @@ class _Plan:
         self.fields = [names.index(name) for name in wanted]
         self.schema = schema or Schema(self._kinds(wanted))
         self.guessed = schema is None
+
+    def _refuse_one_field(self) -> None:
+        """Refuses a first row of one field with another delimiter in it, unless one is given."""
+        row: Sequence[str] = next((row for row in self.first if row), ())
+        mark = _other_delimiter(row) if self.options.delimiter is None else None
+        if mark is not None and len(self.options.names or ()) != 1:
+            said = f"the first row is one field, {row[0]!r:.60}: delimiter={mark!r} cuts it"
+            raise CsvError(self.source.name, f"{said}, delimiter=',' leaves it whole", 1)
 
     def _names(self) -> list[str]:
         options, source = self.options, self.source
@@ -324,6 +336,11 @@ class _Plan:
         return None
 
 
+def _other_delimiter(row: Sequence[str]) -> str | None:
+    """Returns the delimiter that a row of one field seems to have."""
+    return next((mark for mark in ";\t|" if len(row) == 1 and mark in row[0]), None)
+
+
 def _not_in(encoding: str, text: str) -> str:
     """Returns the sentence on a text that has bytes which are none of an encoding."""
     name = "UTF-8" if encoding == "utf-8" else encoding
@@ -382,9 +399,8 @@ def _load(table: Table, plan: _Plan, shown: Callable[..., Any]) -> range:
     return range(first, table.places)
 
 
-def guess_schema(path: Any, convert: Mapping[str, Convert] | None = None) -> Schema:
+def guess_schema(path: Any, options: CsvOptions) -> Schema:
     """Returns the columns of a CSV file, with kinds guessed from its first rows."""
-    options = CsvOptions(convert=convert)
     source = _Source(path, options)
     try:
         return _Plan(source, options, None).schema
@@ -396,7 +412,7 @@ def read_csv(
     path: Union[str, os.PathLike[str], Any],
     *,
     progress: Union[bool, Callable[[int, int], Any]] = False,
-    delimiter: str = ",",
+    delimiter: str | None = None,
     header: bool = True,
     names: Sequence[str] | None = None,
     columns: Sequence[str] | None = None,
@@ -409,6 +425,8 @@ def read_csv(
     """Makes a table of a CSV file, which is read in chunks; it may be larger than memory.
 
     - ``path``: a path (``.gz`` is read too) or an open file.
+    - ``delimiter``: a comma. A first row of one field that has another mark is refused, unless this
+      is given.
     - ``header``: whether the first row has the columns' names; ``names`` are used instead.
     - ``columns``: which columns to take.
     - ``types``: kinds of some columns, ``int`` or ``str``; others are guessed from the first rows:
@@ -457,30 +475,3 @@ def _made(path: Any, options: CsvOptions, progress: Any, arguments: dict[str, An
         return made
     finally:
         source.close()
-
-
-def write_csv(
-    table: Table, path: Any, delimiter: str, header: bool, missing: str, shown: Callable[..., Any]
-) -> int:
-    """Writes the live rows of a table as CSV."""
-    if hasattr(path, "write"):
-        return _write(table, path, delimiter, header, missing, shown)
-    with open(path, "w", encoding="utf-8", newline="") as file:
-        return _write(table, file, delimiter, header, missing, shown)
-
-
-def _write(
-    table: Table, file: Any, delimiter: str, header: bool, missing: str, shown: Callable[..., Any]
-) -> int:
-    writer = csv.writer(file, delimiter=delimiter, lineterminator="\n")
-    if header:
-        writer.writerow(table.schema.names)
-    written, rows = 0, len(table)
-    for batch in table.batches():
-        columns = [batch[name] for name in table.schema]
-        if missing:
-            columns = [[missing if v is None else v for v in column] for column in columns]
-        writer.writerows(zip(*columns))
-        written += len(batch.places)
-        shown(written, rows)
-    return written

@@ -8,7 +8,7 @@ import time
 from typing import Any, Callable, Iterator, TextIO
 
 from . import display
-from .csv_files import guess_schema, scaled
+from .csv_files import CsvOptions, guess_schema, scaled
 from .engines import Files, Memory
 from .errors import Building, NoColumn, Refused
 from .picture import counted
@@ -23,7 +23,7 @@ Commands of the shell. Words in capitals are yours. A column is a name, "in quot
 spaces, or a number.
   .open NAME:KIND,NAME:KIND .. [local=64MB] [far=FILE] [group=N]
                           a new table; a KIND is int or text
-  .import FILE.csv [local=64MB] [far=FILE] [scaled=price:2,tax:2]
+  .import FILE.csv [local=64MB] [far=FILE] [scaled=price:2,tax:2] [delimiter=;] [encoding=latin-1]
                           appends the rows of a CSV file; opens a table for it if none is open;
                           reads 1.99 as 199 in columns that are scaled by 2 decimals
   .export FILE.csv        writes the live rows
@@ -222,15 +222,19 @@ class Shell:
         return "ok"
 
     def _import(self, rest: str) -> str:
-        path, options = _options(rest, ("local", "far", "group", "scaled"))
+        known = ("local", "far", "group", "scaled", "delimiter", "encoding")
+        path, options = _options(rest, known)
         if not path:
             raise ValueError("write .import FILE.csv")
-        convert = _conversions(options.pop("scaled", ""))
+        asked: dict[str, Any] = {"convert": _conversions(options.pop("scaled", ""))}
+        asked |= {name: options.pop(name) for name in known[4:] if name in options}
+        if asked.get("delimiter") in ("\\t", "tab"):
+            asked["delimiter"] = "\t"
         if self.table is None:
-            self._new(guess_schema(path, convert), options)
+            self._new(guess_schema(path, CsvOptions(**asked)), options)
         table = self._open()
         began = time.perf_counter()
-        places = table.load_csv(path, progress=self.friendly, convert=convert)
+        places = table.load_csv(path, progress=self.friendly, **asked)
         seconds = time.perf_counter() - began
         columns = ", ".join(f"{name} {table.schema[name].__name__}" for name in table.schema)
         return f"{len(places):,} rows in {_duration(seconds)}: {columns}"
@@ -352,7 +356,7 @@ def _options(text: str, known: tuple[str, ...]) -> tuple[str, dict[str, str]]:
     while found := re.search(r'(?:^|\s)(\w+)=("[^"]*"|\S+)\s*$', text):
         if found[1] not in known:
             break
-        options[found[1]] = found[2].strip('"')
+        options[found[1]] = found[2].strip("'\"")
         text = text[: found.start()]
     return text.strip(), options
 

@@ -11,6 +11,7 @@ from typing import Any, Iterator, NoReturn, Sequence, SupportsIndex, Union, over
 
 from . import _header as header
 from . import display
+from ._csv_write import write_csv
 from ._editing import Editing, Progress
 from ._handle import EMPTY_AT, Handle
 from ._lent import lent_text
@@ -18,7 +19,7 @@ from ._moving import Moving
 from ._reading import Reader
 from .aggregates import Key, Spec, Watched, spec_struct
 from .column import Batch, Column, Value, read_batch
-from .csv_files import csv_options, load_csv, write_csv
+from .csv_files import csv_options, load_csv
 from .engines import Engine, Memory, close_engine, release, take
 from .errors import Absent, BadArgument, Closed, NoAggregate, NoColumn, RemovedRow
 from .limits import Limits

@@ -196,6 +196,17 @@ class Broken(unittest.TestCase):
             with self.assertRaisesRegex(TypeError, "load_csv has no option local"):
                 table.load_csv(io.StringIO("n\n5\n"), local="1MB")
 
+    def test_another_delimiter(self) -> None:
+        for mark in ";\t|":
+            text = f"a{mark}b\n1{mark}2,5\n"
+            self.refused(text, f"delimiter={mark!r} cuts it, delimiter=',' leaves it whole", line=1)
+            with read(text, delimiter=mark) as table:
+                self.assertEqual(list(table), [(1, "2,5")])
+        self.refused("1;2\n", "the first row is one field, '1;2'", options={"header": False})
+        with read("a;b\n1;2\n", delimiter=",") as table:
+            self.assertEqual((table.columns, list(table)), (("a;b",), [("1;2",)]))
+        self.refused(HEAD, "a delimiter is one character", options={"delimiter": "::"})
+
     def test_encodings(self) -> None:
         text = HEAD + "Müller,5\n"
         with read(text.encode("latin-1"), encoding="latin-1") as table:

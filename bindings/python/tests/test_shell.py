@@ -87,6 +87,14 @@ class Replies(unittest.TestCase):
         self.says(".watch totals price", "aggregate 0\ncount  sum\n    2  399")
         self.says_like(f".import {self.path} scaled=price", "write scaled=COLUMN:DECIMALS")
 
+    def test_files_of_other_kinds(self) -> None:
+        self.path.write_bytes("sku;quantity\nBrötchen;5\n".encode("latin-1"))
+        self.says_like(f".import {self.path} local=1MB", "delimiter=';' cuts it")
+        self.says_like(f".import {self.path} local=1MB delimiter=';'", 'encoding="latin-1" may help')
+        self.says(".close", "ok")
+        self.says_like(f".import {self.path} delimiter=; encoding=latin-1", "1 rows in .*quantity int")
+        self.says(".rows 0", "place  sku       quantity\n       str            int\n    0  Brötchen         5")
+
     def test_names_with_spaces(self) -> None:
         self.path.write_text("Store,Unit Price,Qty\nBerlin,1.99,5\nWien,2.50,3\n")
         self.says_like(f".import {self.path} local=1MB", "Unit Price str")
