@@ -20,7 +20,7 @@ from . import _setting
 from ._buffers import BYTES_AT, ColumnBuffer, check, column_buffer
 from ._handle import EMPTY_AT, Handle, leave
 from ._pages import MANY
-from .errors import BadArgument, Closed, NoRow, Refused, RowWidth
+from .errors import BadArgument, Closed, NoRow, Refused, RowWidth, WrongKind
 from .movement import Mover
 from .policy import Helper, Policy
 from .schema import NA, Schema
@@ -33,6 +33,27 @@ _ROWS_OF_EXTEND = 10_000
 _WORDS = 4  # how many words a cell has: number, where its text lies, how long it is, kind
 
 _encode = str.encode  # refuses what is no text
+
+
+def place_index(place: Any) -> int:
+    """Returns a place as a number; refuses what is none."""
+    try:
+        return index_of(place)
+    except TypeError:
+        said = f"a place is a whole number, and {place!r:.60} is none"
+        raise WrongKind(f"{said}: table[place], set(place, column, value)") from None
+
+
+def _no_row(row: Any) -> WrongKind:
+    return WrongKind(f"a row is a list, a tuple or a dict of cells, and {row!r:.60} is none")
+
+
+def _length(row: Any) -> int:
+    """Returns how many cells a row has; refuses what is none."""
+    try:
+        return len(row)
+    except TypeError:
+        raise _no_row(row) from None
 
 
 def _cell(kind: int) -> tuple[Any, Any]:
@@ -93,8 +114,11 @@ class Editing:
         if row.__class__ is not tuple and row.__class__ is not list and isinstance(row, Mapping):
             row = self._in_order(row)
         with self._lock:
-            if len(row) != self._width:
-                raise self._wrong_width(row)
+            try:
+                if len(row) != self._width:
+                    raise self._wrong_width(row)
+            except TypeError:
+                raise _no_row(row) from None
             words: Any = self._row_words
             texts: list[bytes] = []
             try:
@@ -197,8 +221,10 @@ class Editing:
             if code:
                 self._go_on(code, fc_set, at, index, place, cell)
             self._answer = None
-        except BaseException:
+        except BaseException as error:
             leave(self._lock)
+            if error.__class__ is TypeError:
+                place_index(place)
             raise
         release()
 
@@ -206,13 +232,13 @@ class Editing:
         """Returns an index, a place and a cell of other kinds than most; refuses what is none."""
         if not self._handle.is_open:
             raise Closed()
-        index, kind = self.schema.index(column), self.schema[column]
+        place, index, kind = place_index(place), self.schema.index(column), self.schema[column]
         if value is None or value is NA:
-            return index, index_of(place), self._missing_at
+            return index, place, self._missing_at
         check(column, kind, value)
         number, text = (index_of(value), b"") if kind is int else (0, _encode(value))
         cell = header.Cell(number, text, len(text), self.schema.codes()[index])
-        return index, index_of(place), byref(cell)
+        return index, place, byref(cell)
 
     def set_column(self, column: str, places: Any, values: Any = ...) -> None:
         """Sets cells of a column at many places: the values in order, or one value for all.
@@ -268,7 +294,7 @@ class Editing:
         """Returns a place that is there, counted from 0."""
         if not self._handle.is_open:
             raise Closed()
-        at = index_of(place)
+        at = place_index(place)
         at += self._places if at < 0 else 0
         if not 0 <= at < self._places:
             raise NoRow(place=place, places=self._places)
@@ -300,7 +326,7 @@ class Editing:
                 return range(first, self._places)
             some = [self._in_order(row) if isinstance(row, Mapping) else row for row in some]
             width = self._width
-            index = next((at for at, row in enumerate(some) if len(row) != width), len(some))
+            index = next((at for at, row in enumerate(some) if _length(row) != width), len(some))
             try:
                 columns = zip(*some[:index]) if index else [[]] * width
                 self.extend_columns(dict(zip(self.schema, columns)))

@@ -89,6 +89,11 @@ class Moving:
     _places: int
     _live: int
 
+    if TYPE_CHECKING:
+
+        def _check_watched(self, watched: Any) -> None:
+            ...
+
     def _open_handle(self) -> Handle:
         if not self._handle.is_open:
             raise Closed()
@@ -180,6 +185,7 @@ class Moving:
         """
         with self._lock:
             self._open_handle()
+            self._check_watched(watched)
             build(self._mover, self.policy, watched.number, progress)
 
     def _build_for(self, watched: Watched[Any], code: int) -> None:

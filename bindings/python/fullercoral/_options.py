@@ -1,9 +1,10 @@
-"""Options by names: what is said of one that a call does not have."""
+"""What a call says of an option that it does not have, and of a package that it needs."""
 
 from __future__ import annotations
 
 from difflib import get_close_matches
-from typing import Iterable, Sequence
+from importlib import import_module
+from typing import Any, Iterable, Sequence
 
 # What pandas and others call the options of `read_csv`.
 _OTHER_NAMES = {
@@ -28,3 +29,12 @@ def refuse_unknown(call: str, given: Iterable[str], known: Sequence[str]) -> Non
                 meant = next(iter(get_close_matches(name, known, 1)), None)
             advice = f"use {meant}" if meant else f"there are {', '.join(known)}"
             raise TypeError(f"{call} has no option {name}; {advice}")
+
+
+def needed(package: str, call: str) -> Any:
+    """Returns a package that a call needs; says so if it is not installed."""
+    try:
+        return import_module(package)
+    except ModuleNotFoundError as error:
+        said = f"{call} needs {package}, and {error.name} is not installed; to_list and batches do not"
+        raise ModuleNotFoundError(said, name=error.name) from None

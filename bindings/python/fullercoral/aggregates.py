@@ -11,6 +11,7 @@ from . import _header as header
 from ._asking import Slots
 from ._handle import leave
 from ._lines import LineReader
+from ._options import needed
 from .errors import BadArgument, BadSpec, NoAggregate, Nothing, WrongKind
 from .schema import Schema
 
@@ -345,8 +346,7 @@ class Watched(Generic[Line]):
 
     def to_pandas(self) -> Any:
         """Returns the answer as a DataFrame of pandas, with the keys as its index."""
-        import pandas  # type: ignore[import]
-
+        pandas = needed("pandas", "to_pandas")
         with self.table._lock:
             keys, columns = self._lines.arrays(self._ask())
         index = None if self.spec.by is None else pandas.Index(keys, name=self.spec.by)

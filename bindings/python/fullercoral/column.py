@@ -5,6 +5,7 @@ from __future__ import annotations
 from itertools import compress
 from typing import TYPE_CHECKING, Any, Iterator, Mapping, Union, overload
 
+from ._options import needed
 from ._reading import _numpy
 from .errors import RemovedRow
 
@@ -91,8 +92,7 @@ class Column:
 
     def to_numpy(self) -> Any:
         """Returns the whole column as a masked array of numpy; of texts it is one of objects."""
-        import numpy
-
+        numpy = needed("numpy", "to_numpy")
         part = self[:]
         if self.kind is int:
             return part

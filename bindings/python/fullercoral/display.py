@@ -5,6 +5,7 @@ from __future__ import annotations
 from html import escape
 from typing import TYPE_CHECKING, Any, Iterator, Sequence
 
+from ._options import needed
 from .errors import Refused
 from .picture import counted
 from .schema import Schema
@@ -191,9 +192,7 @@ def _html_row(table: Table, item: tuple[int, Any] | None) -> str:
 
 def to_pandas(table: Table) -> Any:
     """Returns the live rows as a DataFrame of pandas, with their places as its index."""
-    import numpy
-    import pandas  # type: ignore[import]
-
+    pandas, numpy = needed("pandas", "to_pandas"), needed("numpy", "to_pandas")
     series: dict[str, Any] = {}
     alive: Any = numpy.zeros(0, bool)
     with table._lock:

@@ -59,7 +59,7 @@ class Schema:
             columns = columns.pairs()
         elif isinstance(columns, Mapping):
             columns = columns.items()
-        pairs = list(columns)
+        pairs = _pairs(columns)
         self.names: tuple[str, ...] = tuple(name for name, _ in pairs)
         self.kinds: tuple[type, ...] = tuple(_kind(name, kind) for name, kind in pairs)
         self._index = {name: index for index, name in enumerate(self.names)}
@@ -117,6 +117,17 @@ class Schema:
     def __repr__(self) -> str:
         pairs = (f"{name!r}: {kind.__name__}" for name, kind in self.pairs())
         return f"Schema({{{', '.join(pairs)}}})"
+
+
+def _pairs(columns: Any) -> list[tuple[str, Kind]]:
+    """Returns names with kinds; refuses names alone, and a DataFrame."""
+    if hasattr(columns, "dtypes"):
+        raise BadSchema("a table is made of names and kinds; Table.from_pandas takes a DataFrame")
+    pairs = list(columns)
+    for pair in pairs:
+        if isinstance(pair, str) or not hasattr(pair, "__len__") or len(pair) != 2:
+            raise BadSchema(f"give each column's name and kind, as {{'quantity': int}}, not {pair!r}")
+    return pairs
 
 
 def _kind(name: str, kind: Kind) -> type:

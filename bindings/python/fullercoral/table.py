@@ -21,7 +21,7 @@ from .aggregates import Key, Spec, Watched, spec_struct
 from .column import Batch, Column, Value, read_batch
 from .csv_files import csv_options, load_csv
 from .engines import Engine, Memory, close_engine, release, take
-from .errors import Absent, BadArgument, Closed, NoAggregate, NoColumn, RemovedRow
+from .errors import Absent, BadArgument, Closed, NoAggregate, NoColumn, RemovedRow, WrongKind
 from .limits import Limits
 from .movement import Mover
 from .policy import Helper, Policy, build
@@ -220,6 +220,13 @@ class Table(Editing, Moving):
                     raise RemovedRow(place=place)
             return self._Row._make(row)
 
+    def __setitem__(self, key: Any, value: Any) -> NoReturn:
+        """Refuses an assignment to a column or a row, and names the call that makes it."""
+        if isinstance(key, str):
+            self._column(key)
+            raise TypeError(f"set cells of a column: table[{key!r}][:] = values, or set_column")
+        raise TypeError("set cells of a row one by one: table.set(place, column, value)")
+
     def __delitem__(self, place: int) -> None:
         self.remove(place)
 
@@ -247,6 +254,8 @@ class Table(Editing, Moving):
         ...     batch.places, batch["sku"], sum(batch["quantity"])
         ([0, 1], ['bread', 'rye'], 8)
         """
+        if size < 1:
+            raise BadArgument(f"a batch has at least 1 place, and size is {size}")
         names = list(self.schema.names if columns is None else columns)
         for at in range(start, self._places if stop is None else stop, size):
             end = min(at + size, self._places if stop is None else stop)
@@ -295,6 +304,8 @@ class Table(Editing, Moving):
         """
         with self._lock:
             handle = self._open_handle()
+            if not isinstance(spec, Spec):
+                raise WrongKind(f"watch takes fc.totals(..) or fc.extrema(..), and not {spec!r:.60}")
             struct, kept = spec_struct(self.schema, spec)
             number = handle.watch(struct)
             del kept
@@ -313,12 +324,18 @@ class Table(Editing, Moving):
         fullercoral.errors.NoAggregate: there is no such aggregate (any more) [12]
         """
         with self._lock:
-            if watched.table is not self:
-                raise NoAggregate("this aggregate is of another table")
+            self._check_watched(watched)
             self._open_handle().step("unwatch", watched.number)
             watched._number = -1
             self._watched.remove(watched)
             self._answer = None
+
+    def _check_watched(self, watched: Any) -> None:
+        """Refuses what is no aggregate of this table."""
+        if not isinstance(watched, Watched):
+            raise WrongKind(f"give what watch returned, and not {watched!r:.60}")
+        if watched.table is not self:
+            raise NoAggregate("this aggregate is of another table")
 
     @property
     def watched(self) -> tuple[Watched[Any], ...]:
@@ -338,6 +355,7 @@ class Table(Editing, Moving):
         True
         """
         with self._lock:
+            self._check_watched(watched)
             handle, number = self._open_handle(), watched.number
             self._answer = None
             absent = self._mover.absent_of(watched.spec.columns())

@@ -10,6 +10,7 @@ import threading
 import unittest
 from pathlib import Path
 from typing import Any
+from unittest import mock
 
 import fullercoral as fc
 from fullercoral import errors
@@ -155,6 +156,33 @@ class Refusals(Case):
         self.assertEqual(list(table), [("bread", 5)])
         table.set(0, "quantity", 6)
         self.assertEqual(list(table), [("bread", 6)])
+
+    def test_what_is_of_another_kind_than_an_argument(self) -> None:
+        table = self.table
+        table.append(("bread", 5))
+        sold = table.watch(fc.totals("quantity"))
+        for kind, said, call in (
+            (TypeError, "watch takes fc.totals(..) or", lambda: table.watch("quantity")),
+            (TypeError, "what watch returned, and not 'x'", lambda: table.recount("x")),
+            (TypeError, "what watch returned", lambda: table.build(5)),
+            (TypeError, "what watch returned", lambda: table.unwatch(None)),
+            (TypeError, "'quantity' is none: table[place]", lambda: table.set("quantity", 0, 1)),
+            (TypeError, "1.5 is none: table[place]", lambda: table.set(0.0 + 1.5, "sku", "x")),
+            (TypeError, "0.0 is none: table[place]", lambda: table.set(0.0, "sku", "x")),
+            (TypeError, "None is none", lambda: table[None]),
+            (TypeError, "a row is a list, a tuple or a dict of cells, and 5", lambda: table.append(5)),
+            (TypeError, "of cells, and 0 is none", lambda: table.extend(n for n in range(3))),
+            (ValueError, "at least 1 place, and size is 0", lambda: list(table.batches(size=0))),
+            (TypeError, "table['sku'][:] = values", lambda: table.__setitem__("sku", "x")),
+            (KeyError, "no column 'prize'", lambda: table.__setitem__("prize", 5)),
+            (TypeError, "table.set(place, column, value)", lambda: table.__setitem__(0, ("x", 1))),
+            (ValueError, "name and kind, as {'quantity': int}, not 'a'", lambda: fc.Table(["a", "b"])),
+        ):
+            self.refused(kind, said, call)
+        self.assertEqual((list(table), sold.sum), ([("bread", 5)], 5))
+        with mock.patch.dict("sys.modules", pandas=None):
+            self.refused(ImportError, "to_pandas needs pandas", table.to_pandas)
+            self.refused(ImportError, "to_pandas needs pandas", sold.to_pandas)
 
     def test_they_are_pythons_exceptions_too(self) -> None:
         kinds = {
