@@ -319,6 +319,8 @@ class Editing:
         >>> table.extend([("bread", 5), ("rye", 3)])
         range(0, 2)
         """
+        if hasattr(rows, "keys"):
+            raise BadArgument("extend takes rows; extend_columns takes a dict or a DataFrame")
         first, rows = self._places, iter(rows)
         while True:
             some = list(islice(rows, _ROWS_OF_EXTEND))

@@ -173,6 +173,7 @@ class Refusals(Case):
             (TypeError, "a row is a list, a tuple or a dict of cells, and 5", lambda: table.append(5)),
             (TypeError, "of cells, and 0 is none", lambda: table.extend(n for n in range(3))),
             (ValueError, "at least 1 place, and size is 0", lambda: list(table.batches(size=0))),
+            (ValueError, "extend_columns takes a dict", lambda: table.extend({"sku": ["x"]})),
             (TypeError, "table['sku'][:] = values", lambda: table.__setitem__("sku", "x")),
             (KeyError, "no column 'prize'", lambda: table.__setitem__("prize", 5)),
             (TypeError, "table.set(place, column, value)", lambda: table.__setitem__(0, ("x", 1))),
