@@ -73,7 +73,7 @@ def totals(value: str, by: str | None = None, where: Sequence[Test] = ()) -> Spe
     >>> totals("quantity", by="sku", where=[("quantity", ">", 0)])
     totals('quantity', by='sku', where=[('quantity', '>', 0)])
     """
-    return Spec("totals", value, by, _tests(where))
+    return _spec("totals", value, by, where)
 
 
 def extrema(value: str, by: str | None = None, where: Sequence[Test] = ()) -> Spec:
@@ -82,7 +82,15 @@ def extrema(value: str, by: str | None = None, where: Sequence[Test] = ()) -> Sp
     >>> extrema("price")
     extrema('price')
     """
-    return Spec("extrema", value, by, _tests(where))
+    return _spec("extrema", value, by, where)
+
+
+def _spec(fold: str, value: str, by: str | None, where: Sequence[Test]) -> Spec:
+    if not isinstance(value, str):
+        raise BadSpec(f"{fold} are of one column, by its name, and {value!r} is none")
+    if by is not None and not isinstance(by, str):
+        raise BadSpec(f"a key is one column, by its name, and {by!r} is none")
+    return Spec(fold, value, by, _tests(where))
 
 
 def _tests(where: Sequence[Test]) -> tuple[Test, ...]:
@@ -249,8 +257,15 @@ class Watched(Generic[Line]):
     def __getitem__(self, key: Key) -> Any:
         found = self.get(key)
         if found is None:
-            raise KeyError(key)
+            raise self._no_key(key)
         return found
+
+    def _no_key(self, key: Any) -> Exception:
+        """Returns what is said of a key without a line: one of another kind can never have one."""
+        kind = self._key_kind
+        if kind is None or isinstance(key, kind) or (kind is int and hasattr(key, "__index__")):
+            return KeyError(key)
+        return WrongKind(column=self.spec.by, kind=kind.__name__, value=key)
 
     def get(self, key: Key, default: Any = None) -> Any:
         """Returns the line of a key, and the default if there is none."""
@@ -279,10 +294,11 @@ class Watched(Generic[Line]):
         """Returns the line of a key whose class is not the one that most keys have."""
         if self._key_kind is None:
             raise Nothing("this aggregate has no keys: ask for its value")
+        if self._key_kind is int and hasattr(key, "__index__"):
+            return self.get(int(key.__index__()), default)
         if not isinstance(key, self._key_kind):
             return default
-        plain: Key = str.__str__(key) if isinstance(key, str) else int.__int__(key)
-        return self.get(plain, default)
+        return self.get(str.__str__(key), default)
 
     def _line_of(self, key: Key | None) -> Any:
         """Returns the line of one key, and makes no other; None if there is none."""
