@@ -74,6 +74,7 @@ class Shell:
         self.timed = False
         self.policy: Any = None
         self.done = False
+        self.failed = False  # whether a line was refused, or was no command
 
     @property
     def table(self) -> Table | None:
@@ -92,24 +93,29 @@ class Shell:
         began = time.perf_counter()
         try:
             reply = self._reply(line, rows)
-        except NoCommand:
-            reply = self._no_command(line)
-        except Refused as error:
-            reply = self._refusal(error)
-        except OSError as error:
-            reply = f"{error.filename}: {error.strerror}" if error.filename else f"{error}"
-        except ValueError as error:
-            reply = f"{error}"
+        except (NoCommand, OSError, Refused, ValueError) as error:
+            reply, self.failed = self._said(line, error), True
         if reply:
             print(reply, file=self.out)
         if self.timed:
             print(f"({_duration(time.perf_counter() - began)})", file=self.out)
         self.out.flush()
 
+    def _said(self, line: str, error: Exception) -> str:
+        if isinstance(error, NoCommand):
+            return self._no_command(line)
+        if isinstance(error, Refused):
+            return self._refusal(error)
+        if isinstance(error, OSError) and error.filename:
+            return f"{error.filename}: {error.strerror}"
+        return f"{error}"
+
     def _reply(self, line: str, rows: Callable[[int], str] | None) -> str:
         word, _, rest = line.strip().partition(" ")
         if word in ("help", "?", ".help"):
             return _help(rest.strip())
+        if self.friendly and word in ("exit", "quit"):
+            return self._quit("")
         if word.startswith("."):
             serve = _DOTTED.get(word[1:])
             if serve is None:
@@ -117,7 +123,7 @@ class Shell:
             return serve(self, rest.strip())
         if self.table is None and word != "schema":
             if self.friendly:
-                return "no table is open: .open NAME:KIND,.. or .import FILE.csv, or help"
+                raise ValueError("no table is open: .open NAME:KIND,.. or .import FILE.csv, or help")
             return self.script.printed(line, rows)
         return self._scripted(self._with_numbers(line), rows)
 
