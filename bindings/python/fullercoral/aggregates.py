@@ -379,7 +379,8 @@ class Watched(Generic[Line]):
         with self.table._lock:
             pending = self.pending
             if pending:
-                return f"<{self.spec!r}, {pending:,} row groups pending>"
+                ask = "value" if self.spec.by is None else "items()"
+                return f"<{self.spec!r}, {pending:,} row groups pending: {ask} builds them>"
             count = self._ask()
             shown = self._lines.first(min(count, 10))
         if self.spec.by is None:

@@ -175,7 +175,7 @@ class Aggregates(unittest.TestCase):
     def test_reprs(self) -> None:
         with filled(40) as table:
             sold = table.watch(fc.totals("quantity", by="sku"))
-            self.assertIn("3 row groups pending", repr(sold))
+            self.assertIn("3 row groups pending: items() builds them", repr(sold))
             self.assertEqual(sold.pending, 3)
             sold.items()
             self.assertEqual(sold.pending, 0)
