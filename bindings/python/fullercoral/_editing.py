@@ -20,7 +20,7 @@ from . import _setting
 from ._buffers import BYTES_AT, ColumnBuffer, check, column_buffer
 from ._handle import EMPTY_AT, Handle, leave
 from ._pages import MANY
-from .errors import BadArgument, Closed, NoRow, Refused, RowWidth, WrongKind
+from .errors import BadArgument, Closed, NoRow, NoUtf8, Refused, RowWidth, WrongKind
 from .movement import Mover
 from .policy import Helper, Policy
 from .schema import NA, Schema
@@ -314,7 +314,9 @@ class Editing:
     def extend(self, rows: Iterable[Row], progress: Progress | None = None) -> range:
         """Appends rows, and returns their places. They are read and inserted some at a time.
 
-        If one is refused, the rows before it stay, and the exception's ``inserted`` counts them.
+        If one is refused, the rows before it stay, and the exception's ``inserted`` counts them. So
+        do the rows before an exception of ``rows`` itself. What ``rows`` appends to this table while
+        it is read gets earlier places than the rows that it yields.
 
         >>> table.extend([("bread", 5), ("rye", 3)])
         range(0, 2)
@@ -323,22 +325,48 @@ class Editing:
             raise BadArgument("extend takes rows; extend_columns takes a dict or a DataFrame")
         first, rows = self._places, iter(rows)
         while True:
-            some = list(islice(rows, _ROWS_OF_EXTEND))
+            some: list[Row] = []
+            try:
+                some.extend(islice(rows, _ROWS_OF_EXTEND))  # keeps what came before an exception
+            finally:
+                self._extend_some(some, first)
             if not some:
                 return range(first, self._places)
-            some = [self._in_order(row) if isinstance(row, Mapping) else row for row in some]
-            width = self._width
-            index = next((at for at, row in enumerate(some) if _length(row) != width), len(some))
-            try:
-                columns = zip(*some[:index]) if index else [[]] * width
-                self.extend_columns(dict(zip(self.schema, columns)))
-            except Refused as error:
-                error.details["inserted"] = self._places - first
-                raise
-            if index < len(some):
-                raise RowWidth(inserted=self._places - first, place=self._places)
             if progress is not None:
                 progress(self._places - first, 0)
+
+    def _extend_some(self, some: list[Row], first: int) -> None:
+        """Appends rows until one is refused; the refusal counts those that are in since a place."""
+        rows: list[Sequence[Any]] = []
+        wrong: Refused | None = None
+        try:
+            for row in some:
+                cells = self._in_order(row) if isinstance(row, Mapping) else row
+                if _length(cells) != self._width:
+                    raise self._wrong_width(cells)
+                rows.append(cells)
+        except Refused as error:
+            wrong = error
+        try:
+            self._extend_rows(rows)
+        except Refused as error:
+            wrong = error
+        if wrong is not None:
+            wrong.details["inserted"] = self._places - first
+            raise wrong
+
+    def _extend_rows(self, rows: list[Sequence[Any]]) -> None:
+        """Appends rows of the table's width until one does not fit."""
+        columns = zip(*rows) if rows else [()] * self._width
+        try:
+            self.extend_columns(dict(zip(self.schema, columns)))
+        except (WrongKind, NoUtf8) as error:
+            fitting, wrong = error.details.pop("row", 0), error
+        else:
+            return
+        if fitting:
+            self._extend_rows(rows[:fitting])
+        raise wrong
 
     def extend_columns(
         self, columns: Any = None, /, *, progress: Progress | None = None, **named: Any

@@ -73,9 +73,11 @@ class Refused(Exception):
     def __str__(self) -> str:
         behind = ""
         if self.inserted is not None:
-            behind = f"; {self.inserted:,} rows went in before"
+            rows = "row" if self.inserted == 1 else "rows"
+            behind = f"; {self.inserted:,} {rows} went in before"
         elif self.cells_set is not None:
-            behind = f"; {self.cells_set:,} cells were set before"
+            cells = "cell was" if self.cells_set == 1 else "cells were"
+            behind = f"; {self.cells_set:,} {cells} set before"
         return f"{self.sentence}{behind} [{self.number}]"
 
     def __reduce__(self) -> Any:

@@ -9,7 +9,7 @@ import tempfile
 import threading
 import unittest
 from pathlib import Path
-from typing import Any
+from typing import Any, Iterator
 from unittest import mock
 
 import fullercoral as fc
@@ -109,11 +109,33 @@ class Rows(Case):
         with self.assertRaises(errors.RowWidth) as width:
             table.extend([("bread", 5), ("rye",)])
         self.assertEqual((width.exception.inserted, len(table)), (1, 3))
-        with self.assertRaises(errors.WrongKind):
-            table.extend([("bread", 5), ("rye", "x")])
-        self.assertEqual(len(table), 3)
-        self.assertEqual(table.extend([]), range(3, 3))
-        self.assertEqual(table.extend(iter([("cake", 1)])), range(3, 4))
+        for rows, kind in (
+            ([("oat", 5), ("rye", "x"), (5, 5)], errors.WrongKind),
+            ([("oat", 5), (5, 5), ("rye", "x")], errors.WrongKind),
+            ([("oat", 5), ("\udfff", 5), ("rye",)], errors.NoUtf8),
+            ([{"sku": "oat", "quantity": 5}, {"sku": "rye"}], errors.RowWidth),
+            ([("oat", 5), 5], errors.WrongKind),
+        ):
+            before = len(table)
+            with self.subTest(rows=rows), self.assertRaises(kind) as caught:
+                table.extend(rows)
+            self.assertIn("; 1 row went in before", str(caught.exception))
+            self.assertEqual((len(table), table[-1]), (before + 1, ("oat", 5)))
+        self.assertEqual(table.extend([]), range(8, 8))
+        self.assertEqual(table.extend(iter([("cake", 1)])), range(8, 9))
+
+    def test_rows_before_an_exception_of_their_own_stay(self) -> None:
+        def rows(last: object) -> Iterator[Any]:
+            yield "bread", 5
+            yield last
+            raise RuntimeError("no more")
+
+        with self.assertRaisesRegex(RuntimeError, "no more"):
+            self.table.extend(rows(("rye", 3)))
+        self.assertEqual(list(self.table), [("bread", 5), ("rye", 3)])
+        with self.assertRaises(errors.WrongKind) as caught:
+            self.table.extend(rows(("rye", "x")))
+        self.assertEqual((caught.exception.inserted, len(self.table)), (1, 3))
 
 
 class Refusals(Case):
