@@ -377,8 +377,38 @@ class Assignment(Case):
         with self.assertRaises(errors.BadArgument):
             quantity[0:3] = [1, 2]
 
+    def test_places_that_can_be_set_can_be_read(self) -> None:
+        table = self.table
+        table.set(7, "quantity", None)
+        table.remove(4)
+        mask = [place in (2, 7) for place in range(ROWS)]
+        for places, due in (
+            ([7, 2, -1, 2], [7, 2, 9, 2]),
+            (array("I", [3, 4]), [3, 4]),
+            (mask, [2, 7]),
+            (range(9, 0, -4), [9, 5, 1]),
+            ([], []),
+        ):
+            numbers, texts = table["quantity"][places], table["sku"][places]
+            self.assertEqual(list(texts), [None if n == 4 else f"sku{n}" for n in due])
+            numbers = numbers if isinstance(numbers, list) else numbers.tolist()
+            self.assertEqual(numbers, [None if n in (4, 7) else n for n in due])
+        for wrong, kind in (([10], errors.NoRow), (["x"], errors.BadArgument), ("x", TypeError)):
+            with self.assertRaises(kind):
+                table["quantity"][wrong]
+
+    def test_places_of_many_row_groups_are_read(self) -> None:
+        with fc.Table(KINDS, limits=SMALL) as table:
+            table.extend((f"sku{n}", n) for n in range(400))
+            places = random.Random(2).choices(range(400), k=300)
+            self.assertEqual(list(table["quantity"][places]), places)
+            self.assertEqual(table["sku"][places], [f"sku{n}" for n in places])
+
     @unittest.skipUnless(numpy, "skipped: numpy is not installed")
     def test_in_place(self) -> None:
+        part = self.table["quantity"][numpy.array([3, -1])]
+        self.assertEqual((part.tolist(), part.dtype), ([3, 9], numpy.int64))
+        self.assertEqual(self.table["quantity"][numpy.arange(ROWS) > 7].tolist(), [8, 9])
         self.table["quantity"][2:5] *= 10
         self.table["quantity"][numpy.array([0, 9])] = numpy.array([5, 6])
         self.assertEqual(self.table["quantity"].to_list(), [5, 1, 20, 30, 40, 5, 6, 7, 8, 6])
