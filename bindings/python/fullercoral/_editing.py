@@ -17,13 +17,13 @@ from typing import Any, Callable, Iterable, Mapping, Sequence, Union
 
 from . import _header as header
 from . import _setting
-from ._buffers import BYTES_AT, ColumnBuffer, check, column_buffer
+from ._buffers import BYTES_AT, ColumnBuffer, cell_value, column_buffer
 from ._handle import EMPTY_AT, Handle, leave
 from ._pages import MANY
 from .errors import BadArgument, Closed, NoRow, NoUtf8, Refused, RowWidth, WrongKind
 from .movement import Mover
 from .policy import Helper, Policy
-from .schema import NA, Schema
+from .schema import Schema
 
 Row = Union[Sequence[Any], Mapping[str, Any]]
 Progress = Callable[[int, int], Any]
@@ -108,6 +108,9 @@ class Editing:
     def append(self, row: Any) -> int:
         """Appends a row, given as a sequence or by names, and returns its place.
 
+        A number may be of any class that has a whole value: 5, ``numpy.int64(5)``, 5.0; True is 1. A
+        cell is missing by None, `NA`, NaN, or pandas' NA. All calls that take cells take these.
+
         >>> table.append(("bread", 5)), table.append({"sku": "rye", "quantity": None})
         (0, 1)
         """
@@ -147,15 +150,14 @@ class Editing:
         texts: list[bytes] = []
         try:
             for value, (at, is_text), name in zip(row, self._row_plan, self.schema):
-                if value is None or value is NA:
+                cell = cell_value(name, str if is_text else int, value)
+                if cell is None:
                     words[at + 1], words[at + 2], words[at + 3] = EMPTY_AT, 0, header.MISSING
-                    continue
-                check(name, str if is_text else int, value)
-                if is_text:
-                    texts.append(_encode(value))
+                elif is_text:
+                    texts.append(_encode(cell))
                     words[at + 1], words[at + 2] = id(texts[-1]) + BYTES_AT, len(texts[-1])
                 else:
-                    words[at] = value
+                    words[at] = cell
             return self._insert_filled(texts)
         finally:
             self._restore_row()
@@ -233,10 +235,10 @@ class Editing:
         if not self._handle.is_open:
             raise Closed()
         place, index, kind = place_index(place), self.schema.index(column), self.schema[column]
-        if value is None or value is NA:
+        value = cell_value(column, kind, value)
+        if value is None:
             return index, place, self._missing_at
-        check(column, kind, value)
-        number, text = (index_of(value), b"") if kind is int else (0, _encode(value))
+        number, text = (value, b"") if kind is int else (0, _encode(value))
         cell = header.Cell(number, text, len(text), self.schema.codes()[index])
         return index, place, byref(cell)
 

@@ -9,6 +9,7 @@ from typing import TYPE_CHECKING, Any, Generic, Iterator, NamedTuple, Sequence, 
 
 from . import _header as header
 from ._asking import Slots
+from ._buffers import cell_value
 from ._handle import leave
 from ._lines import LineReader
 from ._options import needed
@@ -133,15 +134,14 @@ def _fill_test(test: header.TestStruct, schema: Schema, column: str, op: str, va
         raise BadArgument(f"{op!r} is no test of column {column}: those are {known}")
     test.op = ops[op]
     test.text_at, test.text_len = b"", 0
+    constant = cell_value(column, kind, value)
+    if constant is None:
+        raise WrongKind(column=column, kind=kind.__name__, value=value)
     if kind is str:
-        if not isinstance(value, str):
-            raise WrongKind(column=column, kind="str", value=value)
-        encoded = value.encode()
+        encoded = str.encode(constant)
         test.text_at, test.text_len = encoded, len(encoded)
-    elif not isinstance(value, int) or not -(1 << 63) <= value < 1 << 63:
-        raise WrongKind(column=column, kind="int", value=value)
     else:
-        test.number = value
+        test.number = constant
 
 
 Line = TypeVar("Line", Total, MinMax)

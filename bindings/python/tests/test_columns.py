@@ -76,6 +76,35 @@ class Lists(Case):
         self.texts_come_back((t for t in "xyz"), ["x", "y", "z"])
         self.texts_come_back([], [])
 
+    def test_a_cell_alone_and_in_a_list_is_taken_by_one_rule(self) -> None:
+        nan, numbers, texts = float("nan"), self.numbers, self.texts
+        cells: list[tuple[Any, Any]] = [(5.0, 5), (-0.0, 0), (True, 1), (nan, None), (fc.NA, None)]
+        cells += [(-(2.0**63), -(2**63))]
+        if numpy is not None:
+            cells += [(numpy.float64(4), 4), (numpy.float32(4), 4), (numpy.uint8(4), 4)]
+            cells += [(numpy.float32("nan"), None), (numpy.ma.masked, None)]
+        if pandas is not None:
+            cells += [(pandas.NA, None), (pandas.NaT, None)]
+        for cell, due in cells:
+            with self.subTest(cell=repr(cell)):
+                self.comes_back([cell, 7], [due, 7])
+                place = numbers.append((cell,))
+                self.assertEqual(numbers[place], (due,))
+                numbers.set(place, "n", 7)
+                numbers.set(place, "n", cell)
+                numbers.extend([(cell,), (8,)])
+                self.assertEqual(list(numbers["n"])[-3:], [due, due, 8])
+                if due is None:
+                    texts.set(texts.append((cell,)), "t", cell)
+                    self.texts_come_back(["a", cell], ["a", None])
+        for wrong in (1.5, 2.0**63, float("inf"), "1", b"1", [], 1j):
+            for call in (lambda: numbers.set(0, "n", wrong), lambda: numbers.append((wrong,))):
+                with self.assertRaises(errors.WrongKind):
+                    call()
+            self.refused(errors.WrongKind, "whole numbers", n=[1, wrong])
+        total = numbers.watch(fc.totals("n", where=[("n", "==", 8.0)]))
+        self.assertEqual(total.sum, 8 * len(cells))
+
     def test_what_does_not_fit_is_named_and_nothing_goes_in(self) -> None:
         self.refused(errors.WrongKind, "column n has whole numbers", n=[1, "x"])
         self.refused(errors.WrongKind, "1.5", n=[1, 1.5])
