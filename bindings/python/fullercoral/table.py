@@ -4,7 +4,6 @@ from __future__ import annotations
 
 import os
 import threading
-from collections import namedtuple
 from ctypes import byref, c_bool
 from types import TracebackType
 from typing import Any, Iterator, NoReturn, Sequence, SupportsIndex, Union, overload
@@ -17,6 +16,7 @@ from ._handle import EMPTY_AT, Handle
 from ._lent import lent_text
 from ._moving import Moving
 from ._reading import Reader
+from ._rows import row_class
 from .aggregates import Key, Spec, Watched, spec_struct
 from .column import Batch, Column, Value, read_batch
 from .csv_files import csv_options, load_csv
@@ -52,6 +52,7 @@ class Table(Editing, Moving):
     - ``contents``: how many contents may go out before the table goes on with new numbers.
 
     Rows stand at places 0, 1, 2, .. in the order in which they came; a removed row keeps its place.
+    A row is a named tuple; ``row._asdict()`` has names that are no identifiers, as "Order ID".
     Several threads may use a table: each call is made under its lock.
     """
 
@@ -82,7 +83,7 @@ class Table(Editing, Moving):
         self._places = 0
         self._live = 0
         self._kind_of = {name: (at, kind) for at, (name, kind) in enumerate(self.schema.pairs())}
-        self._Row: Any = namedtuple("Row", self.schema.names, rename=True)  # type: ignore[misc]
+        self._Row: Any = row_class(self.schema.names)
         self._prepare_edits()
         self._prepare_rows()
 

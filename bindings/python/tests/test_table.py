@@ -34,6 +34,15 @@ class Rows(Case):
         self.assertEqual((table[1].sku, table[-1].quantity), ("", 2**63 - 1))
         self.assertEqual(repr(table[0]), "Row(sku='bread', quantity=5)")
 
+    def test_names_that_are_no_identifiers(self) -> None:
+        with fc.Table({"Order ID": int, "class": str, "n": int}, local="1MB") as table:
+            table.append({"n": 3, "Order ID": 7, "class": "x"})
+            for row in (table[0], *table, *table.head(1)):
+                self.assertEqual(row._asdict(), {"Order ID": 7, "class": "x", "n": 3})
+                self.assertEqual((row, row.n, row._0), ((7, "x", 3), 3, 7))
+            self.assertEqual(repr(table[0]), "Row({'Order ID': 7, 'class': 'x', 'n': 3})")
+            self.assertEqual(table["Order ID"][0], 7)
+
     def test_missing_cells(self) -> None:
         table = self.table
         table.extend([(None, None), ("bread", fc.NA), (fc.NA, 5)])
