@@ -20,7 +20,7 @@ from . import _setting
 from ._buffers import BYTES_AT, ColumnBuffer, cell_value, column_buffer
 from ._handle import EMPTY_AT, Handle, leave
 from ._pages import MANY
-from .errors import BadArgument, Closed, NoRow, NoUtf8, Refused, RowWidth, WrongKind
+from .errors import BadArgument, Closed, NoRow, NoUtf8, Refused, RowWidth, TextTooLong, WrongKind
 from .movement import Mover
 from .policy import Helper, Policy
 from .schema import Schema
@@ -307,9 +307,19 @@ class Editing:
         with Helper(self._mover, self.policy) as helper:
             code = helper.until_done(call, *arguments, code=code)
         if code:
-            place = arguments[-2] if call is self._fc_set else None
-            place = arguments[-1] if call is self._fc_remove else place
-            raise self._handle.refusal(code, **({} if place is None else {"place": place}))
+            raise self._handle.refusal(code, **self._about(code, call, arguments))
+
+    def _about(self, code: int, call: Any, arguments: Any) -> dict[str, Any]:
+        """Returns which place an edit that was refused is about, or the column of a long text."""
+        names = self.schema.names
+        if code == TextTooLong.number and call is self._fc_set:
+            return {"column": names[arguments[1]]}
+        if code == TextTooLong.number:
+            lengths = [self._row_words[at + 2] if is_text else 0 for at, is_text in self._row_plan]
+            return {"column": names[lengths.index(max(lengths))]}
+        if call is self._fc_set or call is self._fc_remove:
+            return {"place": arguments[-2 if call is self._fc_set else -1]}
+        return {}
 
     # Many rows
 
@@ -430,13 +440,20 @@ class Editing:
                     del kept
                     start += self._size.value
                     if code and not helper.has_helped(code):
-                        raise self._handle.refusal(code)
+                        raise self._handle.refusal(code, **self._long_text(code, buffers, start))
         except Refused as error:
             self._match_places()
             error.details["inserted"] = self._places - first
             raise
         finally:
             self._match_places()
+
+    def _long_text(self, code: int, buffers: list[ColumnBuffer], row: int) -> dict[str, Any]:
+        """Returns the column of the text of a row for which an insert was refused as too long."""
+        texts = [(name, b.value(row)) for name, b in zip(self.schema, buffers) if b.kind == header.TEXT]
+        lengths = {name: len(str(text or "").encode()) for name, text in texts}
+        found = code == TextTooLong.number and max(lengths, key=lambda name: lengths[name])
+        return {"column": found} if found else {}
 
     def _match_places(self) -> None:
         """Notes how many places there are now, whatever ended an insert of many rows."""

@@ -17,7 +17,7 @@ from typing import TYPE_CHECKING, Any, Callable, Iterator, Mapping, Sequence, Un
 from ._buffers import MaskedNumbers, pack_bits
 from ._header import MAX_COLUMNS, MAX_TEXT
 from ._options import refuse_unknown
-from .errors import Refused
+from .errors import BadArgument, Refused
 from .progress import Shown
 from .schema import Kind, Schema
 
@@ -74,12 +74,15 @@ def scaled(digits: int) -> Convert:
     """Returns a function that reads a decimal text as a whole number of its smallest part.
 
     For ``convert=`` of `read_csv`: so 1.99 is read as 199, exactly. A text with more decimals is
-    refused.
+    refused, and so are other numbers of decimals than 0 to 18.
 
     >>> cents = scaled(2)
     >>> cents("1.99"), cents("-3"), cents("0.5"), cents("")
     (199, -300, 50, None)
     """
+
+    if not isinstance(digits, int) or not 0 <= digits <= 18:
+        raise BadArgument(f"scaled takes 0 to 18 decimals, as scaled(2), and {digits!r} is none")
 
     def convert(text: str) -> int | None:
         text = text.strip()

@@ -156,7 +156,8 @@ class TextTooLong(Refused, ValueError):
 
     def _sentence(self) -> str:
         if "value" not in self.details:
-            return self.text
+            column = self.column
+            return self.text if column is None else f"a text for column {column} has more than 4,096 bytes"
         where, length = f"place {self.place} of column {self.column}", len(self.details["value"])
         return f"the text for {where} has {length:,} characters, and more than 4,096 bytes"
 
@@ -221,6 +222,13 @@ class OutOfRange(Refused, IndexError):
 
     number = 14
     text = "there is no such range, row group or segment"
+
+    def _sentence(self) -> str:
+        groups = self.details.get("groups")
+        if groups is None:
+            return self.text
+        some = f"row groups are 0 to {groups - 1}" if groups else "the table has none yet"
+        return f"there is no row group {self.group!r}; {some}"
 
 
 class Building(Refused):

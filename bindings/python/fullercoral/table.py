@@ -269,6 +269,13 @@ class Table(Editing, Moving):
         for batch in self.batches():
             yield from self._of(batch)
 
+    def __contains__(self, item: object) -> bool:
+        """Whether there is a column of this name, or a live row with these cells."""
+        if isinstance(item, str):
+            self._open_handle()
+            return item in self.schema
+        return any(row == item for row in self)
+
     def head(self, rows: int = 5) -> list[Any]:
         """Returns the first live rows.
 

@@ -83,6 +83,9 @@ class Reading(unittest.TestCase):
             [("bread", 199), ("rye", None), ("oat", 300)],
         )
         self.assertEqual(self.rows(text, convert={"sku": str.upper})[0], ("BREAD", "1.99"))
+        for digits in (-1, "2", 19, 1.0):
+            with self.assertRaisesRegex(ValueError, "scaled takes 0 to 18 decimals"):
+                fc.scaled(digits)
         for wrong, said in (("x", "'x' is no decimal number"), ("1.999", "more than 2 decimals")):
             with self.assertRaises(fc.CsvError) as caught:
                 self.rows(text + f"cake,{wrong}\n", convert={"price": fc.scaled(2)})

@@ -267,6 +267,7 @@ class ByHand(unittest.TestCase):
     def test_pins(self) -> None:
         with filled(32) as table:
             with table.pin("quantity", 0) as pin:
+                self.assertEqual(repr(pin), "<pin on column 'quantity', row group 0>")
                 with self.assertRaises(errors.Pinned):
                     table.evict("quantity", 0)
                 self.assertEqual(table.evict(), 3)

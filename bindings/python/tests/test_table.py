@@ -98,6 +98,11 @@ class Rows(Case):
             with self.assertRaises(IndexError):
                 table["quantity"][place]
 
+    def test_what_is_in_a_table(self) -> None:
+        self.table.append(("bread", 5))
+        there = [item in self.table for item in ("sku", "prize", ("bread", 5), ("bread", 6))]
+        self.assertEqual(there, [True, False, True, False])
+
     def test_batches(self) -> None:
         table = self.table
         table.extend((f"sku{n}", n) for n in range(1000))
@@ -178,11 +183,21 @@ class Refusals(Case):
         self.refused(errors.RowWidth, "3 cells, and the table 2", lambda: table.append((1, 2, 3)))
         self.refused(errors.RowWidth, "no value of sku", lambda: table.append({"quantity": 1}))
         self.refused(errors.NoColumn, "prize", lambda: table.append({"prize": 1}))
-        self.refused(errors.TextTooLong, "4,096", lambda: table.set(0, "sku", "x" * 4097))
+        long = "a text for column sku has more than 4,096 bytes"
+        for call in (
+            lambda: table.set(0, "sku", "x" * 4097),
+            lambda: table.append(("é" * 2049, 1)),
+            lambda: table.append(("é" * 2049, None)),
+            lambda: table.extend_columns(sku=["x" * 4097], quantity=[None]),
+        ):
+            self.refused(errors.TextTooLong, long, call)
         self.refused(errors.NoUtf8, "surrogate", lambda: table.set(0, "sku", "\ud800"))
         self.refused(errors.NoUtf8, "surrogate", lambda: table.append(("\udfff", 1)))
         self.refused(errors.NoRow, "no place 7; the last one is 0 [8]", lambda: table[7])
-        self.refused(errors.OutOfRange, "[14]", lambda: table.evict("sku", 1))
+        said = "there is no row group 1; row groups are 0 to 0 [14]"
+        for call in (table.evict, table.fetch, table.pin):
+            self.refused(errors.OutOfRange, said, lambda: call("sku", 1))  # noqa: B023
+        self.refused(errors.OutOfRange, "no row group 'x'", lambda: table.evict("sku", "x"))
         self.refused(errors.StaleJob, "[20]", lambda: table.fetch("sku", 0))
         self.assertEqual(list(table), [("bread", 5)])
         table.set(0, "quantity", 6)
@@ -246,6 +261,13 @@ class Refusals(Case):
         self.refused(
             errors.BadSchema, "no amount of memory", lambda: fc.Table(COLUMNS, local="much")
         )
+        for local, said in (
+            ("64", "'64' has no unit; write '64MB'"),
+            (64, "64 is too little memory for a table"),
+            (0, "0 is too little"),
+            ("100TB", "is more memory than the cells of a table can take; write '32GiB'"),
+        ):
+            self.refused(errors.BadSchema, said, lambda: fc.Table(COLUMNS, local=local))  # noqa: B023
         self.refused(errors.BadSchema, "group is 1 to 65,536", lambda: fc.Table(COLUMNS, group=0))
 
     def test_a_closed_table(self) -> None:
