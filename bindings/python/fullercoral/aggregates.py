@@ -36,6 +36,11 @@ class Total(NamedTuple):
     count: int  # type: ignore[assignment]
     sum: int
 
+    @property
+    def mean(self) -> float | None:
+        """The sum divided by the count; None if there are no values."""
+        return self.sum / self.count if self.count else None
+
 
 class MinMax(NamedTuple):
     """The least and the greatest value."""
@@ -241,6 +246,12 @@ class Watched(Generic[Line]):
     def sum(self) -> int | None:
         """The sum of the values, of totals without key."""
         return self._part("sum")
+
+    @property
+    def mean(self) -> float | None:
+        """The mean of the values, of totals without key; None if there are none."""
+        mean: float | None = self.value.mean if self._fold is Total else self._part("mean")
+        return mean
 
     @property
     def min(self) -> int | None:

@@ -12,6 +12,7 @@ from . import _header as header
 from . import display
 from ._csv_write import write_csv
 from ._editing import Editing, Progress
+from ._frames import schema_of_frame, to_pandas
 from ._handle import EMPTY_AT, Handle
 from ._lent import lent_text
 from ._moving import Moving
@@ -169,6 +170,16 @@ class Table(Editing, Moving):
         """The names of the columns."""
         return self.schema.names
 
+    @property
+    def dtypes(self) -> dict[str, type]:
+        """The kinds of the columns, ``int`` or ``str``, by their names."""
+        return dict(self.schema.pairs())
+
+    @property
+    def shape(self) -> tuple[int, int]:
+        """How many rows are alive, and how many columns there are."""
+        return len(self), len(self.schema)
+
     @overload
     def __getitem__(self, key: str) -> Column:
         ...
@@ -290,12 +301,27 @@ class Table(Editing, Moving):
         """Returns the last live rows."""
         return [row for _, row in display.last_rows(self, rows)]
 
+    @classmethod
+    def from_pandas(cls, frame: Any, **options: Any) -> Table:
+        """Makes a table of a DataFrame of pandas; options are as of `Table`. Its index is left out.
+
+        Columns of whole numbers, of flags, and of floats with whole values are ``int``; those of
+        texts ``str``. Others are refused, with what may be done.
+        """
+        made = cls(schema_of_frame(frame), **options)
+        try:
+            made.extend_columns(frame)
+        except BaseException:
+            made.close()
+            raise
+        return made
+
     def to_pandas(self) -> Any:
         """Returns the live rows as a DataFrame of pandas, with their places as its index.
 
         Columns of numbers are of type ``int64``, or ``Int64`` if a cell is missing.
         """
-        return display.to_pandas(self)
+        return to_pandas(self)
 
     # Aggregates
 

@@ -231,6 +231,28 @@ class Pandas(Case):
             plain = table.watch(fc.extrema("quantity")).to_pandas()
             self.assertEqual(plain.values.tolist(), [[3, 5]])
 
+    def test_a_table_of_a_frame(self) -> None:
+        columns = {"Order ID": [3, 1], "sku": ["a", None], "quantity": [5.0, None], "paid": [True, False]}
+        frame = pandas.DataFrame(columns, index=["x", "y"])
+        frame["city"] = frame["sku"].astype("category")
+        with fc.Table.from_pandas(frame, local="1MB") as table:
+            due = {"Order ID": int, "sku": str, "quantity": int, "paid": int, "city": str}
+            self.assertEqual((table.dtypes, table.shape), (due, (2, 5)))
+            self.assertEqual(list(table), [(3, "a", 5, 1, "a"), (1, None, None, 0, None)])
+            again = fc.Table.from_pandas(table.to_pandas(), local="1MB")
+            self.assertEqual((list(again), again.schema), (list(table), table.schema))
+            again.close()
+        for values, said in (
+            ([1.5, 2], r"column n has decimals.*\* 100\).round"),
+            (pandas.to_datetime(["2024-01-01"]), r"datetime64.*astype\(str\) is texts"),
+            ([b"x", 1], "is of object"),
+        ):
+            with self.assertRaisesRegex(errors.WrongKind, said):
+                fc.Table.from_pandas(pandas.DataFrame({"n": values}))
+        for wrong in (5, {"n": [1]}, [1]):
+            with self.assertRaisesRegex(errors.WrongKind, "takes a DataFrame of pandas"):
+                fc.Table.from_pandas(wrong)
+
     def test_an_answer_as_a_frame(self) -> None:
         with fc.Table({"key": int, "n": int}, local="1MB") as table:
             by_key = table.watch(fc.totals("n", by="key"))

@@ -71,6 +71,8 @@ class Aggregates(unittest.TestCase):
             self.assertEqual(sold.items(), [("bread", (1, 5)), ("rye", (1, 3))])
             self.assertEqual(best["bread"], fc.MinMax(-2, 5))
             self.assertEqual((plain.count, plain.sum, ends.min, ends.max), (4, 15, -2, 9))
+            self.assertEqual((plain.mean, best.get("x"), sold["bread"].mean), (3.75, None, 5.0))
+            self.assertIsNone(fc.Total(0, 0).mean)
             self.assertEqual(by_number.keys(), [-2, 3, 5, 9])
             self.assertEqual(
                 (by_number[-2], by_number.get(7), by_number.get(7, 0)), ((1, -2), None, 0)

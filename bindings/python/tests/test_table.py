@@ -100,6 +100,7 @@ class Rows(Case):
 
     def test_what_is_in_a_table(self) -> None:
         self.table.append(("bread", 5))
+        self.assertEqual((self.table.shape, self.table.dtypes), ((1, 2), COLUMNS))
         there = [item in self.table for item in ("sku", "prize", ("bread", 5), ("bread", 6))]
         self.assertEqual(there, [True, False, True, False])
 
