@@ -134,7 +134,7 @@ def _import(shell: Shell, asked: argparse.Namespace) -> bool:
 
 def main(arguments: Sequence[str] | None = None) -> int:
     """Runs the shell, and returns its exit status."""
-    about = "A shell over a table; type help in it. Through a pipe, its status is 1 if a line is refused."
+    about = "A shell over a table; type help in it. Its status is 1 if a line of a pipe is refused."
     parser = argparse.ArgumentParser(prog="python -m fullercoral", description=about)
     parser.add_argument("csv", nargs="?", help="a CSV file that is imported first")
     parser.add_argument("--local", default="64MB", help="local memory of its table (64MB)")

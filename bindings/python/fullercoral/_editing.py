@@ -108,8 +108,8 @@ class Editing:
     def append(self, row: Any) -> int:
         """Appends a row, given as a sequence or by names, and returns its place.
 
-        A number may be of any class that has a whole value: 5, ``numpy.int64(5)``, 5.0; True is 1. A
-        cell is missing by None, `NA`, NaN, or pandas' NA. All calls that take cells take these.
+        A number may be of any class that has a whole value: 5, ``numpy.int64(5)``, 5.0; True is 1.
+        A cell is missing by None, `NA`, NaN, or pandas' NA. All calls that take cells take these.
 
         >>> table.append(("bread", 5)), table.append({"sku": "rye", "quantity": None})
         (0, 1)
@@ -296,7 +296,10 @@ class Editing:
         """Returns a place that is there, counted from 0."""
         if not self._handle.is_open:
             raise Closed()
-        at = place_index(place)
+        try:
+            at = index_of(place)
+        except TypeError:
+            at = place_index(place)
         at += self._places if at < 0 else 0
         if not 0 <= at < self._places:
             raise NoRow(place=place, places=self._places)
@@ -326,9 +329,9 @@ class Editing:
     def extend(self, rows: Iterable[Row], progress: Progress | None = None) -> range:
         """Appends rows, and returns their places. They are read and inserted some at a time.
 
-        If one is refused, the rows before it stay, and the exception's ``inserted`` counts them. So
-        do the rows before an exception of ``rows`` itself. What ``rows`` appends to this table while
-        it is read gets earlier places than the rows that it yields.
+        If one is refused, the rows before it stay, and the exception's ``inserted`` counts them.
+        The rows before an exception of ``rows`` itself stay too. What ``rows`` appends to this
+        table while it is read gets earlier places than the rows that it yields.
 
         >>> table.extend([("bread", 5), ("rye", 3)])
         range(0, 2)
@@ -450,8 +453,8 @@ class Editing:
 
     def _long_text(self, code: int, buffers: list[ColumnBuffer], row: int) -> dict[str, Any]:
         """Returns the column of the text of a row for which an insert was refused as too long."""
-        texts = [(name, b.value(row)) for name, b in zip(self.schema, buffers) if b.kind == header.TEXT]
-        lengths = {name: len(str(text or "").encode()) for name, text in texts}
+        cells = [(name, buffer.value(row)) for name, buffer in zip(self.schema, buffers)]
+        lengths = {name: len(cell.encode()) for name, cell in cells if isinstance(cell, str)}
         found = code == TextTooLong.number and max(lengths, key=lambda name: lengths[name])
         return {"column": found} if found else {}
 

@@ -36,5 +36,5 @@ def needed(package: str, call: str) -> Any:
     try:
         return import_module(package)
     except ModuleNotFoundError as error:
-        said = f"{call} needs {package}, and {error.name} is not installed; to_list and batches do not"
+        said = f"{call} needs {package}, and {error.name} is not installed; install it"
         raise ModuleNotFoundError(said, name=error.name) from None

@@ -143,7 +143,7 @@ class Column:
 class Batch(Mapping[str, Any]):
     """Live rows of a part of a table: ``batch["quantity"]`` is a column, ``batch.places`` where.
 
-    Columns are lists with None for what is missing. ``len(batch)`` counts the columns, as of a dict.
+    Columns are lists with None for what is missing. ``len(batch)`` counts them, as of a dict.
     """
 
     def __init__(self, places: list[int], columns: dict[str, list[Value]]) -> None:

@@ -93,7 +93,8 @@ def scaled(digits: int) -> Convert:
             raise ValueError(f"{text!r} is no decimal number")
         part = (found[3] or "").rstrip("0")
         if len(part) > digits:
-            raise ValueError(f"{text!r} has more than {digits} decimals: scaled({len(part)}) reads it")
+            said = f"{text!r} has more than {digits} decimals"
+            raise ValueError(f"{said}: scaled({len(part)}) reads it")
         return int(f"{found[1]}{found[2]}{part:0<{digits}}")
 
     return convert
@@ -428,8 +429,7 @@ def read_csv(
     """Makes a table of a CSV file, which is read in chunks; it may be larger than memory.
 
     - ``path``: a path (``.gz`` is read too) or an open file.
-    - ``delimiter``: a comma. A first row of one field that has another mark is refused, unless this
-      is given.
+    - ``delimiter``: a comma; a first row of one field that has another one must be read by name.
     - ``header``: whether the first row has the columns' names; ``names`` are used instead.
     - ``columns``: which columns to take.
     - ``types``: kinds of some columns, ``int`` or ``str``; others are guessed from the first rows:

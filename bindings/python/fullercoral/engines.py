@@ -119,9 +119,9 @@ class Memory:
 class Files:
     """Keeps contents in a file, which is made when a table opens on it and removed at the close.
 
-    A path at which there can be no such file is refused then, with an ``OSError`` that names it. The
-    file is of use to nobody once the table is gone: it is no saved table. A file that a process left
-    when it was killed is used again; any other file at this path is left alone, with
+    A path at which there can be no such file is refused then, with an ``OSError`` that names it.
+    The file is of use to nobody once the table is gone: it is no saved table. A file that a process
+    left when it was killed is used again; any other file at this path is left alone, with
     ``FileExistsError``. The space of a content that is discarded is used again for a content of the
     same length. Memory for each content: 12 bytes.
 
@@ -170,7 +170,8 @@ class Files:
             raise FileExistsError(said) from None
         is_plain = stat.S_ISREG(os.fstat(file).st_mode)
         if not is_plain or os.pread(file, len(self.MARK), 0) not in (b"", self.MARK):
-            raise FileExistsError(f"{self.path} is no file of contents, and is left as it is: {other}")
+            said = f"{self.path} is no file of contents, and is left as it is"
+            raise FileExistsError(f"{said}: {other}")
         os.ftruncate(file, 0)
         os.pwrite(file, self.MARK, 0)
 

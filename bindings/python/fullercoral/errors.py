@@ -156,8 +156,8 @@ class TextTooLong(Refused, ValueError):
 
     def _sentence(self) -> str:
         if "value" not in self.details:
-            column = self.column
-            return self.text if column is None else f"a text for column {column} has more than 4,096 bytes"
+            of = "" if self.column is None else f" for column {self.column}"
+            return f"a text{of} has more than 4,096 bytes"
         where, length = f"place {self.place} of column {self.column}", len(self.details["value"])
         return f"the text for {where} has {length:,} characters, and more than 4,096 bytes"
 
@@ -227,8 +227,8 @@ class OutOfRange(Refused, IndexError):
         groups = self.details.get("groups")
         if groups is None:
             return self.text
-        some = f"row groups are 0 to {groups - 1}" if groups else "the table has none yet"
-        return f"there is no row group {self.group!r}; {some}"
+        some = f"row groups are 0 to {groups - 1}" if groups else "it has none yet"
+        return f"the table has no row group {self.group!r}; {some}"
 
 
 class Building(Refused):

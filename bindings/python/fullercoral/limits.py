@@ -47,7 +47,7 @@ def parse_bytes(amount: Union[int, str]) -> int:
         raise BadSchema(f"{amount!r} is too little memory for a table; write '64MB'")
     if number > _MOST_BYTES:
         most = f"{_MOST_BYTES >> 30}GiB"
-        raise BadSchema(f"{amount!r} is more memory than the cells of a table can take; write {most!r}")
+        raise BadSchema(f"{amount!r} is more memory than cells of a table can take; write {most!r}")
     return int(number)
 
 

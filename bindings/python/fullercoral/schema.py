@@ -126,7 +126,8 @@ def _pairs(columns: Any) -> list[tuple[str, Kind]]:
     pairs = list(columns)
     for pair in pairs:
         if isinstance(pair, str) or not hasattr(pair, "__len__") or len(pair) != 2:
-            raise BadSchema(f"give each column's name and kind, as {{'quantity': int}}, not {pair!r}")
+            said = "give each column's name and kind, as {'quantity': int}"
+            raise BadSchema(f"{said}, not {pair!r}")
     return pairs
 
 

@@ -123,7 +123,7 @@ class Shell:
             return serve(self, rest.strip())
         if self.table is None and word != "schema":
             if self.friendly:
-                raise ValueError("no table is open: .open NAME:KIND,.. or .import FILE.csv, or help")
+                self._open()
             return self.script.printed(line, rows)
         return self._scripted(self._with_numbers(line), rows)
 
@@ -199,7 +199,8 @@ class Shell:
 
     def _open(self) -> Table:
         if self.table is None:
-            raise ValueError("no table is open: .open NAME:KIND,.. or .import FILE.csv")
+            said = "no table is open: .open NAME:KIND,.. or .import FILE.csv, or help"
+            raise ValueError(said)
         return self.table
 
     # Commands of the shell

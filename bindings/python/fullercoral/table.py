@@ -339,7 +339,8 @@ class Table(Editing, Moving):
         with self._lock:
             handle = self._open_handle()
             if not isinstance(spec, Spec):
-                raise WrongKind(f"watch takes fc.totals(..) or fc.extrema(..), and not {spec!r:.60}")
+                said = "watch takes fc.totals(..) or fc.extrema(..)"
+                raise WrongKind(f"{said}, and not {spec!r:.60}")
             struct, kept = spec_struct(self.schema, spec)
             number = handle.watch(struct)
             del kept

@@ -109,7 +109,7 @@ class Keys(Case):
         self.assertEqual((cities[True].sum, cities[False].sum), (5, 3))
 
     def test_a_key_is_one_column(self) -> None:
-        for spec in (lambda: fc.totals("quantity", by=["sku", "city"]), lambda: fc.extrema(["city"])):
+        for spec in (lambda: fc.totals("city", by=["sku"]), lambda: fc.extrema(["city"])):
             with self.assertRaisesRegex(errors.BadSpec, "one column, by its name, and .* is none"):
                 spec()
 

@@ -8,7 +8,7 @@ from typing import Any
 
 import fullercoral as fc
 from fullercoral import errors
-from fullercoral._buffers import _bits_between, address_of, pack_bits
+from fullercoral._buffers import BYTES_AT, _bits_between, address_of, pack_bits
 
 try:
     import numpy
@@ -232,7 +232,8 @@ class Pandas(Case):
             self.assertEqual(plain.values.tolist(), [[3, 5]])
 
     def test_a_table_of_a_frame(self) -> None:
-        columns = {"Order ID": [3, 1], "sku": ["a", None], "quantity": [5.0, None], "paid": [True, False]}
+        columns: dict[str, Any] = {"Order ID": [3, 1], "sku": ["a", None]}
+        columns |= {"quantity": [5.0, None], "paid": [True, False]}
         frame = pandas.DataFrame(columns, index=["x", "y"])
         frame["city"] = frame["sku"].astype("category")
         with fc.Table.from_pandas(frame, local="1MB") as table:
@@ -268,6 +269,32 @@ class Pandas(Case):
             table.extend_columns(key=[7, 7, 8, 8], n=[2**63 - 1] * 2 + [-(2**63)] * 2)
             sums = by_key.to_pandas()["sum"].tolist()
             self.assertEqual(sums[6:10], [-294, 2**64 - 295, -(2**64) - 292, -291])
+
+
+class Addresses(unittest.TestCase):
+    def test_where_bytes_lie(self) -> None:
+        for content in (b"x", b"bread", bytes(1000)):
+            self.assertEqual(id(content) + BYTES_AT, address_of(content))
+
+    def test_what_only_looks_like_a_text(self) -> None:
+        class Odd:
+            def encode(self) -> int:
+                return 5
+
+        class Loud(str):
+            def encode(self, *arguments: Any) -> Any:
+                return 5
+
+        with fc.Table({"sku": str, "quantity": int}, local="1MB") as table:
+            for call in (
+                lambda: table.append((Odd(), 1)),
+                lambda: table.set(table.append(("x", 1)), "sku", Odd()),
+            ):
+                with self.assertRaises(errors.WrongKind):
+                    call()
+            table.append((Loud("loud"), 1))
+            table.set(0, "sku", Loud("LOUD"))
+            self.assertEqual(table["sku"][:], ["LOUD", "loud"])
 
 
 if __name__ == "__main__":

@@ -9,7 +9,6 @@ from typing import Any
 
 import fullercoral as fc
 from fullercoral import errors
-from fullercoral._buffers import BYTES_AT, address_of
 
 from .engines import Faulty
 
@@ -475,32 +474,6 @@ class Pandas(Case):
         sold = frame[frame.quantity > 5].quantity * 10
         self.table.set_column("quantity", sold)
         self.assertEqual(list(self.table["quantity"]), [0, 1, 2, 3, 5, 60, 70, 80, 90])
-
-
-class Addresses(unittest.TestCase):
-    def test_where_bytes_lie(self) -> None:
-        for content in (b"x", b"bread", bytes(1000)):
-            self.assertEqual(id(content) + BYTES_AT, address_of(content))
-
-    def test_what_only_looks_like_a_text(self) -> None:
-        class Odd:
-            def encode(self) -> int:
-                return 5
-
-        class Loud(str):
-            def encode(self, *arguments: Any) -> Any:
-                return 5
-
-        with fc.Table(KINDS, local="1MB") as table:
-            for call in (
-                lambda: table.append((Odd(), 1)),
-                lambda: table.set(table.append(("x", 1)), "sku", Odd()),
-            ):
-                with self.assertRaises(errors.WrongKind):
-                    call()
-            table.append((Loud("loud"), 1))
-            table.set(0, "sku", Loud("LOUD"))
-            self.assertEqual(table["sku"][:], ["LOUD", "loud"])
 
 
 if __name__ == "__main__":

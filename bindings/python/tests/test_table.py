@@ -195,14 +195,19 @@ class Refusals(Case):
         self.refused(errors.NoUtf8, "surrogate", lambda: table.set(0, "sku", "\ud800"))
         self.refused(errors.NoUtf8, "surrogate", lambda: table.append(("\udfff", 1)))
         self.refused(errors.NoRow, "no place 7; the last one is 0 [8]", lambda: table[7])
-        said = "there is no row group 1; row groups are 0 to 0 [14]"
-        for call in (table.evict, table.fetch, table.pin):
-            self.refused(errors.OutOfRange, said, lambda: call("sku", 1))  # noqa: B023
-        self.refused(errors.OutOfRange, "no row group 'x'", lambda: table.evict("sku", "x"))
         self.refused(errors.StaleJob, "[20]", lambda: table.fetch("sku", 0))
         self.assertEqual(list(table), [("bread", 5)])
         table.set(0, "quantity", 6)
         self.assertEqual(list(table), [("bread", 6)])
+
+    def test_row_groups_that_there_are_not(self) -> None:
+        table = self.table
+        self.refused(errors.OutOfRange, "it has none yet", lambda: table.evict("sku", 0))
+        table.append(("bread", 5))
+        said = "the table has no row group 1; row groups are 0 to 0 [14]"
+        for call in (table.evict, table.fetch, table.pin):
+            self.refused(errors.OutOfRange, said, lambda: call("sku", 1))  # noqa: B023
+        self.refused(errors.OutOfRange, "no row group 'x'", lambda: table.evict("sku", "x"))
 
     def test_what_is_of_another_kind_than_an_argument(self) -> None:
         table = self.table
@@ -217,14 +222,14 @@ class Refusals(Case):
             (TypeError, "1.5 is none: table[place]", lambda: table.set(0.0 + 1.5, "sku", "x")),
             (TypeError, "0.0 is none: table[place]", lambda: table.set(0.0, "sku", "x")),
             (TypeError, "None is none", lambda: table[None]),
-            (TypeError, "a row is a list, a tuple or a dict of cells, and 5", lambda: table.append(5)),
+            (TypeError, "a row is a list, a tuple or a dict", lambda: table.append(5)),
             (TypeError, "of cells, and 0 is none", lambda: table.extend(n for n in range(3))),
             (ValueError, "at least 1 place, and size is 0", lambda: list(table.batches(size=0))),
             (ValueError, "extend_columns takes a dict", lambda: table.extend({"sku": ["x"]})),
             (TypeError, "table['sku'][:] = values", lambda: table.__setitem__("sku", "x")),
             (KeyError, "no column 'prize'", lambda: table.__setitem__("prize", 5)),
             (TypeError, "table.set(place, column, value)", lambda: table.__setitem__(0, ("x", 1))),
-            (ValueError, "name and kind, as {'quantity': int}, not 'a'", lambda: fc.Table(["a", "b"])),
+            (ValueError, "as {'quantity': int}, not 'a'", lambda: fc.Table(["a", "b"])),
         ):
             self.refused(kind, said, call)
         self.assertEqual((list(table), sold.sum), ([("bread", 5)], 5))
@@ -266,9 +271,10 @@ class Refusals(Case):
             ("64", "'64' has no unit; write '64MB'"),
             (64, "64 is too little memory for a table"),
             (0, "0 is too little"),
-            ("100TB", "is more memory than the cells of a table can take; write '32GiB'"),
+            ("100TB", "is more memory than cells of a table can take; write '32GiB'"),
         ):
-            self.refused(errors.BadSchema, said, lambda: fc.Table(COLUMNS, local=local))  # noqa: B023
+            with self.subTest(local=local), self.assertRaisesRegex(errors.BadSchema, said):
+                fc.Table(COLUMNS, local=local)
         self.refused(errors.BadSchema, "group is 1 to 65,536", lambda: fc.Table(COLUMNS, group=0))
 
     def test_a_closed_table(self) -> None:
