@@ -57,6 +57,8 @@ class Column:
 
     def __getitem__(self, place: Any) -> Any:
         """The value of a place, or the values of a slice, a list, an array or a mask of places."""
+        if place.__class__ is int:
+            return self._at(place)
         if not isinstance(place, slice):
             many = hasattr(place, "__len__") and not isinstance(place, str)
             return self._some(place) if many else self._at(place)
