@@ -1,8 +1,16 @@
-"""``python -m fullercoral``: a shell over a table. See ``help`` there."""
+"""``python -m fullercoral``: a shell over a table. See ``help`` there.
+
+Refusals are sentences, on a terminal and through a pipe. Only input whose first command is
+``schema`` is a script, which gets the replies of ``docs/SCRIPT.md``.
+
+The exit status is 1 if the CSV file of the command line cannot be imported, or if a line that came
+through a pipe was refused; of a script it is 0 whatever was refused.
+"""
 
 from __future__ import annotations
 
 import argparse
+import io
 import os
 import sys
 from pathlib import Path
@@ -102,38 +110,50 @@ def _talk(shell: Shell) -> None:
 
 
 def _serve(shell: Shell) -> None:
-    """Serves lines that another program writes, or a file."""
-    source = sys.stdin.buffer
+    """Serves lines that another program writes, or a file: a script if ``schema`` is the first."""
+    source, begun = sys.stdin.buffer, shell.table is not None
     for raw in source:
         line = raw.removesuffix(b"\n").removesuffix(b"\r") if raw.endswith(b"\n") else raw
+        if line.strip() and not begun:
+            begun, shell.friendly = True, line.split(b" ")[0] != b"schema"
         shell.line(line.decode(), lambda count: source.read(count).decode())
         if shell.done:
             return
 
 
+def _import(shell: Shell, asked: argparse.Namespace) -> bool:
+    """Imports the file of the command line, if one is named; returns whether that failed."""
+    if asked.csv:
+        shell.out = said = io.StringIO()
+        far = f" far={asked.far}" if asked.far else ""
+        shell.line(f".import {asked.csv} local={asked.local}{far}")
+        shell.out = sys.stdout
+        print(said.getvalue(), end="", file=sys.stderr if shell.failed else sys.stdout)
+    return shell.failed
+
+
 def main(arguments: Sequence[str] | None = None) -> int:
-    """Runs the shell."""
-    parser = argparse.ArgumentParser(
-        prog="python -m fullercoral", description="A shell over a table; type help in it."
-    )
+    """Runs the shell, and returns its exit status."""
+    about = "A shell over a table; type help in it. Its status is 1 if a line of a pipe is refused."
+    parser = argparse.ArgumentParser(prog="python -m fullercoral", description=about)
     parser.add_argument("csv", nargs="?", help="a CSV file that is imported first")
     parser.add_argument("--local", default="64MB", help="local memory of its table (64MB)")
     parser.add_argument("--far", help="a file for what is away; else it is kept in this process")
     parser.add_argument("--version", action="version", version=f"fullercoral {__version__}")
     asked = parser.parse_args(arguments)
     terminal = sys.stdin.isatty()
-    shell = Shell(friendly=terminal)
+    shell = Shell()
     try:
-        if asked.csv:
-            far = f" far={asked.far}" if asked.far else ""
-            shell.line(f".import {asked.csv} local={asked.local}{far}")
+        if _import(shell, asked):
+            return 1
         (_talk if terminal else _serve)(shell)
+        return 1 if shell.failed and shell.friendly and not terminal else 0
     except BrokenPipeError:
         os.dup2(os.open(os.devnull, os.O_WRONLY), sys.stdout.fileno())
     finally:
         if shell.table is not None:
             shell.table.close()
-    return 0
+    return 1
 
 
 if __name__ == "__main__":

@@ -20,6 +20,7 @@ BYTES_AT = bytes.__basicsize__ - 1  # how far behind its ``id`` the content of a
 
 _ALIGNED = 8  # where a number of 64 bits lies is a multiple of this
 _LEAST, _MOST = -(1 << 63), (1 << 63) - 1
+_MISSING = ("NAType", "NaTType", "MaskedConstant")  # the classes of pandas.NA, NaT, numpy.ma.masked
 
 
 class _PyBuffer(ctypes.Structure):
@@ -130,11 +131,11 @@ def column_buffer(name: str, kind: type, values: Any) -> ColumnBuffer:
 
 def repeated(name: str, kind: type, value: Any, count: int) -> ColumnBuffer:
     """Returns a column that has the same value in so many rows."""
-    if value is None or value is NA:
+    value = cell_value(name, kind, value)
+    if value is None:
         buffer = column_buffer(name, kind, [0 if kind is int else ""] * count)
         buffer.valid = bytes((count + 7) // 8)
         return buffer
-    check(name, kind, value)
     return column_buffer(name, kind, [value] * count)
 
 
@@ -173,34 +174,50 @@ def _numbers_with_missing(name: str, values: list[Any]) -> tuple[array[int], byt
     there = [value is not None and value is not NA for value in values]
     try:
         numbers = array("q", [value if has else 0 for value, has in zip(values, there)])
+        return numbers, pack_bits(there)
     except (TypeError, OverflowError):
-        check_all(name, int, values)
-        raise
-    return numbers, pack_bits(there)
+        pass  # a cell needs a look of its own
+    cells = [cell_value(name, int, value, row) for row, value in enumerate(values)]
+    return array("q", [cell or 0 for cell in cells]), pack_bits([c is not None for c in cells])
 
 
-def check_all(name: str, kind: type, values: Sequence[Any]) -> None:
-    """Refuses the first value that no column of the kind holds, with the row that it is for."""
-    for row, value in enumerate(values):
-        if value is not None and value is not NA:
-            check(name, kind, value, row=row)
+def _is_missing(value: Any) -> bool:
+    """Whether a value is NaN, or another of numpy and pandas that stands for a missing one."""
+    if type(value).__name__ in _MISSING:
+        return True
+    return hasattr(value, "is_integer") and bool(value != value)
 
 
-def check(name: str, kind: type, value: Any, **more: Any) -> None:
-    """Refuses a value that no column of the kind holds, with its name."""
-    if not (_is_number(value) if kind is int else isinstance(value, str)):
-        raise WrongKind(column=name, kind=kind.__name__, value=value, **more) from None
+def cell_value(name: str, kind: type, value: Any, row: int | None = None) -> Any:
+    """Returns the value of a cell, None if it is missing.
+
+    A number is whatever has a whole value: an int, a whole number of numpy, a float as 2.0; True is
+    1. What no column of the kind holds is refused, with its row.
+    """
+    if value is None or value is NA or (value.__class__ is not kind and _is_missing(value)):
+        return None
+    more = {} if row is None else {"row": row}
+    if kind is int:
+        number = _whole_number(value)
+        if number is None or not _LEAST <= number <= _MOST:
+            raise WrongKind(column=name, kind="int", value=value, **more)
+        return number
+    if not isinstance(value, str):
+        raise WrongKind(column=name, kind="str", value=value, **more)
     try:
-        kind is int or value.encode()
+        str.encode(value)
     except UnicodeEncodeError:
         raise NoUtf8(column=name, value=value, **more) from None
+    return value
 
 
-def _is_number(value: Any) -> bool:
+def _whole_number(value: Any) -> int | None:
     try:
-        return bool(_LEAST <= value.__index__() <= _MOST)
+        return int(value.__index__())
     except (AttributeError, TypeError):
-        return False
+        pass
+    is_whole = getattr(value, "is_integer", None)
+    return int(value) if is_whole is not None and is_whole() else None
 
 
 def _texts(name: str, values: Any, valid: bytes | None) -> ColumnBuffer:
@@ -218,7 +235,7 @@ def _texts(name: str, values: Any, valid: bytes | None) -> ColumnBuffer:
         if len(encoded) != len(joined):
             lengths = [len(text.encode()) for text in texts]
     except UnicodeEncodeError:
-        check_all(name, str, texts)
+        _texts_with_missing(name, texts)
         raise
     buffer = ColumnBuffer(header.TEXT, len(texts), valid)
     offsets = array("Q", accumulate(lengths, initial=0))
@@ -229,10 +246,9 @@ def _texts(name: str, values: Any, valid: bytes | None) -> ColumnBuffer:
 
 
 def _texts_with_missing(name: str, values: Sequence[Any]) -> tuple[list[str], bytes]:
-    there = [value is not None and value is not NA for value in values]
-    if not all(isinstance(value, str) for value, has in zip(values, there) if has):
-        check_all(name, str, values)
-    return [value if has else "" for value, has in zip(values, there)], pack_bits(there)
+    """Returns texts with "" for those that are missing, and which are there; refuses others."""
+    cells = [cell_value(name, str, value, row) for row, value in enumerate(values)]
+    return [cell or "" for cell in cells], pack_bits([cell is not None for cell in cells])
 
 
 # numpy and pandas are known by what they offer, and are not imported here.

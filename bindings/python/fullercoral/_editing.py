@@ -17,13 +17,13 @@ from typing import Any, Callable, Iterable, Mapping, Sequence, Union
 
 from . import _header as header
 from . import _setting
-from ._buffers import BYTES_AT, ColumnBuffer, check, column_buffer
+from ._buffers import BYTES_AT, ColumnBuffer, cell_value, column_buffer
 from ._handle import EMPTY_AT, Handle, leave
 from ._pages import MANY
-from .errors import BadArgument, Closed, NoRow, Refused, RowWidth
+from .errors import BadArgument, Closed, NoRow, NoUtf8, Refused, RowWidth, TextTooLong, WrongKind
 from .movement import Mover
 from .policy import Helper, Policy
-from .schema import NA, Schema
+from .schema import Schema
 
 Row = Union[Sequence[Any], Mapping[str, Any]]
 Progress = Callable[[int, int], Any]
@@ -33,6 +33,27 @@ _ROWS_OF_EXTEND = 10_000
 _WORDS = 4  # how many words a cell has: number, where its text lies, how long it is, kind
 
 _encode = str.encode  # refuses what is no text
+
+
+def place_index(place: Any) -> int:
+    """Returns a place as a number; refuses what is none."""
+    try:
+        return index_of(place)
+    except TypeError:
+        said = f"a place is a whole number, and {place!r:.60} is none"
+        raise WrongKind(f"{said}: table[place], set(place, column, value)") from None
+
+
+def _no_row(row: Any) -> WrongKind:
+    return WrongKind(f"a row is a list, a tuple or a dict of cells, and {row!r:.60} is none")
+
+
+def _length(row: Any) -> int:
+    """Returns how many cells a row has; refuses what is none."""
+    try:
+        return len(row)
+    except TypeError:
+        raise _no_row(row) from None
 
 
 def _cell(kind: int) -> tuple[Any, Any]:
@@ -87,14 +108,20 @@ class Editing:
     def append(self, row: Any) -> int:
         """Appends a row, given as a sequence or by names, and returns its place.
 
+        A number may be of any class that has a whole value: 5, ``numpy.int64(5)``, 5.0; True is 1.
+        A cell is missing by None, `NA`, NaN, or pandas' NA. All calls that take cells take these.
+
         >>> table.append(("bread", 5)), table.append({"sku": "rye", "quantity": None})
         (0, 1)
         """
         if row.__class__ is not tuple and row.__class__ is not list and isinstance(row, Mapping):
             row = self._in_order(row)
         with self._lock:
-            if len(row) != self._width:
-                raise RowWidth(f"the row has {len(row)} cells, and the table {self._width} columns")
+            try:
+                if len(row) != self._width:
+                    raise self._wrong_width(row)
+            except TypeError:
+                raise _no_row(row) from None
             words: Any = self._row_words
             texts: list[bytes] = []
             try:
@@ -110,21 +137,27 @@ class Editing:
                 return self._append_with_missing(row)
             return self._insert_filled(texts)
 
+    def _wrong_width(self, row: Sequence[Any]) -> Refused:
+        if not self._handle.is_open:
+            return Closed()
+        return RowWidth(f"the row has {len(row)} cells, and the table {self._width} columns")
+
     def _append_with_missing(self, row: Sequence[Any]) -> int:
         """Appends a row with missing cells; refuses one that has what does not fit."""
+        if not self._handle.is_open:
+            raise Closed()
         words: Any = self._row_words
         texts: list[bytes] = []
         try:
             for value, (at, is_text), name in zip(row, self._row_plan, self.schema):
-                if value is None or value is NA:
+                cell = cell_value(name, str if is_text else int, value)
+                if cell is None:
                     words[at + 1], words[at + 2], words[at + 3] = EMPTY_AT, 0, header.MISSING
-                    continue
-                check(name, str if is_text else int, value)
-                if is_text:
-                    texts.append(_encode(value))
+                elif is_text:
+                    texts.append(_encode(cell))
                     words[at + 1], words[at + 2] = id(texts[-1]) + BYTES_AT, len(texts[-1])
                 else:
-                    words[at] = value
+                    words[at] = cell
             return self._insert_filled(texts)
         finally:
             self._restore_row()
@@ -190,20 +223,24 @@ class Editing:
             if code:
                 self._go_on(code, fc_set, at, index, place, cell)
             self._answer = None
-        except BaseException:
+        except BaseException as error:
             leave(self._lock)
+            if error.__class__ is TypeError:
+                place_index(place)
             raise
         release()
 
     def _odd_cell(self, place: int, column: str, value: Any) -> tuple[int, int, Any]:
         """Returns an index, a place and a cell of other kinds than most; refuses what is none."""
-        index, kind = self.schema.index(column), self.schema[column]
-        if value is None or value is NA:
-            return index, index_of(place), self._missing_at
-        check(column, kind, value)
-        number, text = (index_of(value), b"") if kind is int else (0, _encode(value))
+        if not self._handle.is_open:
+            raise Closed()
+        place, index, kind = place_index(place), self.schema.index(column), self.schema[column]
+        value = cell_value(column, kind, value)
+        if value is None:
+            return index, place, self._missing_at
+        number, text = (value, b"") if kind is int else (0, _encode(value))
         cell = header.Cell(number, text, len(text), self.schema.codes()[index])
-        return index, index_of(place), byref(cell)
+        return index, place, byref(cell)
 
     def set_column(self, column: str, places: Any, values: Any = ...) -> None:
         """Sets cells of a column at many places: the values in order, or one value for all.
@@ -259,7 +296,10 @@ class Editing:
         """Returns a place that is there, counted from 0."""
         if not self._handle.is_open:
             raise Closed()
-        at = index_of(place)
+        try:
+            at = index_of(place)
+        except TypeError:
+            at = place_index(place)
         at += self._places if at < 0 else 0
         if not 0 <= at < self._places:
             raise NoRow(place=place, places=self._places)
@@ -270,9 +310,19 @@ class Editing:
         with Helper(self._mover, self.policy) as helper:
             code = helper.until_done(call, *arguments, code=code)
         if code:
-            place = arguments[-2] if call is self._fc_set else None
-            place = arguments[-1] if call is self._fc_remove else place
-            raise self._handle.refusal(code, **({} if place is None else {"place": place}))
+            raise self._handle.refusal(code, **self._about(code, call, arguments))
+
+    def _about(self, code: int, call: Any, arguments: Any) -> dict[str, Any]:
+        """Returns which place an edit that was refused is about, or the column of a long text."""
+        names = self.schema.names
+        if code == TextTooLong.number and call is self._fc_set:
+            return {"column": names[arguments[1]]}
+        if code == TextTooLong.number:
+            lengths = [self._row_words[at + 2] if is_text else 0 for at, is_text in self._row_plan]
+            return {"column": names[lengths.index(max(lengths))]}
+        if call is self._fc_set or call is self._fc_remove:
+            return {"place": arguments[-2 if call is self._fc_set else -1]}
+        return {}
 
     # Many rows
 
@@ -280,28 +330,58 @@ class Editing:
         """Appends rows, and returns their places. They are read and inserted some at a time.
 
         If one is refused, the rows before it stay, and the exception's ``inserted`` counts them.
+        The rows before an exception of ``rows`` itself stay too. What ``rows`` appends to this
+        table while it is read gets earlier places than the rows that it yields.
 
         >>> table.extend([("bread", 5), ("rye", 3)])
         range(0, 2)
         """
+        if hasattr(rows, "keys"):
+            raise BadArgument("extend takes rows; extend_columns takes a dict or a DataFrame")
         first, rows = self._places, iter(rows)
         while True:
-            some = list(islice(rows, _ROWS_OF_EXTEND))
+            some: list[Row] = []
+            try:
+                some.extend(islice(rows, _ROWS_OF_EXTEND))  # keeps what came before an exception
+            finally:
+                self._extend_some(some, first)
             if not some:
                 return range(first, self._places)
-            some = [self._in_order(row) if isinstance(row, Mapping) else row for row in some]
-            width = self._width
-            index = next((at for at, row in enumerate(some) if len(row) != width), len(some))
-            try:
-                columns = zip(*some[:index]) if index else [[]] * width
-                self.extend_columns(dict(zip(self.schema, columns)))
-            except Refused as error:
-                error.details["inserted"] = self._places - first
-                raise
-            if index < len(some):
-                raise RowWidth(inserted=self._places - first, place=self._places)
             if progress is not None:
                 progress(self._places - first, 0)
+
+    def _extend_some(self, some: list[Row], first: int) -> None:
+        """Appends rows until one is refused; the refusal counts those that are in since a place."""
+        rows: list[Sequence[Any]] = []
+        wrong: Refused | None = None
+        try:
+            for row in some:
+                cells = self._in_order(row) if isinstance(row, Mapping) else row
+                if _length(cells) != self._width:
+                    raise self._wrong_width(cells)
+                rows.append(cells)
+        except Refused as error:
+            wrong = error
+        try:
+            self._extend_rows(rows)
+        except Refused as error:
+            wrong = error
+        if wrong is not None:
+            wrong.details["inserted"] = self._places - first
+            raise wrong
+
+    def _extend_rows(self, rows: list[Sequence[Any]]) -> None:
+        """Appends rows of the table's width until one does not fit."""
+        columns = zip(*rows) if rows else [()] * self._width
+        try:
+            self.extend_columns(dict(zip(self.schema, columns)))
+        except (WrongKind, NoUtf8) as error:
+            fitting, wrong = error.details.pop("row", 0), error
+        else:
+            return
+        if fitting:
+            self._extend_rows(rows[:fitting])
+        raise wrong
 
     def extend_columns(
         self, columns: Any = None, /, *, progress: Progress | None = None, **named: Any
@@ -320,6 +400,8 @@ class Editing:
         >>> table.extend_columns(sku=["bread", "rye", None], quantity=[5, None, 2])
         range(0, 3)
         """
+        if not self._handle.is_open:
+            raise Closed()
         buffers = self._column_buffers(columns, named)
         rows = buffers[0].length
         with self._lock:
@@ -361,13 +443,20 @@ class Editing:
                     del kept
                     start += self._size.value
                     if code and not helper.has_helped(code):
-                        raise self._handle.refusal(code)
+                        raise self._handle.refusal(code, **self._long_text(code, buffers, start))
         except Refused as error:
             self._match_places()
             error.details["inserted"] = self._places - first
             raise
         finally:
             self._match_places()
+
+    def _long_text(self, code: int, buffers: list[ColumnBuffer], row: int) -> dict[str, Any]:
+        """Returns the column of the text of a row for which an insert was refused as too long."""
+        cells = [(name, buffer.value(row)) for name, buffer in zip(self.schema, buffers)]
+        lengths = {name: len(cell.encode()) for name, cell in cells if isinstance(cell, str)}
+        found = code == TextTooLong.number and max(lengths, key=lambda name: lengths[name])
+        return {"column": found} if found else {}
 
     def _match_places(self) -> None:
         """Notes how many places there are now, whatever ended an insert of many rows."""

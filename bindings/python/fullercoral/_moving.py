@@ -11,7 +11,7 @@ from . import _header as header
 from ._handle import Handle
 from .aggregates import Watched
 from .engines import Engine, close_engine, release, take
-from .errors import Building, Closed, FarFull
+from .errors import Building, Closed, FarFull, OutOfRange
 from .movement import Counters, Mover
 from .picture import Map, read_map
 from .policy import Helper, Policy, build
@@ -66,6 +66,12 @@ class Pin:
                 if table._handle.is_open:
                     table._handle.step("unpin", *self._object)
 
+    def __repr__(self) -> str:
+        if self._table is None:
+            return "<pin that ended>"
+        column, group = self._object
+        return f"<pin on column {self._table.schema.names[column]!r}, row group {group}>"
+
     def __enter__(self) -> Pin:
         return self
 
@@ -89,15 +95,27 @@ class Moving:
     _places: int
     _live: int
 
+    if TYPE_CHECKING:
+
+        def _check_watched(self, watched: Any) -> None:
+            ...
+
     def _open_handle(self) -> Handle:
         if not self._handle.is_open:
             raise Closed()
         return self._handle
 
+    def _group(self, group: Any) -> int:
+        """Returns a row group that is there; refuses another."""
+        groups = self._handle.groups()
+        if not hasattr(group, "__index__") or not 0 <= group < groups:
+            raise OutOfRange(group=group, groups=groups)
+        return int(group.__index__())
+
     def _objects(self, column: str | None, group: int | None) -> Iterator[tuple[int, int]]:
         """Yields the objects that are meant: all of a column if no row group is named."""
         columns = range(len(self.schema)) if column is None else [self.schema.index(column)]
-        groups = range(self._handle.groups()) if group is None else [group]
+        groups = range(self._handle.groups()) if group is None else [self._group(group)]
         return ((index, at) for at in groups for index in columns)
 
     def evict(self, column: str | None = None, group: int | None = None) -> int:
@@ -159,6 +177,7 @@ class Moving:
         """
         with self._lock:
             handle, index = self._open_handle(), self.schema.index(column)
+            group = self._group(group)
             with Helper(self._mover, self.policy) as helper:
                 handle.check(helper.until_done(handle.lib.fc_pin, handle.at, index, group))
             return Pin(self, index, group)
@@ -180,6 +199,7 @@ class Moving:
         """
         with self._lock:
             self._open_handle()
+            self._check_watched(watched)
             build(self._mover, self.policy, watched.number, progress)
 
     def _build_for(self, watched: Watched[Any], code: int) -> None:

@@ -9,8 +9,10 @@ from typing import TYPE_CHECKING, Any, Generic, Iterator, NamedTuple, Sequence, 
 
 from . import _header as header
 from ._asking import Slots
+from ._buffers import cell_value
 from ._handle import leave
 from ._lines import LineReader
+from ._options import needed
 from .errors import BadArgument, BadSpec, NoAggregate, Nothing, WrongKind
 from .schema import Schema
 
@@ -33,6 +35,11 @@ class Total(NamedTuple):
 
     count: int  # type: ignore[assignment]
     sum: int
+
+    @property
+    def mean(self) -> float | None:
+        """The sum divided by the count; None if there are no values."""
+        return self.sum / self.count if self.count else None
 
 
 class MinMax(NamedTuple):
@@ -72,7 +79,7 @@ def totals(value: str, by: str | None = None, where: Sequence[Test] = ()) -> Spe
     >>> totals("quantity", by="sku", where=[("quantity", ">", 0)])
     totals('quantity', by='sku', where=[('quantity', '>', 0)])
     """
-    return Spec("totals", value, by, _tests(where))
+    return _spec("totals", value, by, where)
 
 
 def extrema(value: str, by: str | None = None, where: Sequence[Test] = ()) -> Spec:
@@ -81,7 +88,15 @@ def extrema(value: str, by: str | None = None, where: Sequence[Test] = ()) -> Sp
     >>> extrema("price")
     extrema('price')
     """
-    return Spec("extrema", value, by, _tests(where))
+    return _spec("extrema", value, by, where)
+
+
+def _spec(fold: str, value: str, by: str | None, where: Sequence[Test]) -> Spec:
+    if not isinstance(value, str):
+        raise BadSpec(f"{fold} are of one column, by its name, and {value!r} is none")
+    if by is not None and not isinstance(by, str):
+        raise BadSpec(f"a key is one column, by its name, and {by!r} is none")
+    return Spec(fold, value, by, _tests(where))
 
 
 def _tests(where: Sequence[Test]) -> tuple[Test, ...]:
@@ -124,15 +139,14 @@ def _fill_test(test: header.TestStruct, schema: Schema, column: str, op: str, va
         raise BadArgument(f"{op!r} is no test of column {column}: those are {known}")
     test.op = ops[op]
     test.text_at, test.text_len = b"", 0
+    constant = cell_value(column, kind, value)
+    if constant is None:
+        raise WrongKind(column=column, kind=kind.__name__, value=value)
     if kind is str:
-        if not isinstance(value, str):
-            raise WrongKind(column=column, kind="str", value=value)
-        encoded = value.encode()
+        encoded = str.encode(constant)
         test.text_at, test.text_len = encoded, len(encoded)
-    elif not isinstance(value, int) or not -(1 << 63) <= value < 1 << 63:
-        raise WrongKind(column=column, kind="int", value=value)
     else:
-        test.number = value
+        test.number = constant
 
 
 Line = TypeVar("Line", Total, MinMax)
@@ -234,6 +248,12 @@ class Watched(Generic[Line]):
         return self._part("sum")
 
     @property
+    def mean(self) -> float | None:
+        """The mean of the values, of totals without key; None if there are none."""
+        mean: float | None = self.value.mean if self._fold is Total else self._part("mean")
+        return mean
+
+    @property
     def min(self) -> int | None:
         """The least value, of extrema without key; None if there is none."""
         return self._part("min")
@@ -248,8 +268,15 @@ class Watched(Generic[Line]):
     def __getitem__(self, key: Key) -> Any:
         found = self.get(key)
         if found is None:
-            raise KeyError(key)
+            raise self._no_key(key)
         return found
+
+    def _no_key(self, key: Any) -> Exception:
+        """Returns what is said of a key without a line: one of another kind can never have one."""
+        kind = self._key_kind
+        if kind is None or isinstance(key, kind) or (kind is int and hasattr(key, "__index__")):
+            return KeyError(key)
+        return WrongKind(column=self.spec.by, kind=kind.__name__, value=key)
 
     def get(self, key: Key, default: Any = None) -> Any:
         """Returns the line of a key, and the default if there is none."""
@@ -278,10 +305,11 @@ class Watched(Generic[Line]):
         """Returns the line of a key whose class is not the one that most keys have."""
         if self._key_kind is None:
             raise Nothing("this aggregate has no keys: ask for its value")
+        if self._key_kind is int and hasattr(key, "__index__"):
+            return self.get(int(key.__index__()), default)
         if not isinstance(key, self._key_kind):
             return default
-        plain: Key = str.__str__(key) if isinstance(key, str) else int.__int__(key)
-        return self.get(plain, default)
+        return self.get(str.__str__(key), default)
 
     def _line_of(self, key: Key | None) -> Any:
         """Returns the line of one key, and makes no other; None if there is none."""
@@ -345,8 +373,7 @@ class Watched(Generic[Line]):
 
     def to_pandas(self) -> Any:
         """Returns the answer as a DataFrame of pandas, with the keys as its index."""
-        import pandas  # type: ignore[import]
-
+        pandas = needed("pandas", "to_pandas")
         with self.table._lock:
             keys, columns = self._lines.arrays(self._ask())
         index = None if self.spec.by is None else pandas.Index(keys, name=self.spec.by)
@@ -363,7 +390,8 @@ class Watched(Generic[Line]):
         with self.table._lock:
             pending = self.pending
             if pending:
-                return f"<{self.spec!r}, {pending:,} row groups pending>"
+                ask = "value" if self.spec.by is None else "items()"
+                return f"<{self.spec!r}, {pending:,} row groups pending: {ask} builds them>"
             count = self._ask()
             shown = self._lines.first(min(count, 10))
         if self.spec.by is None:

@@ -2,9 +2,11 @@
 
 from __future__ import annotations
 
-from itertools import compress
+from itertools import compress, groupby
 from typing import TYPE_CHECKING, Any, Iterator, Mapping, Union, overload
 
+from ._options import needed
+from ._places import place_buffer
 from ._reading import _numpy
 from .errors import RemovedRow
 
@@ -23,11 +25,12 @@ class Column:
 
     >>> table.extend([("bread", 5), ("rye", None), ("oat", 1)])
     range(0, 3)
-    >>> table["sku"][1:], table["quantity"][0], table["quantity"].to_list()
-    (['rye', 'oat'], 5, [5, None, 1])
+    >>> table["sku"][1:], table["quantity"][0], table["quantity"].to_list(), table["sku"][[2, 0]]
+    (['rye', 'oat'], 5, [5, None, 1], ['oat', 'bread'])
 
     An assignment sets cells: ``column[place] = value``; ``column[places] = values``, or one value
-    for all of them. Places are a slice, a list, an array, or a mask, as in `Table.set_column`.
+    for all of them. Places, to read or to set, are a slice, a list, an array, or a mask, as in
+    `Table.set_column`.
 
     >>> table["quantity"][1:] = [3, 2]
     >>> table["quantity"][[0, -1]] = 7
@@ -38,8 +41,7 @@ class Column:
     def __init__(self, table: Table, name: str) -> None:
         self.table = table
         self.name = name
-        self.index = table.schema.index(name)
-        self.kind = table.schema.kinds[self.index]
+        self.index, self.kind = table._column(name)
 
     def __len__(self) -> int:
         """How many places there are, removed rows among them."""
@@ -50,12 +52,16 @@ class Column:
         ...
 
     @overload
-    def __getitem__(self, place: slice) -> Any:
+    def __getitem__(self, place: Any) -> Any:
         ...
 
-    def __getitem__(self, place: Union[int, slice]) -> Any:
-        if not isinstance(place, slice):
+    def __getitem__(self, place: Any) -> Any:
+        """The value of a place, or the values of a slice, a list, an array or a mask of places."""
+        if place.__class__ is int:
             return self._at(place)
+        if not isinstance(place, slice):
+            many = hasattr(place, "__len__") and not isinstance(place, str)
+            return self._some(place) if many else self._at(place)
         start, stop, step = place.indices(self.table.places)
         if step < 0:
             start, stop = stop + 1, start + 1
@@ -63,6 +69,7 @@ class Column:
         return part if step == 1 else part[::step]
 
     def __setitem__(self, place: Any, value: Any) -> None:
+        """Sets the cell of a place, or many: values in order, or one value for all of them."""
         if hasattr(place, "__index__") and not hasattr(place, "__len__"):
             self.table.set(place.__index__(), self.name, value)
         else:
@@ -75,6 +82,25 @@ class Column:
             if not table._handle.is_alive(place):
                 raise RemovedRow(place=place)
             return table._reader().value(self.index, place)
+
+    def _some(self, places: Any) -> Any:
+        """Returns the values of places in the order given; reads each row group at most once."""
+        table, found = self.table, dict[int, Value]()
+        with table._lock:
+            wanted = memoryview(place_buffer(places, table.places)).tolist()
+            size = table.limits.group
+            for _, part in groupby(sorted(set(wanted)), lambda place: place // size):
+                some = list(part)
+                start = some[0]
+                values, valid, alive = self._raw(start, some[-1] + 1)
+                for place in some:
+                    has = valid[place - start] and alive[place - start]
+                    found[place] = values[place - start] if has else None
+        numpy, listed = _numpy(), [found[place] for place in wanted]
+        if self.kind is str or numpy is None:
+            return listed
+        numbers = numpy.array([value or 0 for value in listed], "int64")
+        return numpy.ma.array(numbers, mask=[value is None for value in listed])
 
     def _part(self, start: int, stop: int) -> Any:
         values, valid, alive = self._raw(start, stop)
@@ -92,8 +118,7 @@ class Column:
 
     def to_numpy(self) -> Any:
         """Returns the whole column as a masked array of numpy; of texts it is one of objects."""
-        import numpy
-
+        numpy = needed("numpy", "to_numpy")
         part = self[:]
         if self.kind is int:
             return part
@@ -113,13 +138,14 @@ class Column:
             yield from batch[self.name]
 
     def __repr__(self) -> str:
-        return f"<column {self.name!r} of {self.kind.__name__}, {len(self):,} places>"
+        places = "of a closed table" if self.table.closed else f"{len(self):,} places"
+        return f"<column {self.name!r} of {self.kind.__name__}, {places}>"
 
 
 class Batch(Mapping[str, Any]):
     """Live rows of a part of a table: ``batch["quantity"]`` is a column, ``batch.places`` where.
 
-    Columns are lists with None for what is missing.
+    Columns are lists with None for what is missing. ``len(batch)`` counts them, as of a dict.
     """
 
     def __init__(self, places: list[int], columns: dict[str, list[Value]]) -> None:
@@ -127,12 +153,15 @@ class Batch(Mapping[str, Any]):
         self._columns = columns
 
     def __getitem__(self, name: str) -> list[Value]:
+        """The values of a column, by its name."""
         return self._columns[name]
 
     def __iter__(self) -> Iterator[str]:
+        """The names of the columns."""
         return iter(self._columns)
 
     def __len__(self) -> int:
+        """How many columns it has."""
         return len(self._columns)
 
     def rows(self) -> Iterator[tuple[Value, ...]]:

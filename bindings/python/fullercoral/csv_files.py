@@ -1,20 +1,23 @@
-"""CSV: read in chunks into a table, and written."""
+"""CSV files, which are read in chunks into a table."""
 
 from __future__ import annotations
 
+import codecs
 import csv
 import gzip
 import io
 import os
 import re
 from array import array
-from dataclasses import dataclass
+from dataclasses import dataclass, fields
+from inspect import signature
 from itertools import islice
 from typing import TYPE_CHECKING, Any, Callable, Iterator, Mapping, Sequence, Union
 
 from ._buffers import MaskedNumbers, pack_bits
 from ._header import MAX_COLUMNS, MAX_TEXT
-from .errors import Refused
+from ._options import refuse_unknown
+from .errors import BadArgument, Refused
 from .progress import Shown
 from .schema import Kind, Schema
 
@@ -57,25 +60,29 @@ class CsvError(ValueError):
 class CsvOptions:
     """How a CSV file is read, as `read_csv` says."""
 
-    delimiter: str = ","
+    delimiter: str | None = None
     header: bool = True
     names: Sequence[str] | None = None
     columns: Sequence[str] | None = None
     types: Mapping[str, Kind] | None = None
     missing: str | None = None
     convert: Mapping[str, Convert] | None = None
+    encoding: str = "utf-8"
 
 
 def scaled(digits: int) -> Convert:
     """Returns a function that reads a decimal text as a whole number of its smallest part.
 
     For ``convert=`` of `read_csv`: so 1.99 is read as 199, exactly. A text with more decimals is
-    refused.
+    refused, and so are other numbers of decimals than 0 to 18.
 
     >>> cents = scaled(2)
     >>> cents("1.99"), cents("-3"), cents("0.5"), cents("")
     (199, -300, 50, None)
     """
+
+    if not isinstance(digits, int) or not 0 <= digits <= 18:
+        raise BadArgument(f"scaled takes 0 to 18 decimals, as scaled(2), and {digits!r} is none")
 
     def convert(text: str) -> int | None:
         text = text.strip()
@@ -86,7 +93,8 @@ def scaled(digits: int) -> Convert:
             raise ValueError(f"{text!r} is no decimal number")
         part = (found[3] or "").rstrip("0")
         if len(part) > digits:
-            raise ValueError(f"{text!r} has more than {digits} decimals")
+            said = f"{text!r} has more than {digits} decimals"
+            raise ValueError(f"{said}: scaled({len(part)}) reads it")
         return int(f"{found[1]}{found[2]}{part:0<{digits}}")
 
     return convert
@@ -98,8 +106,12 @@ class _Source:
     def __init__(self, path: Any, options: CsvOptions) -> None:
         self.name = getattr(path, "name", "the file") if hasattr(path, "read") else str(path)
         self._owns = not hasattr(path, "read")
-        self._file, self._counted, self.size = _opened(path)
-        self._reader = csv.reader(self._file, delimiter=options.delimiter, strict=True)
+        delimiter = "," if options.delimiter is None else options.delimiter
+        if not isinstance(delimiter, str) or len(delimiter) != 1:
+            raise CsvError(self.name, f"a delimiter is one character, and {delimiter!r} is none")
+        self.encoding = _codec(self.name, options.encoding)
+        self._file, self._counted, self.size = _opened(path, self.encoding)
+        self._reader = csv.reader(self._file, delimiter=delimiter, strict=True)
         self._first_line = 0
 
     def close(self) -> None:
@@ -126,9 +138,18 @@ class _Source:
         return self._first_line + index + before + 1
 
 
-def _opened(path: Any) -> tuple[Any, Any, int]:
+def _codec(path: Any, encoding: str) -> str:
+    """Returns the name of an encoding, and refuses one that there is not."""
+    try:
+        return codecs.lookup(encoding).name
+    except LookupError:
+        raise CsvError(path, f"there is no encoding {encoding!r}") from None
+
+
+def _opened(path: Any, encoding: str) -> tuple[Any, Any, int]:
     """Returns a file of text, the file whose position is counted, and its size, 0 if unknown."""
-    coding: Any = {"encoding": "utf-8-sig", "errors": "surrogateescape", "newline": ""}
+    encoding = "utf-8-sig" if encoding == "utf-8" else encoding
+    coding: Any = {"encoding": encoding, "errors": "surrogateescape", "newline": ""}
     if hasattr(path, "read"):
         if isinstance(path.read(0), bytes):
             path = io.TextIOWrapper(path, **coding)
@@ -152,7 +173,12 @@ class _Plan:
 
     def __init__(self, source: _Source, options: CsvOptions, schema: Schema | None) -> None:
         self.source, self.options = source, options
+        for name, convert in (options.convert or {}).items():
+            if not callable(convert):
+                said = "is no function of a text; give one, as fc.scaled(2)"
+                raise TypeError(f"convert of column {name}: {convert!r} {said}")
         self.first = source.read(_GUESSED + 1)
+        self._refuse_one_field()
         names = self._names()
         wanted = list(options.columns or (schema.names if schema else names))
         for name in wanted:
@@ -168,21 +194,29 @@ class _Plan:
         self.schema = schema or Schema(self._kinds(wanted))
         self.guessed = schema is None
 
+    def _refuse_one_field(self) -> None:
+        """Refuses a first row of one field with another delimiter in it, unless one is given."""
+        row: Sequence[str] = next((row for row in self.first if row), ())
+        mark = _other_delimiter(row) if self.options.delimiter is None else None
+        if mark is not None and len(self.options.names or ()) != 1:
+            said = f"the first row is one field, {row[0]!r:.60}: delimiter={mark!r} cuts it"
+            raise CsvError(self.source.name, f"{said}, delimiter=',' leaves it whole", 1)
+
     def _names(self) -> list[str]:
         options, source = self.options, self.source
         if options.names is not None:
             if options.header and self.first:
                 self.first[0] = []
-            return _checked(source.name, list(options.names))
+            return _checked(source, list(options.names))
         if not options.header:
             width = len(next((row for row in self.first if row), []))
-            return _checked(source.name, [f"column_{index}" for index in range(width)])
+            return _checked(source, [f"column_{index}" for index in range(width)])
         head = next((at for at, row in enumerate(self.first) if row), None)
         if head is None:
             raise CsvError(source.name, "the file is empty")
         names = [name.strip() for name in self.first[head]]
         self.first[head] = []
-        return _checked(source.name, names)
+        return _checked(source, names)
 
     def _kinds(self, names: Sequence[str]) -> dict[str, Kind]:
         given = dict(self.options.types or {})
@@ -266,11 +300,22 @@ class _Plan:
             for name, kind, field in zip(self.schema.names, self.schema.kinds, self.fields):
                 sentence = self._fault(name, kind, row[field]) if row else None
                 if sentence is not None:
-                    if self.guessed and kind is int and name not in (self.options.types or {}):
-                        sentence += f" (int was guessed; types={{{name!r}: str}} has texts)"
+                    if self.guessed and kind is int and not self._is_chosen(name):
+                        sentence += f" (int was guessed; {self._advice(name, rows, field)})"
                     line = self.source.line_of(rows, index)
                     return CsvError(self.source.name, sentence, line, name, row[field])
         return error
+
+    def _is_chosen(self, name: str) -> bool:
+        """Whether the caller says how a column is read."""
+        return name in (self.options.types or {}) or name in (self.options.convert or {})
+
+    def _advice(self, name: str, rows: list[list[str]], field: int) -> str:
+        """Returns how to read a column that was taken for whole numbers."""
+        found = [_DECIMAL.fullmatch(row[field].strip()) for row in rows if row]
+        digits = max((len(match[3] or "") for match in found if match), default=0)
+        decimals = f"convert={{{name!r}: fc.scaled({digits})}} reads decimals, " if digits else ""
+        return f"{decimals}types={{{name!r}: str}} has texts"
 
     def _fault(self, name: str, kind: type, text: str) -> str | None:
         convert = (self.options.convert or {}).get(name)
@@ -289,10 +334,22 @@ class _Plan:
         try:
             length = len(text.encode())
         except UnicodeEncodeError:
-            return f"{shown} is not in UTF-8"
+            return _not_in(self.source.encoding, text)
         if length > MAX_TEXT:
             return f"{shown} has {length:,} bytes, and a text at most {MAX_TEXT:,}"
         return None
+
+
+def _other_delimiter(row: Sequence[str]) -> str | None:
+    """Returns the delimiter that a row of one field seems to have."""
+    return next((mark for mark in ";\t|" if len(row) == 1 and mark in row[0]), None)
+
+
+def _not_in(encoding: str, text: str) -> str:
+    """Returns the sentence on a text that has bytes which are none of an encoding."""
+    name = "UTF-8" if encoding == "utf-8" else encoding
+    raw = text.encode("utf-8", "surrogateescape")[:40]
+    return f'{raw!r} is not in {name}: encoding="latin-1" may help'
 
 
 def _tried(convert: Convert, text: str) -> Any:
@@ -307,12 +364,16 @@ def _fits(number: int) -> bool:
     return -(1 << 63) <= number < 1 << 63
 
 
-def _checked(path: str, names: list[str]) -> list[str]:
+def _checked(source: _Source, names: list[str]) -> list[str]:
+    """Returns names of columns; refuses one that is empty, not printable, or there twice."""
+    path = source.name
     for index, name in enumerate(names):
         if not name:
             raise CsvError(path, f"column {index + 1} has no name", 1)
         if names.index(name) < index:
             raise CsvError(path, f"two columns are named {name!r}", 1)
+        if any("\ud800" <= letter < "\ue000" for letter in name):
+            raise CsvError(path, _not_in(source.encoding, name), 1)
         if not name.isprintable():
             raise CsvError(path, f"{name!r} is no name of a column", 1)
     return names
@@ -342,9 +403,8 @@ def _load(table: Table, plan: _Plan, shown: Callable[..., Any]) -> range:
     return range(first, table.places)
 
 
-def guess_schema(path: Any, convert: Mapping[str, Convert] | None = None) -> Schema:
+def guess_schema(path: Any, options: CsvOptions) -> Schema:
     """Returns the columns of a CSV file, with kinds guessed from its first rows."""
-    options = CsvOptions(convert=convert)
     source = _Source(path, options)
     try:
         return _Plan(source, options, None).schema
@@ -356,18 +416,20 @@ def read_csv(
     path: Union[str, os.PathLike[str], Any],
     *,
     progress: Union[bool, Callable[[int, int], Any]] = False,
-    delimiter: str = ",",
+    delimiter: str | None = None,
     header: bool = True,
     names: Sequence[str] | None = None,
     columns: Sequence[str] | None = None,
     types: Mapping[str, Kind] | None = None,
     missing: str | None = None,
     convert: Mapping[str, Convert] | None = None,
+    encoding: str = "utf-8",
     **table: Any,
 ) -> Table:
     """Makes a table of a CSV file, which is read in chunks; it may be larger than memory.
 
     - ``path``: a path (``.gz`` is read too) or an open file.
+    - ``delimiter``: a comma; a first row of one field that has another one must be read by name.
     - ``header``: whether the first row has the columns' names; ``names`` are used instead.
     - ``columns``: which columns to take.
     - ``types``: kinds of some columns, ``int`` or ``str``; others are guessed from the first rows:
@@ -375,6 +437,7 @@ def read_csv(
     - ``missing``: a field that stands for a missing cell. An empty field of a column of numbers is
       one, too; of texts it is an empty text, unless ``missing=""``.
     - ``convert``: functions of a field's text for some columns, as ``{"price": scaled(2)}``.
+    - ``encoding``: how the file's texts are encoded, as ``"latin-1"``.
     - ``progress``: True shows a bar on a terminal; or a callable of bytes done and all bytes.
     - All else goes to `Table`: ``local="64MB"``, ``far=``, ``policy=`` ..
 
@@ -386,13 +449,22 @@ def read_csv(
         0  bread         5
         1  rye          NA
     """
-    options = CsvOptions(delimiter, header, names, columns, types, missing, convert)
+    options = CsvOptions(delimiter, header, names, columns, types, missing, convert, encoding)
     return _made(path, options, progress, table)
+
+
+def csv_options(call: str, given: dict[str, Any]) -> CsvOptions:
+    """Returns options that are given by names; refuses one that there is not."""
+    refuse_unknown(call, given, [field.name for field in fields(CsvOptions)])
+    return CsvOptions(**given)
 
 
 def _made(path: Any, options: CsvOptions, progress: Any, arguments: dict[str, Any]) -> Table:
     from .table import Table
 
+    known = [*(field.name for field in fields(CsvOptions)), "progress"]
+    known += [name for name in signature(Table).parameters if name != "columns"]
+    refuse_unknown("read_csv", arguments, known)
     source = _Source(path, options)
     try:
         plan = _Plan(source, options, None)
@@ -406,30 +478,3 @@ def _made(path: Any, options: CsvOptions, progress: Any, arguments: dict[str, An
         return made
     finally:
         source.close()
-
-
-def write_csv(
-    table: Table, path: Any, delimiter: str, header: bool, missing: str, shown: Callable[..., Any]
-) -> int:
-    """Writes the live rows of a table as CSV."""
-    if hasattr(path, "write"):
-        return _write(table, path, delimiter, header, missing, shown)
-    with open(path, "w", encoding="utf-8", newline="") as file:
-        return _write(table, file, delimiter, header, missing, shown)
-
-
-def _write(
-    table: Table, file: Any, delimiter: str, header: bool, missing: str, shown: Callable[..., Any]
-) -> int:
-    writer = csv.writer(file, delimiter=delimiter, lineterminator="\n")
-    if header:
-        writer.writerow(table.schema.names)
-    written, rows = 0, len(table)
-    for batch in table.batches():
-        columns = [batch[name] for name in table.schema]
-        if missing:
-            columns = [[missing if v is None else v for v in column] for column in columns]
-        writer.writerows(zip(*columns))
-        written += len(batch.places)
-        shown(written, rows)
-    return written

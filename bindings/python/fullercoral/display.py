@@ -1,4 +1,4 @@
-"""How a table is shown: as text, and as HTML in notebooks; and as a DataFrame of pandas."""
+"""How a table is shown: as text, and as HTML in notebooks."""
 
 from __future__ import annotations
 
@@ -187,28 +187,3 @@ def _html_row(table: Table, item: tuple[int, Any] | None) -> str:
         else:
             cells.append(f"<td{_side(kind)}>{shown}</td>")
     return f"<tr>{''.join(cells)}</tr>"
-
-
-def to_pandas(table: Table) -> Any:
-    """Returns the live rows as a DataFrame of pandas, with their places as its index."""
-    import numpy
-    import pandas  # type: ignore[import]
-
-    series: dict[str, Any] = {}
-    alive: Any = numpy.zeros(0, bool)
-    with table._lock:
-        for name in table.schema:
-            values, valid, alive = table[name]._raw(0, table.places)
-            valid, alive = (numpy.array(flags, dtype=bool) for flags in (valid, alive))
-            missing = ~valid[alive]
-            if table.schema[name] is int:
-                numbers = values[alive]
-                has_missing = missing.any()
-                series[name] = (
-                    pandas.arrays.IntegerArray(numbers, missing) if has_missing else numbers
-                )
-            else:
-                texts = numpy.array(values, dtype=object)[alive]
-                texts[missing] = None
-                series[name] = texts
-    return pandas.DataFrame(series, index=pandas.Index(numpy.flatnonzero(alive), name="place"))

@@ -1,8 +1,9 @@
 """Engines keep the contents of objects that are away.
 
 An engine is any object with ``put(number, content)`` and ``get(number)``. It need not be trusted:
-the library checks each content that comes back. Two more methods are used if they are there:
-``discard(number)`` says that a content will not be asked for again, ``close()`` that none will.
+the library checks each content that comes back. Three more methods are used if they are there:
+``prepare()`` says that a table opens on it, and may refuse; ``discard(number)`` says that a content
+will not be asked for again, ``close()`` that none will.
 
 >>> class Folder:
 ...     "An engine in five lines: a file for each content."
@@ -19,10 +20,11 @@ from __future__ import annotations
 import fcntl
 import os
 import secrets
+import stat
 import time
 from array import array
 from pathlib import Path
-from typing import Any, Callable, Protocol, Union, runtime_checkable
+from typing import Any, Callable, NoReturn, Protocol, SupportsIndex, Union, runtime_checkable
 
 from .errors import BadArgument
 
@@ -42,18 +44,34 @@ _in_use: set[int] = set()
 
 
 def take(engine: Engine) -> Engine:
-    """Returns an engine for a table, which no other open table may use."""
+    """Returns an engine for a table, which no other open table may use.
+
+    Refuses what is no engine, one that is in use, and one that cannot keep contents.
+    """
     if not callable(getattr(engine, "put", None)) or not callable(getattr(engine, "get", None)):
         raise TypeError(f"{engine!r} is no engine: it has no put and get")
     if id(engine) in _in_use:
         raise BadArgument(f"{engine!r} is the engine of another table")
     _in_use.add(id(engine))
+    prepare = getattr(engine, "prepare", None)
+    if prepare is not None:
+        try:
+            prepare()
+        except BaseException:
+            release(engine)
+            raise
     return engine
 
 
 def release(engine: Engine) -> None:
     """Says that a table does not use an engine any more."""
     _in_use.discard(id(engine))
+
+
+def shown_engine(engine: Any) -> str:
+    """Returns an engine as a sentence names it: its repr, or its class if that is long."""
+    shown = repr(engine)
+    return type(engine).__name__ if len(shown) > 100 or " object at 0x" in shown else shown
 
 
 def close_engine(engine: Any) -> None:
@@ -99,10 +117,11 @@ class Memory:
 
 
 class Files:
-    """Keeps contents in a file, which is made at the first put and removed at the close.
+    """Keeps contents in a file, which is made when a table opens on it and removed at the close.
 
+    A path at which there can be no such file is refused then, with an ``OSError`` that names it.
     The file is of use to nobody once the table is gone: it is no saved table. A file that a process
-    left behind when it was killed is used again; any other file at this path is left alone, with
+    left when it was killed is used again; any other file at this path is left alone, with
     ``FileExistsError``. The space of a content that is discarded is used again for a content of the
     same length. Memory for each content: 12 bytes.
 
@@ -126,26 +145,39 @@ class Files:
         self._lengths = array("I")
         self._free: dict[int, list[int]] = {}
 
-    def _open(self) -> None:
-        file = os.open(self._whole_path, os.O_RDWR | os.O_CREAT | os.O_CLOEXEC, 0o600)
+    def prepare(self) -> None:
+        """Makes the file, unless it is there; refuses a path at which it cannot be."""
+        if self._file >= 0:
+            return
         try:
-            fcntl.flock(file, fcntl.LOCK_EX | fcntl.LOCK_NB)
-            if os.pread(file, len(self.MARK), 0) not in (b"", self.MARK):
-                raise FileExistsError(f"{self.path} is no file of contents, and is left as it is")
-        except BlockingIOError:
-            os.close(file)
-            raise FileExistsError(f"{self.path} is in use by another table") from None
+            file = os.open(self._whole_path, os.O_RDWR | os.O_CREAT | os.O_CLOEXEC, 0o600)
+        except OSError as error:
+            raise type(error)(_no_file(self.path, error)) from None
+        try:
+            self._begin(file)
         except BaseException:
             os.close(file)
             raise
+        self._file, self._end = file, len(self.MARK)
+
+    def _begin(self, file: int) -> None:
+        """Empties a file of contents; refuses one that is of someone else, or in use."""
+        other = "give Files another path"
+        try:
+            fcntl.flock(file, fcntl.LOCK_EX | fcntl.LOCK_NB)
+        except BlockingIOError:
+            said = f"{self.path} is in use by another table: close that one, or {other}"
+            raise FileExistsError(said) from None
+        is_plain = stat.S_ISREG(os.fstat(file).st_mode)
+        if not is_plain or os.pread(file, len(self.MARK), 0) not in (b"", self.MARK):
+            said = f"{self.path} is no file of contents, and is left as it is"
+            raise FileExistsError(f"{said}: {other}")
         os.ftruncate(file, 0)
         os.pwrite(file, self.MARK, 0)
-        self._file, self._end = file, len(self.MARK)
 
     def put(self, number: int, content: bytes) -> None:
         """Writes a content to the file."""
-        if self._file < 0:
-            self._open()
+        self.prepare()
         free = self._free.get(len(content))
         offset = free.pop() if free else self._end
         try:
@@ -191,8 +223,21 @@ class Files:
     def __del__(self) -> None:
         self.close()
 
+    def __reduce_ex__(self, protocol: SupportsIndex) -> NoReturn:
+        """Refuses a copy, which would remove the file that it shares, and a pickle."""
+        raise TypeError("an engine of Files cannot be copied or pickled; make one of another path")
+
     def __repr__(self) -> str:
         return f"Files({str(self.path)!r})"
+
+
+def _no_file(path: Path, error: OSError) -> str:
+    """Returns the sentence on a path at which no file can be opened."""
+    if isinstance(error, FileNotFoundError):
+        return f"{path}: there is no folder {path.parent}; make it, or give Files another path"
+    if isinstance(error, IsADirectoryError):
+        return f"{path} is a folder: give Files the path of a file in it"
+    return f"{path} cannot be written ({error.strerror}): give Files another path"
 
 
 def _write_all(file: int, content: bytes, offset: int) -> None:

@@ -73,9 +73,11 @@ class Refused(Exception):
     def __str__(self) -> str:
         behind = ""
         if self.inserted is not None:
-            behind = f"; {self.inserted:,} rows went in before"
+            rows = "row" if self.inserted == 1 else "rows"
+            behind = f"; {self.inserted:,} {rows} went in before"
         elif self.cells_set is not None:
-            behind = f"; {self.cells_set:,} cells were set before"
+            cells = "cell was" if self.cells_set == 1 else "cells were"
+            behind = f"; {self.cells_set:,} {cells} set before"
         return f"{self.sentence}{behind} [{self.number}]"
 
     def __reduce__(self) -> Any:
@@ -154,7 +156,8 @@ class TextTooLong(Refused, ValueError):
 
     def _sentence(self) -> str:
         if "value" not in self.details:
-            return self.text
+            of = "" if self.column is None else f" for column {self.column}"
+            return f"a text{of} has more than 4,096 bytes"
         where, length = f"place {self.place} of column {self.column}", len(self.details["value"])
         return f"the text for {where} has {length:,} characters, and more than 4,096 bytes"
 
@@ -220,6 +223,13 @@ class OutOfRange(Refused, IndexError):
     number = 14
     text = "there is no such range, row group or segment"
 
+    def _sentence(self) -> str:
+        groups = self.details.get("groups")
+        if groups is None:
+            return self.text
+        some = f"row groups are 0 to {groups - 1}" if groups else "it has none yet"
+        return f"the table has no row group {self.group!r}; {some}"
+
 
 class Building(Refused):
     """Row groups are pending in the aggregate."""
@@ -280,11 +290,31 @@ class FarFault(Refused, OSError):
     number = 21
     text = "a content that came back is not the one that went out; nothing was changed"
 
+    def _sentence(self) -> str:
+        if "engine" not in self.details:
+            return self.text
+        return (
+            f"{self.details['engine']} returns other bytes than it was given for {self._object()}: "
+            "put those back and call again; nothing was changed, and built answers stay exact"
+        )
+
+    def _object(self) -> str:
+        """Returns what did not come back, or could not go."""
+        of_group = f" of row group {self.group}" if self.group is not None else ""
+        return f"column {self.column}{of_group}" if self.column is not None else "a content"
+
 
 class EngineError(FarFault):
     """The engine raised an exception, which is this one's ``__cause__``. Nothing was changed."""
 
     text = "the engine failed; nothing was changed"
+
+    def _sentence(self) -> str:
+        if "engine" not in self.details:
+            return self.text
+        engine, act, cause = (self.details[name] for name in ("engine", "act", "cause"))
+        said = f"{engine} cannot {act} {self._object()} ({cause})"
+        return f"{said}: nothing was changed, and the call works once it can"
 
     @property
     def name(self) -> str:

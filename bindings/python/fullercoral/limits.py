@@ -10,8 +10,12 @@ from . import _header as header
 from .errors import BadSchema
 from .schema import Schema
 
-_UNITS = {"": 1, "B": 1, "KB": 10**3, "MB": 10**6, "GB": 10**9}
-_UNITS |= {"KIB": 1 << 10, "MIB": 1 << 20, "GIB": 1 << 30, "K": 1 << 10, "M": 1 << 20, "G": 1 << 30}
+_UNITS = {"B": 1, "KB": 10**3, "MB": 10**6, "GB": 10**9, "TB": 10**12}
+_UNITS |= {"KIB": 1 << 10, "MIB": 1 << 20, "GIB": 1 << 30, "TIB": 1 << 40}
+_UNITS |= {"K": 1 << 10, "M": 1 << 20, "G": 1 << 30, "T": 1 << 40}
+_LEAST_BYTES = 1 << 10
+_MOST_BYTES = header.NUMBER_BYTES * header.MAX_SEGMENTS * header.MAX_INT_SIZE
+_MOST_BYTES += header.MAX_SEGMENTS * header.MAX_TEXT_SIZE
 
 # An append of a text copies those of its row group, so groups with texts are smaller.
 _GROUP_OF_NUMBERS = 4096
@@ -24,6 +28,9 @@ _TEXT_SEGMENTS = 128
 def parse_bytes(amount: Union[int, str]) -> int:
     """Reads an amount of memory: a number of bytes, or a text with a unit.
 
+    A text without one is refused, and an amount that no table can have: less than 1 KiB, or more
+    than 32 GiB, of which 16 are for numbers and 16 for texts.
+
     >>> parse_bytes("64MB"), parse_bytes("1.5 GiB"), parse_bytes(4096)
     (64000000, 1610612736, 4096)
     """
@@ -31,11 +38,16 @@ def parse_bytes(amount: Union[int, str]) -> int:
         number = float(amount)
     else:
         found = re.fullmatch(r"\s*(\d+(?:\.\d+)?)\s*([a-zA-Z]*)\s*", amount)
+        if found is not None and not found[2]:
+            raise BadSchema(f"{amount!r} has no unit; write '{found[1]}MB'")
         if found is None or found[2].upper() not in _UNITS:
             raise BadSchema(f"{amount!r} is no amount of memory; write '64MB' or '1GiB'")
         number = float(found[1]) * _UNITS[found[2].upper()]
-    if number <= 0:
-        raise BadSchema(f"{amount!r} is no amount of memory; it must be positive")
+    if number < _LEAST_BYTES:
+        raise BadSchema(f"{amount!r} is too little memory for a table; write '64MB'")
+    if number > _MOST_BYTES:
+        most = f"{_MOST_BYTES >> 30}GiB"
+        raise BadSchema(f"{amount!r} is more memory than cells of a table can take; write {most!r}")
     return int(number)
 
 

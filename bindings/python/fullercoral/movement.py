@@ -4,11 +4,14 @@ from __future__ import annotations
 
 from array import array
 from dataclasses import dataclass
+from typing import Callable
 
 from . import _header as header
 from ._handle import Handle
-from .engines import Engine
-from .errors import EngineError, FarFull, Refused, RegionFull
+from .engines import Engine, shown_engine
+from .errors import EngineError, FarFault, FarFull, Refused, RegionFull
+
+Where = Callable[[], tuple["str | None", "int | None"]]  # finds the column and the row group
 
 
 @dataclass
@@ -52,23 +55,21 @@ class Mover:
             return self._renumbered[number]
         return self._base + number
 
-    def _put(self, number: int, content: bytes) -> None:
+    def _put(self, number: int, content: bytes, where: Where) -> None:
         try:
             self.engine.put(self._base + number, content)
         except Exception as error:
-            raise EngineError(f"the engine could not keep content {number}: {error!r}") from error
+            raise _failed(self.engine, "keep", error, where) from error
         self.counters.contents_put += 1
         self.counters.bytes_put += len(content)
 
-    def _get(self, number: int) -> bytes:
-        return self._get_from_engine(self._host_number(number))
-
-    def _get_from_engine(self, number: int) -> bytes:
+    def _get(self, number: int, where: Where) -> bytes:
+        """Returns the content of a number of the engine, of an object that is there if it fails."""
         try:
             content = self.engine.get(number)
             length = len(content)
         except Exception as error:
-            raise EngineError(f"the engine has no content {number}: {error!r}") from error
+            raise _failed(self.engine, "return", error, where) from error
         self.counters.contents_got += 1
         self.counters.bytes_got += length
         return content
@@ -121,21 +122,22 @@ class Mover:
                 self._discard(number)
             raise
 
-    def carry(self, job: int) -> int | None:
+    def carry(self, job: int, group: int | None = None) -> int | None:
         """Carries a job: its contents come from the engine, or its content is put there.
 
-        Returns the number of the content that was put, if one was.
+        Returns the number of the content that was put, if one was. An error names the column if the
+        row group of an offload is given.
         """
         handle = self.handle
         kind, carried, _, _ = handle.job(job)
         if kind != header.EVICT and not carried:
-            self._deliver_all(job)
+            self._deliver_all(job, group)
         handle.step("carry", job)
         content = handle.outgoing(job)
         if content is None:
             return None
         try:
-            self._put(*content)
+            self._put(*content, lambda: self._object(job, content[0], group))
         except EngineError:
             handle.lib.fc_fault(handle.at, job)
             raise
@@ -166,18 +168,39 @@ class Mover:
             raise
         self.counters.fetches += 1
 
-    def _deliver_all(self, job: int) -> None:
+    def _deliver_all(self, job: int, group: int | None) -> None:
         """Has the engine give all contents that a job needs."""
         for index in range(header.MAX_COLUMNS + 1):
             number = self.handle.wanted(job, index)
             if number is None:
                 return
-            try:
-                content = self._get(number)
-            except EngineError:
-                self.handle.lib.fc_fault(self.handle.at, job)
-                raise
+            self._deliver(job, number, group)
+
+    def _deliver(self, job: int, number: int, group: int | None) -> None:
+        def where() -> tuple[str | None, int | None]:
+            return self._object(job, number, group)
+
+        try:
+            content = self._get(self._host_number(number), where)
+        except EngineError:
+            self.handle.lib.fc_fault(self.handle.at, job)
+            raise
+        try:
             self.handle.deliver(job, number, content)
+        except FarFault:
+            raise _other_bytes(self.engine, where) from None
+
+    def _object(self, job: int, number: int, group: int | None) -> tuple[str | None, int | None]:
+        """Returns the column and the row group of a content of a job, as far as they are known."""
+        kind, _, column, at = self.handle.job(job)
+        names = self.handle.schema.names
+        if kind != header.OFFLOAD:
+            return names[column], at
+        for column in range(len(names) if group is not None else 0):
+            state = self.handle.object(column, group or 0)
+            if state.has_copy and state.copy == number:
+                return names[column], group
+        return None, group
 
     @property
     def away(self) -> int:
@@ -210,7 +233,7 @@ class Mover:
         """Builds a row group into an aggregate from the far copies of its columns."""
         job = self.handle.begin_offload(aggregate, group)
         try:
-            self.carry(job)
+            self.carry(job, group)
             self.handle.step("merge", job)
         except BaseException:
             self.handle.give_up(job)
@@ -260,12 +283,32 @@ class Mover:
         self, column: int, group: int, number: int, engine: Engine | None, index: int
     ) -> int:
         """Delivers a content for a renewal; returns its number in the engine that is next."""
-        content = self._get_from_engine(number)
-        self.handle.deliver_copy(column, group, content)
+        def where() -> tuple[str | None, int | None]:
+            return self.handle.schema.names[column], group
+
+        content = self._get(number, where)
+        try:
+            self.handle.deliver_copy(column, group, content)
+        except FarFault:
+            raise _other_bytes(self.engine, where) from None
         if engine is None:
             return number
         try:
             engine.put(index, content)
         except Exception as error:
-            raise EngineError(f"the new engine could not keep a content: {error!r}") from error
+            raise _failed(engine, "keep", error, where) from error
         return index
+
+
+def _failed(engine: Engine, act: str, error: Exception, where: Where) -> EngineError:
+    """Returns the refusal of a call for which an engine raised an exception."""
+    column, group = where()
+    cause = f"{type(error).__name__}: {error}"[:200]
+    shown = shown_engine(engine)
+    return EngineError(column=column, group=group, engine=shown, act=act, cause=cause)
+
+
+def _other_bytes(engine: Engine, where: Where) -> FarFault:
+    """Returns the refusal of a content that is not the one that went out."""
+    column, group = where()
+    return FarFault(column=column, group=group, engine=shown_engine(engine))

@@ -56,10 +56,10 @@ class Schema:
 
     def __init__(self, columns: SchemaLike) -> None:
         if isinstance(columns, Schema):
-            columns = zip(columns.names, columns.kinds)
+            columns = columns.pairs()
         elif isinstance(columns, Mapping):
             columns = columns.items()
-        pairs = list(columns)
+        pairs = _pairs(columns)
         self.names: tuple[str, ...] = tuple(name for name, _ in pairs)
         self.kinds: tuple[type, ...] = tuple(_kind(name, kind) for name, kind in pairs)
         self._index = {name: index for index, name in enumerate(self.names)}
@@ -81,6 +81,10 @@ class Schema:
             return self._index[name]
         except (KeyError, TypeError):
             raise NoColumn(column=name, columns=self.names) from None
+
+    def pairs(self) -> Iterator[tuple[str, type]]:
+        """Returns the names with their kinds."""
+        return zip(self.names, self.kinds)
 
     def codes(self) -> list[int]:
         """Returns the columns' kinds as the library numbers them."""
@@ -111,8 +115,20 @@ class Schema:
         return hash((self.names, self.kinds))
 
     def __repr__(self) -> str:
-        pairs = (f"{name!r}: {kind.__name__}" for name, kind in zip(self.names, self.kinds))
+        pairs = (f"{name!r}: {kind.__name__}" for name, kind in self.pairs())
         return f"Schema({{{', '.join(pairs)}}})"
+
+
+def _pairs(columns: Any) -> list[tuple[str, Kind]]:
+    """Returns names with kinds; refuses names alone, and a DataFrame."""
+    if hasattr(columns, "dtypes"):
+        raise BadSchema("a table is made of names and kinds; Table.from_pandas takes a DataFrame")
+    pairs = list(columns)
+    for pair in pairs:
+        if isinstance(pair, str) or not hasattr(pair, "__len__") or len(pair) != 2:
+            said = "give each column's name and kind, as {'quantity': int}"
+            raise BadSchema(f"{said}, not {pair!r}")
+    return pairs
 
 
 def _kind(name: str, kind: Kind) -> type:

@@ -8,7 +8,7 @@ import time
 from typing import Any, Callable, Iterator, TextIO
 
 from . import display
-from .csv_files import guess_schema, scaled
+from .csv_files import CsvOptions, guess_schema, scaled
 from .engines import Files, Memory
 from .errors import Building, NoColumn, Refused
 from .picture import counted
@@ -23,7 +23,7 @@ Commands of the shell. Words in capitals are yours. A column is a name, "in quot
 spaces, or a number.
   .open NAME:KIND,NAME:KIND .. [local=64MB] [far=FILE] [group=N]
                           a new table; a KIND is int or text
-  .import FILE.csv [local=64MB] [far=FILE] [scaled=price:2,tax:2]
+  .import FILE.csv [local=64MB] [far=FILE] [scaled=price:2,tax:2] [delimiter=;] [encoding=latin-1]
                           appends the rows of a CSV file; opens a table for it if none is open;
                           reads 1.99 as 199 in columns that are scaled by 2 decimals
   .export FILE.csv        writes the live rows
@@ -74,6 +74,7 @@ class Shell:
         self.timed = False
         self.policy: Any = None
         self.done = False
+        self.failed = False  # whether a line was refused, or was no command
 
     @property
     def table(self) -> Table | None:
@@ -92,24 +93,29 @@ class Shell:
         began = time.perf_counter()
         try:
             reply = self._reply(line, rows)
-        except NoCommand:
-            reply = self._no_command(line)
-        except Refused as error:
-            reply = self._refusal(error)
-        except OSError as error:
-            reply = f"{error.filename}: {error.strerror}" if error.filename else f"{error}"
-        except ValueError as error:
-            reply = f"{error}"
+        except (NoCommand, OSError, Refused, ValueError) as error:
+            reply, self.failed = self._said(line, error), True
         if reply:
             print(reply, file=self.out)
         if self.timed:
             print(f"({_duration(time.perf_counter() - began)})", file=self.out)
         self.out.flush()
 
+    def _said(self, line: str, error: Exception) -> str:
+        if isinstance(error, NoCommand):
+            return self._no_command(line)
+        if isinstance(error, Refused):
+            return self._refusal(error)
+        if isinstance(error, OSError) and error.filename:
+            return f"{error.filename}: {error.strerror}"
+        return f"{error}"
+
     def _reply(self, line: str, rows: Callable[[int], str] | None) -> str:
         word, _, rest = line.strip().partition(" ")
         if word in ("help", "?", ".help"):
             return _help(rest.strip())
+        if self.friendly and word in ("exit", "quit"):
+            return self._quit("")
         if word.startswith("."):
             serve = _DOTTED.get(word[1:])
             if serve is None:
@@ -117,7 +123,7 @@ class Shell:
             return serve(self, rest.strip())
         if self.table is None and word != "schema":
             if self.friendly:
-                return "no table is open: .open NAME:KIND,.. or .import FILE.csv, or help"
+                self._open()
             return self.script.printed(line, rows)
         return self._scripted(self._with_numbers(line), rows)
 
@@ -193,7 +199,8 @@ class Shell:
 
     def _open(self) -> Table:
         if self.table is None:
-            raise ValueError("no table is open: .open NAME:KIND,.. or .import FILE.csv")
+            said = "no table is open: .open NAME:KIND,.. or .import FILE.csv, or help"
+            raise ValueError(said)
         return self.table
 
     # Commands of the shell
@@ -222,15 +229,19 @@ class Shell:
         return "ok"
 
     def _import(self, rest: str) -> str:
-        path, options = _options(rest, ("local", "far", "group", "scaled"))
+        known = ("local", "far", "group", "scaled", "delimiter", "encoding")
+        path, options = _options(rest, known)
         if not path:
             raise ValueError("write .import FILE.csv")
-        convert = _conversions(options.pop("scaled", ""))
+        asked: dict[str, Any] = {"convert": _conversions(options.pop("scaled", ""))}
+        asked |= {name: options.pop(name) for name in known[4:] if name in options}
+        if asked.get("delimiter") in ("\\t", "tab"):
+            asked["delimiter"] = "\t"
         if self.table is None:
-            self._new(guess_schema(path, convert), options)
+            self._new(guess_schema(path, CsvOptions(**asked)), options)
         table = self._open()
         began = time.perf_counter()
-        places = table.load_csv(path, progress=self.friendly, convert=convert)
+        places = table.load_csv(path, progress=self.friendly, **asked)
         seconds = time.perf_counter() - began
         columns = ", ".join(f"{name} {table.schema[name].__name__}" for name in table.schema)
         return f"{len(places):,} rows in {_duration(seconds)}: {columns}"
@@ -352,7 +363,7 @@ def _options(text: str, known: tuple[str, ...]) -> tuple[str, dict[str, str]]:
     while found := re.search(r'(?:^|\s)(\w+)=("[^"]*"|\S+)\s*$', text):
         if found[1] not in known:
             break
-        options[found[1]] = found[2].strip('"')
+        options[found[1]] = found[2].strip("'\"")
         text = text[: found.start()]
     return text.strip(), options
 

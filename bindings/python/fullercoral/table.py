@@ -4,23 +4,25 @@ from __future__ import annotations
 
 import os
 import threading
-from collections import namedtuple
 from ctypes import byref, c_bool
 from types import TracebackType
-from typing import Any, Iterator, Sequence, Union, overload
+from typing import Any, Iterator, NoReturn, Sequence, SupportsIndex, Union, overload
 
 from . import _header as header
 from . import display
+from ._csv_write import write_csv
 from ._editing import Editing, Progress
+from ._frames import schema_of_frame, to_pandas
 from ._handle import EMPTY_AT, Handle
 from ._lent import lent_text
 from ._moving import Moving
 from ._reading import Reader
+from ._rows import row_class
 from .aggregates import Key, Spec, Watched, spec_struct
 from .column import Batch, Column, Value, read_batch
-from .csv_files import CsvOptions, load_csv, write_csv
+from .csv_files import csv_options, load_csv
 from .engines import Engine, Memory, close_engine, release, take
-from .errors import Absent, BadArgument, Closed, NoAggregate, RemovedRow
+from .errors import Absent, BadArgument, Closed, NoAggregate, NoColumn, RemovedRow, WrongKind
 from .limits import Limits
 from .movement import Mover
 from .policy import Helper, Policy, build
@@ -51,6 +53,7 @@ class Table(Editing, Moving):
     - ``contents``: how many contents may go out before the table goes on with new numbers.
 
     Rows stand at places 0, 1, 2, .. in the order in which they came; a removed row keeps its place.
+    A row is a named tuple; ``row._asdict()`` has names that are no identifiers, as "Order ID".
     Several threads may use a table: each call is made under its lock.
     """
 
@@ -80,7 +83,8 @@ class Table(Editing, Moving):
         self._answer: Watched[Any] | None = None  # whose answer, as rows are now, is in the handle
         self._places = 0
         self._live = 0
-        self._Row: Any = namedtuple("Row", self.schema.names, rename=True)  # type: ignore[misc]
+        self._kind_of = {name: (at, kind) for at, (name, kind) in enumerate(self.schema.pairs())}
+        self._Row: Any = row_class(self.schema.names)
         self._prepare_edits()
         self._prepare_rows()
 
@@ -105,6 +109,7 @@ class Table(Editing, Moving):
         with self._lock:
             if self._handle.is_open:
                 self._handle.close()
+                self._kind_of.clear()
                 self._watched.clear()
                 release(self._mover.engine)
                 close_engine(self._mover.engine)
@@ -135,21 +140,45 @@ class Table(Editing, Moving):
             except Exception:
                 pass  # an engine that cannot be closed is nobody's concern any more
 
+    def __reduce_ex__(self, protocol: SupportsIndex) -> NoReturn:
+        """Refuses a copy, which would close the table that it shares, and a pickle."""
+        raise TypeError("a table cannot be copied or pickled; to_csv or to_pandas gives its rows")
+
     # Rows
 
     def __len__(self) -> int:
         """How many rows are alive."""
+        self._open_handle()
         return self._live
 
     @property
     def places(self) -> int:
         """How many places there are, removed rows among them."""
+        self._open_handle()
         return self._places
+
+    def _column(self, name: str) -> tuple[int, type]:
+        """Returns the index and the kind of a column; refuses a name that is none."""
+        try:
+            return self._kind_of[name]
+        except (KeyError, TypeError):
+            self._open_handle()  # a closed table knows no column
+            raise NoColumn(column=name, columns=self.schema.names) from None
 
     @property
     def columns(self) -> tuple[str, ...]:
         """The names of the columns."""
         return self.schema.names
+
+    @property
+    def dtypes(self) -> dict[str, type]:
+        """The kinds of the columns, ``int`` or ``str``, by their names."""
+        return dict(self.schema.pairs())
+
+    @property
+    def shape(self) -> tuple[int, int]:
+        """How many rows are alive, and how many columns there are."""
+        return len(self), len(self.schema)
 
     @overload
     def __getitem__(self, key: str) -> Column:
@@ -203,6 +232,13 @@ class Table(Editing, Moving):
                     raise RemovedRow(place=place)
             return self._Row._make(row)
 
+    def __setitem__(self, key: Any, value: Any) -> NoReturn:
+        """Refuses an assignment to a column or a row, and names the call that makes it."""
+        if isinstance(key, str):
+            self._column(key)
+            raise TypeError(f"set cells of a column: table[{key!r}][:] = values, or set_column")
+        raise TypeError("set cells of a row one by one: table.set(place, column, value)")
+
     def __delitem__(self, place: int) -> None:
         self.remove(place)
 
@@ -230,6 +266,8 @@ class Table(Editing, Moving):
         ...     batch.places, batch["sku"], sum(batch["quantity"])
         ([0, 1], ['bread', 'rye'], 8)
         """
+        if size < 1:
+            raise BadArgument(f"a batch has at least 1 place, and size is {size}")
         names = list(self.schema.names if columns is None else columns)
         for at in range(start, self._places if stop is None else stop, size):
             end = min(at + size, self._places if stop is None else stop)
@@ -241,6 +279,13 @@ class Table(Editing, Moving):
         """Yields the live rows as named tuples, in the order of their places."""
         for batch in self.batches():
             yield from self._of(batch)
+
+    def __contains__(self, item: object) -> bool:
+        """Whether there is a column of this name, or a live row with these cells."""
+        if isinstance(item, str):
+            self._open_handle()
+            return item in self.schema
+        return any(row == item for row in self)
 
     def head(self, rows: int = 5) -> list[Any]:
         """Returns the first live rows.
@@ -256,12 +301,27 @@ class Table(Editing, Moving):
         """Returns the last live rows."""
         return [row for _, row in display.last_rows(self, rows)]
 
+    @classmethod
+    def from_pandas(cls, frame: Any, **options: Any) -> Table:
+        """Makes a table of a DataFrame of pandas; options are as of `Table`. Its index is left out.
+
+        Columns of whole numbers, of flags, and of floats with whole values are ``int``; those of
+        texts ``str``. Others are refused, with what may be done.
+        """
+        made = cls(schema_of_frame(frame), **options)
+        try:
+            made.extend_columns(frame)
+        except BaseException:
+            made.close()
+            raise
+        return made
+
     def to_pandas(self) -> Any:
         """Returns the live rows as a DataFrame of pandas, with their places as its index.
 
         Columns of numbers are of type ``int64``, or ``Int64`` if a cell is missing.
         """
-        return display.to_pandas(self)
+        return to_pandas(self)
 
     # Aggregates
 
@@ -278,6 +338,9 @@ class Table(Editing, Moving):
         """
         with self._lock:
             handle = self._open_handle()
+            if not isinstance(spec, Spec):
+                said = "watch takes fc.totals(..) or fc.extrema(..)"
+                raise WrongKind(f"{said}, and not {spec!r:.60}")
             struct, kept = spec_struct(self.schema, spec)
             number = handle.watch(struct)
             del kept
@@ -296,12 +359,18 @@ class Table(Editing, Moving):
         fullercoral.errors.NoAggregate: there is no such aggregate (any more) [12]
         """
         with self._lock:
-            if watched.table is not self:
-                raise NoAggregate("this aggregate is of another table")
+            self._check_watched(watched)
             self._open_handle().step("unwatch", watched.number)
             watched._number = -1
             self._watched.remove(watched)
             self._answer = None
+
+    def _check_watched(self, watched: Any) -> None:
+        """Refuses what is no aggregate of this table."""
+        if not isinstance(watched, Watched):
+            raise WrongKind(f"give what watch returned, and not {watched!r:.60}")
+        if watched.table is not self:
+            raise NoAggregate("this aggregate is of another table")
 
     @property
     def watched(self) -> tuple[Watched[Any], ...]:
@@ -321,6 +390,7 @@ class Table(Editing, Moving):
         True
         """
         with self._lock:
+            self._check_watched(watched)
             handle, number = self._open_handle(), watched.number
             self._answer = None
             absent = self._mover.absent_of(watched.spec.columns())
@@ -356,7 +426,7 @@ class Table(Editing, Moving):
         [Row(sku='bread', quantity=5), Row(sku='rye', quantity=None)]
         """
         with Shown(progress, str(path)) as shown:
-            return load_csv(self, path, CsvOptions(**options), shown)
+            return load_csv(self, path, csv_options("load_csv", options), shown)
 
     def to_csv(
         self,

@@ -11,6 +11,11 @@ import fullercoral as fc
 from fullercoral import _asking, errors
 from fullercoral._handle import leave
 
+try:
+    import numpy
+except ImportError:
+    numpy = None  # type: ignore[assignment]
+
 KINDS = {"sku": str, "city": int, "quantity": int}
 
 
@@ -84,8 +89,15 @@ class Keys(Case):
             for key in (7, 2**63, -(2**70), "1", None, 1.0, []):
                 self.assertEqual((cities.get(key), key in cities), (None, False))
             self.assertEqual((sold["bread"].sum, cities[1].sum), (5, 5))
-        with self.assertRaises(KeyError):
-            sold["oat"]
+        for watched, key, kind in (
+            (sold, "oat", KeyError),
+            (cities, 7, KeyError),
+            (sold, 1, errors.WrongKind),
+            (cities, "1", errors.WrongKind),
+            (cities, None, errors.WrongKind),
+        ):
+            with self.assertRaises(kind):
+                watched[key]
         self.table.append(("oat", 7, 1))
         self.assertEqual((sold["oat"], cities[7]), (fc.Total(1, 1), fc.Total(1, 1)))
 
@@ -95,6 +107,20 @@ class Keys(Case):
         cities = self.table.watch(fc.totals("quantity", by="city"))
         self.assertEqual((sold[Named("bread")].sum, cities[Numbered(1)].sum), (5, 5))
         self.assertEqual((cities[True].sum, cities[False].sum), (5, 3))
+
+    def test_a_key_is_one_column(self) -> None:
+        for spec in (lambda: fc.totals("city", by=["sku"]), lambda: fc.extrema(["city"])):
+            with self.assertRaisesRegex(errors.BadSpec, "one column, by its name, and .* is none"):
+                spec()
+
+    @unittest.skipUnless(numpy, "skipped: numpy is not installed")
+    def test_keys_of_numpy(self) -> None:
+        self.table.extend([("bread", 1, 5), ("rye", 0, 3)])
+        sold = self.table.watch(fc.totals("quantity", by="sku"))
+        cities = self.table.watch(fc.totals("quantity", by="city"))
+        self.assertEqual((cities[numpy.int64(1)].sum, sold[numpy.str_("rye")].sum), (5, 3))
+        with self.assertRaises(KeyError):
+            cities[numpy.uint8(7)]
 
     def test_without_a_key_column(self) -> None:
         plain = self.table.watch(fc.extrema("quantity"))

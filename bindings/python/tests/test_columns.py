@@ -8,7 +8,7 @@ from typing import Any
 
 import fullercoral as fc
 from fullercoral import errors
-from fullercoral._buffers import _bits_between, address_of, pack_bits
+from fullercoral._buffers import BYTES_AT, _bits_between, address_of, pack_bits
 
 try:
     import numpy
@@ -75,6 +75,35 @@ class Lists(Case):
         self.texts_come_back(("a", None, fc.NA), ["a", None, None])
         self.texts_come_back((t for t in "xyz"), ["x", "y", "z"])
         self.texts_come_back([], [])
+
+    def test_a_cell_alone_and_in_a_list_is_taken_by_one_rule(self) -> None:
+        nan, numbers, texts = float("nan"), self.numbers, self.texts
+        cells: list[tuple[Any, Any]] = [(5.0, 5), (-0.0, 0), (True, 1), (nan, None), (fc.NA, None)]
+        cells += [(-(2.0**63), -(2**63))]
+        if numpy is not None:
+            cells += [(numpy.float64(4), 4), (numpy.float32(4), 4), (numpy.uint8(4), 4)]
+            cells += [(numpy.float32("nan"), None), (numpy.ma.masked, None)]
+        if pandas is not None:
+            cells += [(pandas.NA, None), (pandas.NaT, None)]
+        for cell, due in cells:
+            with self.subTest(cell=repr(cell)):
+                self.comes_back([cell, 7], [due, 7])
+                place = numbers.append((cell,))
+                self.assertEqual(numbers[place], (due,))
+                numbers.set(place, "n", 7)
+                numbers.set(place, "n", cell)
+                numbers.extend([(cell,), (8,)])
+                self.assertEqual(list(numbers["n"])[-3:], [due, due, 8])
+                if due is None:
+                    texts.set(texts.append((cell,)), "t", cell)
+                    self.texts_come_back(["a", cell], ["a", None])
+        for wrong in (1.5, 2.0**63, float("inf"), "1", b"1", [], 1j):
+            for call in (lambda: numbers.set(0, "n", wrong), lambda: numbers.append((wrong,))):
+                with self.assertRaises(errors.WrongKind):
+                    call()
+            self.refused(errors.WrongKind, "whole numbers", n=[1, wrong])
+        total = numbers.watch(fc.totals("n", where=[("n", "==", 8.0)]))
+        self.assertEqual(total.sum, 8 * len(cells))
 
     def test_what_does_not_fit_is_named_and_nothing_goes_in(self) -> None:
         self.refused(errors.WrongKind, "column n has whole numbers", n=[1, "x"])
@@ -202,6 +231,29 @@ class Pandas(Case):
             plain = table.watch(fc.extrema("quantity")).to_pandas()
             self.assertEqual(plain.values.tolist(), [[3, 5]])
 
+    def test_a_table_of_a_frame(self) -> None:
+        columns: dict[str, Any] = {"Order ID": [3, 1], "sku": ["a", None]}
+        columns |= {"quantity": [5.0, None], "paid": [True, False]}
+        frame = pandas.DataFrame(columns, index=["x", "y"])
+        frame["city"] = frame["sku"].astype("category")
+        with fc.Table.from_pandas(frame, local="1MB") as table:
+            due = {"Order ID": int, "sku": str, "quantity": int, "paid": int, "city": str}
+            self.assertEqual((table.dtypes, table.shape), (due, (2, 5)))
+            self.assertEqual(list(table), [(3, "a", 5, 1, "a"), (1, None, None, 0, None)])
+            again = fc.Table.from_pandas(table.to_pandas(), local="1MB")
+            self.assertEqual((list(again), again.schema), (list(table), table.schema))
+            again.close()
+        for values, said in (
+            ([1.5, 2], r"column n has decimals.*\* 100\).round"),
+            (pandas.to_datetime(["2024-01-01"]), r"datetime64.*astype\(str\) is texts"),
+            ([b"x", 1], "is of object"),
+        ):
+            with self.assertRaisesRegex(errors.WrongKind, said):
+                fc.Table.from_pandas(pandas.DataFrame({"n": values}))
+        for wrong in (5, {"n": [1]}, [1]):
+            with self.assertRaisesRegex(errors.WrongKind, "takes a DataFrame of pandas"):
+                fc.Table.from_pandas(wrong)
+
     def test_an_answer_as_a_frame(self) -> None:
         with fc.Table({"key": int, "n": int}, local="1MB") as table:
             by_key = table.watch(fc.totals("n", by="key"))
@@ -217,6 +269,32 @@ class Pandas(Case):
             table.extend_columns(key=[7, 7, 8, 8], n=[2**63 - 1] * 2 + [-(2**63)] * 2)
             sums = by_key.to_pandas()["sum"].tolist()
             self.assertEqual(sums[6:10], [-294, 2**64 - 295, -(2**64) - 292, -291])
+
+
+class Addresses(unittest.TestCase):
+    def test_where_bytes_lie(self) -> None:
+        for content in (b"x", b"bread", bytes(1000)):
+            self.assertEqual(id(content) + BYTES_AT, address_of(content))
+
+    def test_what_only_looks_like_a_text(self) -> None:
+        class Odd:
+            def encode(self) -> int:
+                return 5
+
+        class Loud(str):
+            def encode(self, *arguments: Any) -> Any:
+                return 5
+
+        with fc.Table({"sku": str, "quantity": int}, local="1MB") as table:
+            for call in (
+                lambda: table.append((Odd(), 1)),
+                lambda: table.set(table.append(("x", 1)), "sku", Odd()),
+            ):
+                with self.assertRaises(errors.WrongKind):
+                    call()
+            table.append((Loud("loud"), 1))
+            table.set(0, "sku", Loud("LOUD"))
+            self.assertEqual(table["sku"][:], ["LOUD", "loud"])
 
 
 if __name__ == "__main__":

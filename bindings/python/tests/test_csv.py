@@ -83,11 +83,27 @@ class Reading(unittest.TestCase):
             [("bread", 199), ("rye", None), ("oat", 300)],
         )
         self.assertEqual(self.rows(text, convert={"sku": str.upper})[0], ("BREAD", "1.99"))
+        for digits in (-1, "2", 19, 1.0):
+            with self.assertRaisesRegex(ValueError, "scaled takes 0 to 18 decimals"):
+                fc.scaled(digits)
         for wrong, said in (("x", "'x' is no decimal number"), ("1.999", "more than 2 decimals")):
             with self.assertRaises(fc.CsvError) as caught:
                 self.rows(text + f"cake,{wrong}\n", convert={"price": fc.scaled(2)})
             self.assertIn(said, str(caught.exception))
             self.assertEqual((caught.exception.line, caught.exception.column), (5, "price"))
+
+    def test_decimals_after_guessed_numbers(self) -> None:
+        text = "a\n" + "1\n" * 1500 + "1.5\n2.25\n"
+        with self.assertRaises(fc.CsvError) as caught:
+            read(text)
+        self.assertIn("convert={'a': fc.scaled(2)} reads decimals", str(caught.exception))
+        with read(text, convert={"a": fc.scaled(2)}) as table:
+            self.assertEqual(table[-2:], [(150,), (225,)])
+        with self.assertRaises(fc.CsvError) as caught:
+            read(text, convert={"a": fc.scaled(1)})
+        self.assertTrue(str(caught.exception).endswith("more than 1 decimals: scaled(2) reads it"))
+        with self.assertRaisesRegex(TypeError, "convert of column a: 'cents' is no function"):
+            read(text, convert={"a": "cents"})
 
     def test_a_file_of_a_header_alone(self) -> None:
         self.assertEqual(self.rows(HEAD), [])
@@ -168,6 +184,42 @@ class Broken(unittest.TestCase):
         self.refused(
             HEAD + '"a\nb\nc",5\nd,x\n', "'x' is no", line=5, options={"types": {"quantity": int}}
         )
+
+    def test_options_that_there_are_not(self) -> None:
+        for option, said in (
+            ("sep", "read_csv has no option sep; use delimiter"),
+            ("dtype", "use types"),
+            ("usecols", "use columns"),
+            ("lokal", "use local"),
+            ("index_col", "there are delimiter, header, names"),
+        ):
+            with self.assertRaisesRegex(TypeError, said):
+                read(HEAD, **{option: 1})
+        with fc.Table({"n": int}, local="1MB") as table:
+            with self.assertRaisesRegex(TypeError, "load_csv has no option local"):
+                table.load_csv(io.StringIO("n\n5\n"), local="1MB")
+
+    def test_another_delimiter(self) -> None:
+        for mark in ";\t|":
+            text = f"a{mark}b\n1{mark}2,5\n"
+            self.refused(text, f"delimiter={mark!r} cuts it, delimiter=',' leaves it whole", line=1)
+            with read(text, delimiter=mark) as table:
+                self.assertEqual(list(table), [(1, "2,5")])
+        self.refused("1;2\n", "the first row is one field, '1;2'", options={"header": False})
+        with read("a;b\n1;2\n", delimiter=",") as table:
+            self.assertEqual((table.columns, list(table)), (("a;b",), [("1;2",)]))
+        self.refused(HEAD, "a delimiter is one character", options={"delimiter": "::"})
+
+    def test_encodings(self) -> None:
+        text = HEAD + "Müller,5\n"
+        with read(text.encode("latin-1"), encoding="latin-1") as table:
+            self.assertEqual(list(table), [("Müller", 5)])
+        with read(text.encode("utf-16"), encoding="utf-16") as table:
+            self.assertEqual(list(table), [("Müller", 5)])
+        said = "b'M\\xfcller' is not in UTF-8: encoding=\"latin-1\" may help"
+        self.refused(text.encode("latin-1"), said, line=2, column="sku")
+        self.refused("Größe\n5\n".encode("latin-1"), 'encoding="latin-1" may help', line=1)
+        self.refused(text, "there is no encoding 'utf8000'", options={"encoding": "utf8000"})
 
     def test_a_file_that_is_not_there(self) -> None:
         with self.assertRaises(FileNotFoundError):

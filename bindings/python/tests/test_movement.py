@@ -71,6 +71,8 @@ class Aggregates(unittest.TestCase):
             self.assertEqual(sold.items(), [("bread", (1, 5)), ("rye", (1, 3))])
             self.assertEqual(best["bread"], fc.MinMax(-2, 5))
             self.assertEqual((plain.count, plain.sum, ends.min, ends.max), (4, 15, -2, 9))
+            self.assertEqual((plain.mean, best.get("x"), sold["bread"].mean), (3.75, None, 5.0))
+            self.assertIsNone(fc.Total(0, 0).mean)
             self.assertEqual(by_number.keys(), [-2, 3, 5, 9])
             self.assertEqual(
                 (by_number[-2], by_number.get(7), by_number.get(7, 0)), ((1, -2), None, 0)
@@ -175,7 +177,7 @@ class Aggregates(unittest.TestCase):
     def test_reprs(self) -> None:
         with filled(40) as table:
             sold = table.watch(fc.totals("quantity", by="sku"))
-            self.assertIn("3 row groups pending", repr(sold))
+            self.assertIn("3 row groups pending: items() builds them", repr(sold))
             self.assertEqual(sold.pending, 3)
             sold.items()
             self.assertEqual(sold.pending, 0)
@@ -267,6 +269,7 @@ class ByHand(unittest.TestCase):
     def test_pins(self) -> None:
         with filled(32) as table:
             with table.pin("quantity", 0) as pin:
+                self.assertEqual(repr(pin), "<pin on column 'quantity', row group 0>")
                 with self.assertRaises(errors.Pinned):
                     table.evict("quantity", 0)
                 self.assertEqual(table.evict(), 3)
@@ -351,6 +354,33 @@ class Engines(unittest.TestCase):
             self.assertEqual(list(table["quantity"]), [77, *range(1, 16)])
             self.assertEqual(table.stats().faults, len(lies))
 
+    def test_a_fault_names_the_object_and_what_may_help(self) -> None:
+        engine = fc.Memory()
+        with filled(64, far=engine) as table:
+            sold = table.watch(fc.totals("quantity", by="sku"))
+            table.evict()
+            right = dict(engine._contents)
+            said = r"Memory\(\) returns other bytes than it was given for column sku of row group 2"
+            for contents, kind, due in (
+                (dict.fromkeys(right, b"x"), fc.FarFault, said + ": put those back and call again"),
+                ({}, fc.EngineError, r"cannot return column sku of row group 2 \(KeyError: "),
+            ):
+                engine._contents = contents
+                for call in (lambda: table[40], lambda: table["sku"][32:34]):
+                    with self.subTest(said=due), self.assertRaisesRegex(kind, due) as caught:
+                        call()
+                    self.assertEqual((caught.exception.column, caught.exception.group), ("sku", 2))
+                for call in (sold.items, lambda: table.move_to(fc.Memory())):
+                    with self.assertRaisesRegex(kind, "column sku of row group 0"):
+                        call()
+            engine._contents = right
+            self.assertEqual((table[40], sold["sku0"].count), (("sku0", 40), 13))
+            full = fc.EngineError
+            engine.put = lambda *content: 1 / 0  # type: ignore[assignment,method-assign]
+            table.set(40, "quantity", 7)
+            with self.assertRaisesRegex(full, r"cannot keep column quantity of row group 2 \(Zero"):
+                table.evict("quantity", 2)
+
     def test_an_engine_that_returns_no_bytes(self) -> None:
         engine = Dumb()
         with filled(16, far=engine) as table:
@@ -384,18 +414,32 @@ class Engines(unittest.TestCase):
         with tempfile.TemporaryDirectory() as folder:
             path = Path(folder, "orders.csv")
             path.write_text("sku,quantity\n")
-            with filled(16, far=fc.Files(path)) as table:
-                with self.assertRaisesRegex(fc.EngineError, "FileExistsError"):
-                    table.evict()
+            with self.assertRaisesRegex(FileExistsError, "orders.csv is no file of contents"):
+                filled(16, far=fc.Files(path))
+            with filled(16) as table:
+                with self.assertRaisesRegex(FileExistsError, "give Files another path"):
+                    table.move_to(fc.Files(path))
                 self.assertEqual(table[0], ("sku0", 0))
             self.assertEqual(path.read_text(), "sku,quantity\n")
             path.write_bytes(fc.Files.MARK + b"what a process left that was killed")
             with filled(16, far=fc.Files(path)) as table:
                 table.evict()
-                with filled(16, far=fc.Files(path)) as other:
-                    with self.assertRaisesRegex(fc.EngineError, "in use by another table"):
-                        other.evict()
+                with self.assertRaisesRegex(FileExistsError, "in use by another table: close"):
+                    filled(16, far=fc.Files(path))
                 self.assertEqual(table[0], ("sku0", 0))
+
+    def test_a_path_that_no_file_can_have_is_refused_when_the_table_opens(self) -> None:
+        with tempfile.TemporaryDirectory() as folder:
+            for path, kind, said in (
+                (f"{folder}/no/x.far", FileNotFoundError, f"there is no folder {folder}/no"),
+                (folder, IsADirectoryError, "is a folder: give Files the path of a file"),
+                ("/proc/x.far", OSError, "/proc/x.far"),
+                ("/dev/null", FileExistsError, "left as it is"),
+            ):
+                engine = fc.Files(path)
+                for _ in range(2):
+                    with self.subTest(path=path), self.assertRaisesRegex(kind, said):
+                        fc.Table(KINDS, local="1MB", far=engine)
 
     def test_files_of_themselves(self) -> None:
         with tempfile.TemporaryDirectory() as folder:

@@ -9,7 +9,6 @@ from typing import Any
 
 import fullercoral as fc
 from fullercoral import errors
-from fullercoral._buffers import BYTES_AT, address_of
 
 from .engines import Faulty
 
@@ -377,8 +376,38 @@ class Assignment(Case):
         with self.assertRaises(errors.BadArgument):
             quantity[0:3] = [1, 2]
 
+    def test_places_that_can_be_set_can_be_read(self) -> None:
+        table = self.table
+        table.set(7, "quantity", None)
+        table.remove(4)
+        mask = [place in (2, 7) for place in range(ROWS)]
+        for places, due in (
+            ([7, 2, -1, 2], [7, 2, 9, 2]),
+            (array("I", [3, 4]), [3, 4]),
+            (mask, [2, 7]),
+            (range(9, 0, -4), [9, 5, 1]),
+            ([], []),
+        ):
+            numbers, texts = table["quantity"][places], table["sku"][places]
+            self.assertEqual(list(texts), [None if n == 4 else f"sku{n}" for n in due])
+            numbers = numbers if isinstance(numbers, list) else numbers.tolist()
+            self.assertEqual(numbers, [None if n in (4, 7) else n for n in due])
+        for wrong, kind in (([10], errors.NoRow), (["x"], errors.BadArgument), ("x", TypeError)):
+            with self.assertRaises(kind):
+                table["quantity"][wrong]
+
+    def test_places_of_many_row_groups_are_read(self) -> None:
+        with fc.Table(KINDS, limits=SMALL) as table:
+            table.extend((f"sku{n}", n) for n in range(400))
+            places = random.Random(2).choices(range(400), k=300)
+            self.assertEqual(list(table["quantity"][places]), places)
+            self.assertEqual(table["sku"][places], [f"sku{n}" for n in places])
+
     @unittest.skipUnless(numpy, "skipped: numpy is not installed")
     def test_in_place(self) -> None:
+        part = self.table["quantity"][numpy.array([3, -1])]
+        self.assertEqual((part.tolist(), part.dtype), ([3, 9], numpy.int64))
+        self.assertEqual(self.table["quantity"][numpy.arange(ROWS) > 7].tolist(), [8, 9])
         self.table["quantity"][2:5] *= 10
         self.table["quantity"][numpy.array([0, 9])] = numpy.array([5, 6])
         self.assertEqual(self.table["quantity"].to_list(), [5, 1, 20, 30, 40, 5, 6, 7, 8, 6])
@@ -445,32 +474,6 @@ class Pandas(Case):
         sold = frame[frame.quantity > 5].quantity * 10
         self.table.set_column("quantity", sold)
         self.assertEqual(list(self.table["quantity"]), [0, 1, 2, 3, 5, 60, 70, 80, 90])
-
-
-class Addresses(unittest.TestCase):
-    def test_where_bytes_lie(self) -> None:
-        for content in (b"x", b"bread", bytes(1000)):
-            self.assertEqual(id(content) + BYTES_AT, address_of(content))
-
-    def test_what_only_looks_like_a_text(self) -> None:
-        class Odd:
-            def encode(self) -> int:
-                return 5
-
-        class Loud(str):
-            def encode(self, *arguments: Any) -> Any:
-                return 5
-
-        with fc.Table(KINDS, local="1MB") as table:
-            for call in (
-                lambda: table.append((Odd(), 1)),
-                lambda: table.set(table.append(("x", 1)), "sku", Odd()),
-            ):
-                with self.assertRaises(errors.WrongKind):
-                    call()
-            table.append((Loud("loud"), 1))
-            table.set(0, "sku", Loud("LOUD"))
-            self.assertEqual(table["sku"][:], ["LOUD", "loud"])
 
 
 if __name__ == "__main__":

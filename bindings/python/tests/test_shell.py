@@ -87,6 +87,14 @@ class Replies(unittest.TestCase):
         self.says(".watch totals price", "aggregate 0\ncount  sum\n    2  399")
         self.says_like(f".import {self.path} scaled=price", "write scaled=COLUMN:DECIMALS")
 
+    def test_files_of_other_kinds(self) -> None:
+        self.path.write_bytes("sku;quantity\nBrötchen;5\n".encode("latin-1"))
+        self.says_like(f".import {self.path} local=1MB", "delimiter=';' cuts it")
+        self.says_like(f".import {self.path} local=1MB delimiter=';'", 'encoding="latin-1" may')
+        self.says(".close", "ok")
+        self.says_like(f".import {self.path} delimiter=; encoding=latin-1", "quantity int")
+        self.says_like(".rows 0", "0  Brötchen         5")
+
     def test_names_with_spaces(self) -> None:
         self.path.write_text("Store,Unit Price,Qty\nBerlin,1.99,5\nWien,2.50,3\n")
         self.says_like(f".import {self.path} local=1MB", "Unit Price str")
@@ -203,6 +211,29 @@ class Processes(unittest.TestCase):
         )
         due = "ok\nloaded 2\nrows 2\n5,a\n7,b\nrefused 8 NoRow\nsyntax command 5\n"
         self.assertEqual((done.stdout.decode(), done.stderr.decode()), (due, ""))
+
+    def piped(self, lines: str, *arguments: str) -> tuple[int, str, str]:
+        done = subprocess.run(
+            [sys.executable, "-m", "fullercoral", *arguments],
+            input=lines.encode(),
+            capture_output=True,
+            env=self.environment(),
+        )
+        return done.returncode, done.stdout.decode(), done.stderr.decode()
+
+    def test_lines_through_a_pipe_get_sentences_and_a_status(self) -> None:
+        wrong = ".open sku:text,quantity:int\ninsert bread,5\nset 0 quantity x\nset 0 nope 1\n"
+        wrong += "exit\nfly\n"
+        status, said, _ = self.piped(wrong)
+        self.assertEqual(status, 1)
+        self.assertIn("quantity has whole numbers of 64 bits, and 'x' is none [5]\n", said)
+        self.assertIn("no column 'nope'; there are sku, quantity [4]\n", said)
+        self.assertNotIn("fly", said)
+        self.assertEqual(self.piped("\n.open a:int\ninsert 5\n"), (0, "ok\nplace 0\n", ""))
+
+    def test_a_file_that_cannot_be_imported(self) -> None:
+        said = "/no/such.csv: No such file or directory\n"
+        self.assertEqual(self.piped("dump\n", "/no/such.csv"), (1, "", said))
 
     def test_a_terminal(self) -> None:
         path = Path(self.home, "orders.csv")

@@ -2,11 +2,15 @@
 
 from __future__ import annotations
 
+import copy
 import gc
 import pickle
+import tempfile
 import threading
 import unittest
-from typing import Any
+from pathlib import Path
+from typing import Any, Iterator
+from unittest import mock
 
 import fullercoral as fc
 from fullercoral import errors
@@ -29,6 +33,15 @@ class Rows(Case):
         self.assertEqual(table[0], ("bread", 5))
         self.assertEqual((table[1].sku, table[-1].quantity), ("", 2**63 - 1))
         self.assertEqual(repr(table[0]), "Row(sku='bread', quantity=5)")
+
+    def test_names_that_are_no_identifiers(self) -> None:
+        with fc.Table({"Order ID": int, "class": str, "n": int}, local="1MB") as table:
+            table.append({"n": 3, "Order ID": 7, "class": "x"})
+            for row in (table[0], *table, *table.head(1)):
+                self.assertEqual(row._asdict(), {"Order ID": 7, "class": "x", "n": 3})
+                self.assertEqual((row, row.n, row._0), ((7, "x", 3), 3, 7))
+            self.assertEqual(repr(table[0]), "Row({'Order ID': 7, 'class': 'x', 'n': 3})")
+            self.assertEqual(table["Order ID"][0], 7)
 
     def test_missing_cells(self) -> None:
         table = self.table
@@ -85,6 +98,12 @@ class Rows(Case):
             with self.assertRaises(IndexError):
                 table["quantity"][place]
 
+    def test_what_is_in_a_table(self) -> None:
+        self.table.append(("bread", 5))
+        self.assertEqual((self.table.shape, self.table.dtypes), ((1, 2), COLUMNS))
+        there = [item in self.table for item in ("sku", "prize", ("bread", 5), ("bread", 6))]
+        self.assertEqual(there, [True, False, True, False])
+
     def test_batches(self) -> None:
         table = self.table
         table.extend((f"sku{n}", n) for n in range(1000))
@@ -105,11 +124,33 @@ class Rows(Case):
         with self.assertRaises(errors.RowWidth) as width:
             table.extend([("bread", 5), ("rye",)])
         self.assertEqual((width.exception.inserted, len(table)), (1, 3))
-        with self.assertRaises(errors.WrongKind):
-            table.extend([("bread", 5), ("rye", "x")])
-        self.assertEqual(len(table), 3)
-        self.assertEqual(table.extend([]), range(3, 3))
-        self.assertEqual(table.extend(iter([("cake", 1)])), range(3, 4))
+        for rows, kind in (
+            ([("oat", 5), ("rye", "x"), (5, 5)], errors.WrongKind),
+            ([("oat", 5), (5, 5), ("rye", "x")], errors.WrongKind),
+            ([("oat", 5), ("\udfff", 5), ("rye",)], errors.NoUtf8),
+            ([{"sku": "oat", "quantity": 5}, {"sku": "rye"}], errors.RowWidth),
+            ([("oat", 5), 5], errors.WrongKind),
+        ):
+            before = len(table)
+            with self.subTest(rows=rows), self.assertRaises(kind) as caught:
+                table.extend(rows)
+            self.assertIn("; 1 row went in before", str(caught.exception))
+            self.assertEqual((len(table), table[-1]), (before + 1, ("oat", 5)))
+        self.assertEqual(table.extend([]), range(8, 8))
+        self.assertEqual(table.extend(iter([("cake", 1)])), range(8, 9))
+
+    def test_rows_before_an_exception_of_their_own_stay(self) -> None:
+        def rows(last: object) -> Iterator[Any]:
+            yield "bread", 5
+            yield last
+            raise RuntimeError("no more")
+
+        with self.assertRaisesRegex(RuntimeError, "no more"):
+            self.table.extend(rows(("rye", 3)))
+        self.assertEqual(list(self.table), [("bread", 5), ("rye", 3)])
+        with self.assertRaises(errors.WrongKind) as caught:
+            self.table.extend(rows(("rye", "x")))
+        self.assertEqual((caught.exception.inserted, len(self.table)), (1, 3))
 
 
 class Refusals(Case):
@@ -143,15 +184,58 @@ class Refusals(Case):
         self.refused(errors.RowWidth, "3 cells, and the table 2", lambda: table.append((1, 2, 3)))
         self.refused(errors.RowWidth, "no value of sku", lambda: table.append({"quantity": 1}))
         self.refused(errors.NoColumn, "prize", lambda: table.append({"prize": 1}))
-        self.refused(errors.TextTooLong, "4,096", lambda: table.set(0, "sku", "x" * 4097))
+        long = "a text for column sku has more than 4,096 bytes"
+        for call in (
+            lambda: table.set(0, "sku", "x" * 4097),
+            lambda: table.append(("é" * 2049, 1)),
+            lambda: table.append(("é" * 2049, None)),
+            lambda: table.extend_columns(sku=["x" * 4097], quantity=[None]),
+        ):
+            self.refused(errors.TextTooLong, long, call)
         self.refused(errors.NoUtf8, "surrogate", lambda: table.set(0, "sku", "\ud800"))
         self.refused(errors.NoUtf8, "surrogate", lambda: table.append(("\udfff", 1)))
         self.refused(errors.NoRow, "no place 7; the last one is 0 [8]", lambda: table[7])
-        self.refused(errors.OutOfRange, "[14]", lambda: table.evict("sku", 1))
         self.refused(errors.StaleJob, "[20]", lambda: table.fetch("sku", 0))
         self.assertEqual(list(table), [("bread", 5)])
         table.set(0, "quantity", 6)
         self.assertEqual(list(table), [("bread", 6)])
+
+    def test_row_groups_that_there_are_not(self) -> None:
+        table = self.table
+        self.refused(errors.OutOfRange, "it has none yet", lambda: table.evict("sku", 0))
+        table.append(("bread", 5))
+        said = "the table has no row group 1; row groups are 0 to 0 [14]"
+        for call in (table.evict, table.fetch, table.pin):
+            self.refused(errors.OutOfRange, said, lambda: call("sku", 1))  # noqa: B023
+        self.refused(errors.OutOfRange, "no row group 'x'", lambda: table.evict("sku", "x"))
+
+    def test_what_is_of_another_kind_than_an_argument(self) -> None:
+        table = self.table
+        table.append(("bread", 5))
+        sold = table.watch(fc.totals("quantity"))
+        for kind, said, call in (
+            (TypeError, "watch takes fc.totals(..) or", lambda: table.watch("quantity")),
+            (TypeError, "what watch returned, and not 'x'", lambda: table.recount("x")),
+            (TypeError, "what watch returned", lambda: table.build(5)),
+            (TypeError, "what watch returned", lambda: table.unwatch(None)),
+            (TypeError, "'quantity' is none: table[place]", lambda: table.set("quantity", 0, 1)),
+            (TypeError, "1.5 is none: table[place]", lambda: table.set(0.0 + 1.5, "sku", "x")),
+            (TypeError, "0.0 is none: table[place]", lambda: table.set(0.0, "sku", "x")),
+            (TypeError, "None is none", lambda: table[None]),
+            (TypeError, "a row is a list, a tuple or a dict", lambda: table.append(5)),
+            (TypeError, "of cells, and 0 is none", lambda: table.extend(n for n in range(3))),
+            (ValueError, "at least 1 place, and size is 0", lambda: list(table.batches(size=0))),
+            (ValueError, "extend_columns takes a dict", lambda: table.extend({"sku": ["x"]})),
+            (TypeError, "table['sku'][:] = values", lambda: table.__setitem__("sku", "x")),
+            (KeyError, "no column 'prize'", lambda: table.__setitem__("prize", 5)),
+            (TypeError, "table.set(place, column, value)", lambda: table.__setitem__(0, ("x", 1))),
+            (ValueError, "as {'quantity': int}, not 'a'", lambda: fc.Table(["a", "b"])),
+        ):
+            self.refused(kind, said, call)
+        self.assertEqual((list(table), sold.sum), ([("bread", 5)], 5))
+        with mock.patch.dict("sys.modules", pandas=None):
+            self.refused(ImportError, "to_pandas needs pandas", table.to_pandas)
+            self.refused(ImportError, "to_pandas needs pandas", sold.to_pandas)
 
     def test_they_are_pythons_exceptions_too(self) -> None:
         kinds = {
@@ -183,17 +267,35 @@ class Refusals(Case):
         self.refused(
             errors.BadSchema, "no amount of memory", lambda: fc.Table(COLUMNS, local="much")
         )
+        for local, said in (
+            ("64", "'64' has no unit; write '64MB'"),
+            (64, "64 is too little memory for a table"),
+            (0, "0 is too little"),
+            ("100TB", "is more memory than cells of a table can take; write '32GiB'"),
+        ):
+            with self.subTest(local=local), self.assertRaisesRegex(errors.BadSchema, said):
+                fc.Table(COLUMNS, local=local)
         self.refused(errors.BadSchema, "group is 1 to 65,536", lambda: fc.Table(COLUMNS, group=0))
 
     def test_a_closed_table(self) -> None:
         table = self.table
-        sold = table.watch(fc.totals("quantity"))
+        sold, sku = table.watch(fc.totals("quantity")), table["sku"]
         table.append(("bread", 5))
         table.close()
         table.close()
         self.assertTrue(table.closed)
         for call in (
             lambda: table.append(("rye", 1)),
+            lambda: table.append(("rye",)),
+            lambda: table.append(("rye", "x")),
+            lambda: table.extend([("rye",)]),
+            lambda: table.extend_columns(sku=["rye"]),
+            lambda: len(table),
+            lambda: table.places,
+            lambda: list(table),
+            lambda: table["sku"],
+            lambda: table["prize"],
+            lambda: table.set(0, "prize", 1),
             lambda: table[0],
             lambda: table.set(0, "sku", "x"),
             lambda: table["sku"][0:1],
@@ -207,6 +309,7 @@ class Refusals(Case):
                 call()
         self.assertIn("closed", repr(table))
         self.assertIn("not watched", repr(sold))
+        self.assertIn("of a closed table", repr(sku))
         self.assertIn("closed", table._repr_html_())
 
 
@@ -219,6 +322,19 @@ class Life(unittest.TestCase):
         del table
         gc.collect()
         fc.Table(COLUMNS, far=engine).close()
+
+    def test_no_copy_closes_a_table(self) -> None:
+        with fc.Table(COLUMNS, local="1MB") as table, tempfile.TemporaryDirectory() as folder:
+            table.append(("bread", 5))
+            table.move_to(fc.Files(Path(folder, "x.far")))
+            table.evict()
+            for call in (copy.copy, copy.deepcopy, pickle.dumps):
+                with self.assertRaisesRegex(TypeError, "copied or pickled; to_csv or to_pandas"):
+                    call(table)
+                with self.assertRaisesRegex(TypeError, "Files cannot be copied"):
+                    call(table.engine)
+            gc.collect()
+            self.assertEqual(list(table), [("bread", 5)])
 
     def test_no_engine(self) -> None:
         with self.assertRaisesRegex(TypeError, "no engine"):
