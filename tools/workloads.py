@@ -122,6 +122,12 @@ def recounts(draw, size):
 
 
 # For each workload what makes its script, its size, and what else its maker is told.
+def sets(draw, size, count, edited=True):
+    """A load of rows, and then as many sets at random, under the first few aggregates."""
+    filled = opening("int,int", AGGREGATES[:count]) + load(rows(draw, size, "int,int"))
+    return filled + [f"set {draw.randrange(size)} 0 {number(draw)}\n" for _ in range(size * edited)]
+
+
 WORKLOADS = {
     "insert_0": (inserts, 200_000, "int", 0),
     "insert_1": (inserts, 200_000, "int", 1),
@@ -129,6 +135,9 @@ WORKLOADS = {
     "insert_text": (inserts, 50_000, "int,text", 1),
     "edits_1": (edits, 200_000, 1),
     "edits_8": (edits, 100_000, 8),
+    "sets_0": (sets, 100_000, 0),
+    "sets_1": (sets, 100_000, 1),
+    "sets_8": (sets, 50_000, 8),
     "asks": (asks, 200_000),
     "load_int": (loads, 400_000, "int,int"),
     "load_text": (loads, 100_000, "int,text"),
@@ -183,3 +192,9 @@ def script_of(name, size):
     """Returns the script of a workload at a size, from drawn numbers that are the same in each run."""
     make, _, *told = WORKLOADS[name]
     return "".join(make(random.Random(name), size, *told))
+
+
+def filling_of(name, size):
+    """Returns the part of a workload's script that only fills the table, and is not counted; nothing for most."""
+    make, _, *told = WORKLOADS[name]
+    return "".join(make(random.Random(name), size, *told, False)) if make is sets else ""
