@@ -10,7 +10,6 @@ use Rattle.far_types.specs.declared.refusal.Refusal.TheVariants as refusal
 use Rattle.far_types.specs.FirstOf.{first_of}
 use Rattle.far_types.specs.MayRefuse.{MayRefuse}
 use Rattle.far_types.specs.Table.{groups}
-use Rattle.far_scopes.specs.Refusing.{absent}
 use Rattle.far_rows.specs.declared.column_index.ColumnIndex.{ColumnIndex}
 use Rattle.far_rows.specs.declared.column_index.ColumnIndex.TheVariants as column_index
 use Rattle.far_rows.specs.declared.object.Object.{Object}
@@ -53,8 +52,8 @@ module _ {K : Type 0} (r : Rows K) where
   IsNamed e = (c : ℕ) × (g : ℕ) × (e ≡ refusal.Absent c g) × (evac_refusal r c g ≡ Some (refusal.Absent c g))
 
   there : (g : ℕ) (s : ColumnIndex) → (away_at r g s).0 ≡ true → is_none (object_of r s g) ≡ false
-  there g (column_index.Number i) on = there-if (object_of r (column_index.Number i) g) (absent r.number_objects) on
-  there g (column_index.Text i) on = there-if (object_of r (column_index.Text i) g) (absent r.text_objects) on
+  there g (column_index.Number i) on = there-if (object_of r (column_index.Number i) g) _ on
+  there g (column_index.Text i) on = there-if (object_of r (column_index.Text i) g) _ on
 
   evac-is : (c g : ℕ) (s : ColumnIndex) → slice_get r.column_indexes c ≡ Some s → (away_at r g s).0 ≡ true → evac_refusal r c g ≡ Some (refusal.Absent c g)
   evac-is c g s at on =

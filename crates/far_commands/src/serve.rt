@@ -185,18 +185,30 @@ fn take_step<S: FarStore>(world: &mut World<S>, step: Step, reply: &mut Page) ->
     }
 }
 
-/// For the proof: shows that the object for whose absence `dump` is refused is away in the table. Changes nothing: asks for
+/// For the proof: shows that the object that the refusal of a dump names is away in the table too. Changes nothing: asks for
 /// an eviction of the object, which is refused.
-fn show_away<S: FarStore>(world: &mut World<S>)
+fn show_named<S: FarStore>(world: &mut World<S>, refusal: Refusal)
     requires few { world.old.faults < 2 ^ 62 }
-    ensures away { (c : ℕ) → (g : ℕ)
-        → away (live world.old.state) ≡ Some (Refusal.Absent c g)
+    requires named { away (live world.old.state) ≡ Some refusal }
+    ensures away { (c : ℕ) → (g : ℕ) → refusal ≡ Refusal.Absent c g
         → gone_at world.old.state.rows c g ≡ true }
     ensures same { world.new ≡ world.old }
 {
-    let all = world.frame().scope().all();
-    if let Err(Refusal::Absent { column, group }) = all {
-        let _given = world.serve(Step::BeginEvac { column, group });
+    if let Refusal::Absent { column, group } = refusal {
+        drop(world.serve(Step::BeginEvac { column, group }));
+    }
+}
+
+/// For the proof: shows that an object of which a dump would say that it is away is so in the table too. Changes nothing.
+fn show_away<S: FarStore>(world: &mut World<S>)
+    requires few { world.old.faults < 2 ^ 62 }
+    ensures away { (c : ℕ) → (g : ℕ) → away (live world.old.state) ≡ Some (Refusal.Absent c g)
+        → gone_at world.old.state.rows c g ≡ true }
+    ensures same { world.new ≡ world.old }
+{
+    match world.frame().scope().all() {
+        Ok(()) => {}
+        Err(refusal) => show_named(world, refusal),
     }
 }
 
