@@ -12,7 +12,6 @@ use Rattle.far_types.specs.MayRefuse.{MayRefuse}
 use Rattle.far_types.specs.Table.{groups}
 use Rattle.far_rows.specs.declared.column_index.ColumnIndex.{ColumnIndex}
 use Rattle.far_rows.specs.declared.column_index.ColumnIndex.TheVariants as column_index
-use Rattle.far_rows.specs.declared.object.Object.{Object}
 use Rattle.far_rows.specs.Jobs.{evac_refusal}
 use Rattle.far_rows.specs.Moving.{object_at, object_in}
 use Rattle.far_rows.specs.Refusing.{absent_at, absents, absents_from, away_at}

@@ -1,5 +1,5 @@
 -- The replies to a script by some rules are its replies by others.
-use Rattle.std.proofs.Common.{◌≡◌, ℕ, List, [], ◌∷◌, ap}
+use Rattle.std.proofs.Common.{ℕ, List, [], ◌∷◌, ap}
 use Rattle.far_store.specs.declared.store.FarTickets.{Ghosts as Tickets}
 use Rattle.far_frame.specs.Worlds.{World}
 use Rattle.far_script.specs.Lines.{without_return}
