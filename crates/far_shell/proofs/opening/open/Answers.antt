@@ -2,6 +2,7 @@ use Rattle.std.proofs.Common.{◌≡◌, [], append-nil, ◌∙◌, refl, rules,
 use Rattle.std.proofs.lemmas.Result.{IfOk-weaker, IfErr-weaker, IfErr-at_err}
 use Rattle.far_script.specs.declared.fault.ShellFault.TheVariants as fault
 use Rattle.far_shell.specs.LineFaults.{IsRefused, Rejection}
+use Rattle.far_script.specs.Openings.{Opened}
 use Rattle.far_shell.specs.Scripts.{IsNew}
 use Rattle.far_commands.specs.WorldRules.{both_rules, world_rules}
 use Rattle.far_shell.proofs.SeenLaws.{both-new}
@@ -10,7 +11,7 @@ use Rattle.far_shell.proofs.opening.open.Goals as goal
 
 pub returns-in-Ok-open_table-clause-ok : goal.returns-in-Ok-open_table-clause-ok
 returns-in-Ok-open_table-clause-ok g c =
-    let opened = (c.args.opening.kinds.items, c.args.opening.limits) in
+    let opened : Opened = (c.args.opening.kinds.items, c.args.opening.limits) in
     let new : IsNew (world_rules g.S.FarTickets) opened c.new.result = search rules in
     kept-as (IsNew (both_rules g.S.FarTickets) opened) c.once_said.result c.new.result _ c.once_said.ensures.ok (both-new g.S.FarTickets opened c.new.result new)
 
