@@ -10,3 +10,5 @@ pub mod RenewingFaults
 pub mod LoadingLines
 pub mod PiecesLending
 pub mod PlainAnswers
+pub mod AwayLaws
+pub mod RulesLaws

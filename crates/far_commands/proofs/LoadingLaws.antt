@@ -10,16 +10,14 @@ use Rattle.csv.specs.declared.parser.Action.TheVariants as act
 use Rattle.csv.specs.declared.reader.Reader.{Reader}
 use Rattle.csv.specs.declared.reader.Trim.TheVariants as trim
 use Rattle.csv.proofs.ReadFacts.{rows-end, rows-more}
-use Rattle.far_store.specs.declared.store.FarTickets.{Ghosts as Tickets}
 use Rattle.far_frame.specs.declared.step.Reply.{Reply}
 use Rattle.far_frame.specs.declared.step.Reply.TheVariants as reply
 use Rattle.far_types.specs.declared.refusal.Refusal.{Refusal}
-use Rattle.far_frame.specs.Steps.{IsStep}
-use Rattle.far_frame.specs.Worlds.{World}
 use Rattle.std.specs.Prelude.{codes}
 use Rattle.far_script.specs.Printing.{numbered_text}
 use Rattle.far_commands.specs.Loading.{Remains, loaded_text}
 use Rattle.far_commands.specs.Replies.{AfterReply, Loads, insert_of_record}
+use Rattle.far_commands.specs.Rules.{Rules}
 
 -- if the step ends a record, it begins no other
 abbrev EndsWell : Mode × Action → Type 0
@@ -146,18 +144,18 @@ not-refused (reply.Texts copies) other ends goes h = h
 not-refused (reply.Job n) other ends goes h = h
 not-refused (reply.Next groups) other ends goes h = h
 
-module _ {S K : Type 0} (tickets : Tickets S K) where
+module _ {W : Type 0} (rules : Rules W) where
   -- the load from this record on prints what the whole load does
-  abbrev pub GoesTo : World K → List (List (List ℕ)) → ℕ → World K → List (List (List ℕ)) → Type 0
-  GoesTo old all count at rows = (said : List ℕ) (new : World K) → Loads tickets count at rows said new → Loads tickets 0 old all said new
+  abbrev pub GoesTo : W → List (List (List ℕ)) → ℕ → W → List (List (List ℕ)) → Type 0
+  GoesTo old all count at rows = (said : List ℕ) (new : W) → Loads rules count at rows said new → Loads rules 0 old all said new
 
-  pub loads-none : (old at : World K) (count : ℕ) (all rows : List (List (List ℕ))) → GoesTo old all count at rows → rows ≡ [] → Loads tickets 0 old all (loaded_text count None) at
+  pub loads-none : (old at : W) (count : ℕ) (all rows : List (List (List ℕ))) → GoesTo old all count at rows → rows ≡ [] → Loads rules 0 old all (loaded_text count None) at
   loads-none old at count all rows go none = go (loaded_text count None) at (rw none (refl, append-nil (numbered_text (codes "loaded") count)))
 
-  pub loads-refused : (old at new : World K) (count : ℕ) (all rows more : List (List (List ℕ))) (fields : List (List ℕ)) (refusal : Refusal) → GoesTo old all count at rows → rows ≡ fields ∷ more
-      → IsStep tickets.content tickets.number_of at (insert_of_record at.state.table.schema fields) (reply.Refused refusal) new → Loads tickets 0 old all (loaded_text count (Some refusal)) new
+  pub loads-refused : (old at new : W) (count : ℕ) (all rows more : List (List (List ℕ))) (fields : List (List ℕ)) (refusal : Refusal) → GoesTo old all count at rows → rows ≡ fields ∷ more
+      → rules.Steps at (insert_of_record (rules.table_in at).schema fields) (reply.Refused refusal) new → Loads rules 0 old all (loaded_text count (Some refusal)) new
   loads-refused old at new count all rows more fields refusal go some taken = go (loaded_text count (Some refusal)) new (rw some (reply.Refused refusal, new, taken, (refl, refl)))
 
-  pub loads-more : (old at mid : World K) (count : ℕ) (all rows more : List (List (List ℕ))) (fields : List (List ℕ)) (given : Reply) → GoesTo old all count at rows → rows ≡ fields ∷ more
-      → IsStep tickets.content tickets.number_of at (insert_of_record at.state.table.schema fields) given mid → ((refusal : Refusal) → given ≡ reply.Refused refusal → ⊥) → GoesTo old all (count + 1) mid more
+  pub loads-more : (old at mid : W) (count : ℕ) (all rows more : List (List (List ℕ))) (fields : List (List ℕ)) (given : Reply) → GoesTo old all count at rows → rows ≡ fields ∷ more
+      → rules.Steps at (insert_of_record (rules.table_in at).schema fields) given mid → ((refusal : Refusal) → given ≡ reply.Refused refusal → ⊥) → GoesTo old all (count + 1) mid more
   loads-more old at mid count all rows more fields given go some taken other said new rest = go said new (rw some (given, mid, taken, not-refused given other _ _ rest))

@@ -6,16 +6,23 @@ use Rattle.csv.specs.Writing.{default_writer, field_text, fields_text}
 use Rattle.far_store.specs.declared.store.FarTickets.{Ghosts as Tickets}
 use Rattle.far_types.specs.declared.cell.Cell.{Cell}
 use Rattle.far_types.specs.declared.cell.Kind.{Kind}
+use Rattle.far_types.specs.Bounds.{AreLimits}
 use Rattle.far_columns.specs.Pieces.{pieces_of}
 use Rattle.far_frame.specs.declared.step.Reply.{Reply}
 use Rattle.far_frame.specs.declared.step.Reply.TheVariants as reply
+use Rattle.far_frame.specs.declared.step.Step.{Step}
 use Rattle.far_frame.specs.declared.step.Step.TheVariants as step
-use Rattle.far_frame.specs.Lending.{IsReplyOf, Piece, lent_part}
+use Rattle.far_frame.specs.Lending.{IsReplyOf, Piece, lend_refusal, lent_part}
 use Rattle.far_frame.specs.Steps.{IsStep}
+use Rattle.far_frame.specs.TableRefusals.{TableState, due}
+use Rattle.far_frame.specs.TableRuns.{IsPartOf, IsTableServed, IsTableStep}
+use Rattle.far_frame.specs.TableViews.{table_of}
 use Rattle.far_frame.specs.Worlds.{World}
+use Rattle.far_frame.proofs.LendingLaws.{given-cells, given-flags, lends-low}
 use Rattle.far_commands.specs.Listings.{cell_text, field_in_record, row_line}
 use Rattle.far_commands.specs.Pieces.{flag_text, piece_text, pieces_text}
 use Rattle.far_commands.specs.Replies.{Takes, done_text, reply_text}
+use Rattle.far_commands.specs.WorldRules.{both_rules}
 use Rattle.far_script.specs.Printing.{texts_of}
 use Rattle.far_commands.proofs.ListingsFields.{row-some}
 
@@ -107,9 +114,27 @@ given-text of pieces done (reply.Job n) is = absurd is
 given-text of pieces done (reply.Next found) is = absurd is
 given-text of pieces done (reply.Refused why) is = absurd is
 
+-- a reply with pieces is no refusal
+served : (s : Step) (of : Option Kind) (pieces : List Piece) (old new : TableState) (given : Reply) → IsReplyOf of pieces given → (due old s ≡ None) × IsTableServed old s given new → IsTableStep old s given new
+served s of pieces old new (reply.Ints copies) is h = h
+served s of pieces old new (reply.Texts copies) is h = h
+served s of pieces old new (reply.Place place) is h = absurd is
+served s of pieces old new reply.Done is h = absurd is
+served s of pieces old new (reply.Aggregate a) is h = absurd is
+served s of pieces old new (reply.Answer answer) is h = absurd is
+served s of pieces old new (reply.Job n) is h = absurd is
+served s of pieces old new (reply.Next found) is h = absurd is
+served s of pieces old new (reply.Refused why) is h = absurd is
+
 -- printing a part and recording that it was lent is the reply of the step
-pub lends : {S K : Type 0} (tickets : Tickets S K) (old new : World K) (column from to : ℕ) (of : Option Kind) (text : List ℕ)
-    → (given : Reply) × IsReplyOf of (lent_part old.state.table column from to) given × IsStep tickets.content tickets.number_of old (step.Lend column from to) given new
-    → text ≡ pieces_text (lent_part old.state.table column from to) → Takes tickets old (step.Lend column from to) text new
-lends tickets old new column from to of text given printed =
-    (given.0, given.2, printed ∙ sym (given-text of (lent_part old.state.table column from to) (done_text (step.Lend column from to)) given.0 given.1))
+pub lends : {S K : Type 0} (tickets : Tickets S K) (old new : World K) (column from to : ℕ) (text : List ℕ)
+    → (given : Reply) × IsReplyOf (slice_get old.state.table.schema column) (lent_part old.state.table column from to) given × IsStep tickets.content tickets.number_of old (step.Lend column from to) given new
+    → AreLimits old.state.table.limits → lend_refusal old.state.rows column from to ≡ None → due (table_of old.state) (step.Lend column from to) ≡ None → table_of new.state ≡ table_of old.state
+    → text ≡ pieces_text (lent_part old.state.table column from to) → Takes (both_rules tickets) old (step.Lend column from to) text new
+lends tickets old new column from to text given limits free owed same printed =
+    let table = old.state.table in
+    let of = slice_get table.schema column in
+    let pieces = lent_part table column from to in
+    let low = lends-low old.state.rows column from to free in
+    let part : IsPartOf table column from to given.0 = (given-cells table limits column from to low given.0 given.1, given-flags table limits column from to low given.0 given.1) in
+    (given.0, (given.2, served (step.Lend column from to) of pieces (table_of old.state) (table_of new.state) given.0 given.1 (owed, (part, same))), printed ∙ sym (given-text of pieces (done_text (step.Lend column from to)) given.0 given.1))

@@ -1,6 +1,6 @@
 -- Answers without a key column have one line.
 use Rattle.std.proofs.Common.{◌≡◌, ℕ, true, false, cond, List, [], ◌∷◌, map, refl, sym, ap, ◌∙◌, subst, Option, None, Some, arith, append-nil}
-use Rattle.std.specs.Prelude.{ℤ, is_none, ◌&&◌, ◌==◌, option_map}
+use Rattle.std.specs.Prelude.{ℤ, is_none, ◌&&◌, ◌==◌, option_map, IsSomeAnd}
 use Rattle.std.specs.List.{filter_map, cons_option}
 use Rattle.std.specs.List.Sorted.{IsStrictlySortedBy}
 use Rattle.std.specs.Map.{keys_of}
@@ -11,6 +11,7 @@ use Rattle.far_types.specs.declared.answer.Answer.{Answer}
 use Rattle.far_types.specs.declared.answer.Answer.TheVariants as answer
 use Rattle.far_types.specs.declared.cell.Cell.{Cell}
 use Rattle.far_types.specs.declared.key.Key.{Key}
+use Rattle.far_types.specs.declared.refusal.Refusal.TheVariants as refusal
 use Rattle.far_types.specs.declared.spec.Spec.{Spec}
 use Rattle.far_types.specs.declared.spec.Fold.{Fold}
 use Rattle.far_types.specs.declared.spec.Fold.TheVariants as fold
@@ -18,10 +19,10 @@ use Rattle.far_types.specs.Answers.{is_under, values_of, grouped, count_sum, min
 use Rattle.far_types.specs.Cells.{cells_of, number_in}
 use Rattle.far_types.specs.Keys.{line_cmp}
 use Rattle.far_types.specs.Pairs.{Pair, key_under, paired, pair_in, kept, pairs_of}
-use Rattle.far_types.specs.Table.{Place, Registered, rows_of, left}
+use Rattle.far_types.specs.Table.{Place, Registered, Table, answer_now, rows_of, left}
 use Rattle.far_types.proofs.AnswersGrouping.{same, own_key, if_any, get-grouped, values_of-cons}
 use Rattle.far_types.proofs.AnswersByKeyMaps.{Entries, by_key, get_at, entries-by_key}
-use Rattle.far_aggregates.specs.Aggregates.{Answers}
+use Rattle.far_aggregates.specs.Aggregates.{Answers, ask_refusal}
 use Rattle.far_aggregates.specs.declared.line.Line.TheVariants as line
 use Rattle.far_aggregates.specs.Lines.{found_in, line_in, AnswersKey}
 use Rattle.far_aggregates.specs.Readings.{is_totals, all_values, plain_in}
@@ -29,8 +30,9 @@ use Rattle.far_table.specs.Watching.{aggregate_at}
 use Rattle.far_frame.specs.declared.step.Reply.TheVariants as reply
 use Rattle.far_frame.specs.declared.step.Step.TheVariants as step
 use Rattle.far_frame.specs.Worlds.{World}
-use Rattle.far_script.specs.Printing.{total_text, extrema_text}
+use Rattle.far_script.specs.Printing.{answer_text, total_text, extrema_text}
 use Rattle.far_commands.specs.Replies.{Takes}
+use Rattle.far_commands.specs.WorldRules.{both_rules}
 
 -- each pair is without a key
 AreKeyless : List Pair → Type 0
@@ -128,12 +130,22 @@ plain_answers places (Some a) x e =
     let parts = decoded a.spec.fold a.spec.key (left a.pending) x (all_values a.spec places) e in
     (parts.2, sym (plain_answer a.spec (rows_of places) parts.0 parts.1 ∙ ap (λ (t : ℕ × ℤ). answer.Totals ((None, t.0, t.1) ∷ [])) (sym parts.3)))
 
+may_ask : (table : Table) (found : Option Registered) (all : Answer) → Answers table.places found all → (ask_refusal found ≡ None) × IsSomeAnd found (λ aggregate. reply.Answer all ≡ reply.Answer (answer_now aggregate.spec table))
+may_ask table None all answers = absurd answers
+may_ask table (Some a) all answers = (ap (λ (n : ℕ). cond (n == 0) None (Some (refusal.Building n))) answers.0, ap reply.Answer answers.1)
+
+-- printing an answer is the reply to `Ask`
+asked : {S K : Type 0} (tickets : Tickets S K) (old : World K) (a : ℕ) (all : Answer) (text : List ℕ)
+    → Answers old.state.table.places (aggregate_at old.state.table a) all → text ≡ answer_text all → Takes (both_rules tickets) old (step.Ask a) text old
+asked tickets old a all text answers printed =
+    let may = may_ask old.state.table (aggregate_at old.state.table a) all answers in
+    (reply.Answer all, (((all, refl, answers, refl), refl), (may.0, (may.1, refl))), printed)
+
 -- printing the count and the sum that the aggregate holds is the reply to `Ask`
 pub asks : {S K : Type 0} (tickets : Tickets S K) (old : World K) (a : ℕ) (x : ℕ × ℤ) (text : List ℕ)
-    → Some x ≡ plain_in old.state.table.places (aggregate_at old.state.table a) → text ≡ total_text (None, x.0, x.1) → Takes tickets old (step.Ask a) text old
+    → Some x ≡ plain_in old.state.table.places (aggregate_at old.state.table a) → text ≡ total_text (None, x.0, x.1) → Takes (both_rules tickets) old (step.Ask a) text old
 asks tickets old a x text plain printed =
-    let found = answer.Totals ((None, x.0, x.1) ∷ []) in
-    (reply.Answer found, ((found, refl, plain_answers old.state.table.places (aggregate_at old.state.table a) x plain, refl), refl), printed ∙ sym (append-nil (total_text (None, x.0, x.1))))
+    asked tickets old a (answer.Totals ((None, x.0, x.1) ∷ [])) text (plain_answers old.state.table.places (aggregate_at old.state.table a) x plain) (printed ∙ sym (append-nil (total_text (None, x.0, x.1))))
 
 -- extrema without a key column have at most one line
 no_extrema : extrema_lines (extrema []) ≡ []
@@ -184,9 +196,9 @@ extrema_answers places (Some a) spec all m n is none answers line_is =
 pub asks_extrema : {S K : Type 0} (tickets : Tickets S K) (old : World K) (a : ℕ) (spec : Spec) (m n : ℤ) (text : List ℕ)
     → Some spec ≡ option_map (λ (aggregate : Registered). aggregate.spec) (aggregate_at old.state.table a) → spec.key ≡ None
     → AnswersKey old.state.table.places (aggregate_at old.state.table a) None (Some (line.Extrema m n))
-    → text ≡ extrema_text (None, m, n) → Takes tickets old (step.Ask a) text old
+    → text ≡ extrema_text (None, m, n) → Takes (both_rules tickets) old (step.Ask a) text old
 asks_extrema tickets old a spec m n text is none answers printed =
     let found = answer.Extrema ((None, m, n) ∷ []) in
     let all_is = extrema_answers old.state.table.places (aggregate_at old.state.table a) spec answers.0 m n is none answers.1 answers.2 in
     let right = subst (Answers old.state.table.places (aggregate_at old.state.table a)) all_is answers.1 in
-    (reply.Answer found, ((found, refl, right, refl), refl), printed ∙ sym (append-nil (extrema_text (None, m, n))))
+    asked tickets old a found text right (printed ∙ sym (append-nil (extrema_text (None, m, n))))

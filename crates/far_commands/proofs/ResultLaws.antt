@@ -5,6 +5,10 @@ pub each-ok : {T E : Type 0} (r : Result T E) (P Q : T → Type 0) → ((x : T) 
 each-ok (Ok x) P Q f h = f x h
 each-ok (Err e) P Q f h = tt
 
+pub each-err : {T E : Type 0} (r : Result T E) (P Q : E → Type 0) → ((e : E) → P e → Q e) → IfErr r P → IfErr r Q
+each-err (Ok x) P Q f h = tt
+each-err (Err e) P Q f h = f e h
+
 pub on-ok : {T E : Type 0} (r : Result T E) (P Q : Type 0) → (P → Q) → OnOk r P → OnOk r Q
 on-ok (Ok x) P Q f h = f h
 on-ok (Err e) P Q f h = tt
@@ -30,3 +34,8 @@ pub came-back : {T E U : Type 0} (r : Result U E) (m : Result T (E × T)) (place
 came-back (Ok u) m place P is h = tt
 came-back (Err e) (Ok x) place P is h = absurd is
 came-back (Err e) (Err back) place P is h = subst (P e) (sym is.1) (subst (λ why. P why back.1) is.0 h)
+
+-- a fact that holds of both outcomes holds
+pub both-ways : {T E : Type 0} (r : Result T E) (P : Type 0) → OnOk r P → IfErr r (λ e. P) → P
+both-ways (Ok x) P ok err = ok
+both-ways (Err e) P ok err = err

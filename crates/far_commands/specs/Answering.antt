@@ -2,7 +2,7 @@
 use Rattle.std.specs.Prelude.{◌≡◌, ℕ, List, Option, true}
 use Rattle.std.specs.declared.io.traits.Read.{Ghosts}
 use Rattle.std.specs.declared.io.traits.Write.{Ghosts as Writes}
-use Rattle.far_store.specs.declared.store.FarTickets.{Ghosts as Tickets}
+use Rattle.far_frame.specs.Worlds.{World}
 use Rattle.far_script.specs.declared.sink.Sink.{Ghosts as Sinks}
 use Rattle.far_script.specs.declared.fault.ShellFault.{ShellFault}
 use Rattle.far_script.specs.declared.fault.ShellFault.TheVariants as fault
@@ -14,26 +14,28 @@ use Rattle.far_commands.specs.Commands.{command_of}
 use Rattle.far_commands.specs.Cuts.{Fails, TakesFor}
 use Rattle.far_commands.specs.Progress.{At}
 use Rattle.far_commands.specs.Replies.{AnswersLine}
+use Rattle.far_commands.specs.Rules.{Rules}
 
 module _ {R : Type 0} (read : Ghosts R) (old : Input R read) (line : ByteRange)
     (new : Input R read) where
   -- the line is answered: the bytes of its load are taken from the input, and its reply is printed
-  abbrev pub IsAnswered : {S K : Type 0} → Tickets S K → At K → At K → Option (List ℕ) → List ℕ
-      → Option (List ℕ) → List ℕ → Type 0
-  IsAnswered tickets at next written held wrote left =
+  abbrev pub IsAnswered :
+      {W : Type 0} → Rules W → At W → At W → Option (List ℕ) → List ℕ → Option (List ℕ) → List ℕ
+      → Type 0
+  IsAnswered rules at next written held wrote left =
       (rows : List ℕ) × (text : List ℕ) × Reads read old rows new
       × Prints written held text wrote left
-      × AnswersLine tickets at (bytes_in read old line) rows text next
+      × AnswersLine rules at (bytes_in read old line) rows text next
 
   -- the line can get no reply, for what came after it
-  abbrev pub StopsAtLine : {K : Type 0} → Type 0 → At K → Type 0
+  abbrev pub StopsAtLine : {K : Type 0} → Type 0 → At (World K) → Type 0
   StopsAtLine may_fail at =
       Stops read
       (λ behind rest. Fails (IsShort read may_fail old new rest) at.world.state.table.schema
       (bytes_in read old line) behind) old new
 
   -- the bytes taken after the line are none, or all rows of its load
-  abbrev pub TakesForLine : {K : Type 0} → At K → Type 0
+  abbrev pub TakesForLine : {K : Type 0} → At (World K) → Type 0
   TakesForLine at =
       TakesFor read (command_of at.world.state.table.schema (bytes_in read old line)) old new
 

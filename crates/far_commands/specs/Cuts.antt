@@ -3,6 +3,7 @@ use Rattle.std.specs.Prelude.{◌≡◌, ◌⊎◌, ◌<◌, ◌≤◌, ℕ, Lis
 use Rattle.std.specs.declared.io.traits.Read.{Ghosts}
 use Rattle.far_types.specs.declared.cell.Kind.{Kind}
 use Rattle.far_frame.specs.State.{live}
+use Rattle.far_frame.specs.Worlds.{World}
 use Rattle.far_script.specs.declared.fault.ShellFault.{ShellFault}
 use Rattle.far_script.specs.declared.fault.ShellFault.TheVariants as fault
 use Rattle.far_script.specs.declared.input.Input.{Input}
@@ -42,7 +43,7 @@ abbrev pub Fails : Type 0 → List Kind → List ℕ → List ℕ → Type 0
 Fails short kinds line behind = ¬ (IsUtf8 line) ⊎ FailsBy short (command_of kinds line) behind
 
 -- a line is the command `dump`, and this text is its reply
-abbrev pub IsListing : {K : Type 0} → At K → List ℕ → List ℕ → Type 0
+abbrev pub IsListing : {K : Type 0} → At (World K) → List ℕ → List ℕ → Type 0
 IsListing at line text = (command_of at.world.state.table.schema line ≡ Some command.Dump)
     × (text ≡ listing_of (live at.world.state))
 

@@ -9,3 +9,6 @@ pub mod Listings
 pub mod Loading
 pub mod Pieces
 pub mod Progress
+pub mod Rules
+pub mod TableRules
+pub mod WorldRules

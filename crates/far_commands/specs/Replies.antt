@@ -4,25 +4,20 @@ use Rattle.csv.specs.Reading.{default_config, records, strip_bom}
 use Rattle.far_types.specs.declared.cell.Kind.{Kind}
 use Rattle.far_types.specs.declared.edit.Edit.TheVariants as edit
 use Rattle.far_types.specs.declared.refusal.Refusal.{Refusal}
-use Rattle.far_store.specs.declared.store.FarTickets.{Ghosts as Tickets}
 use Rattle.far_frame.specs.declared.step.Step.{Step}
 use Rattle.far_frame.specs.declared.step.Step.TheVariants as step
 use Rattle.far_frame.specs.declared.step.Reply.{Reply}
 use Rattle.far_frame.specs.declared.step.Reply.TheVariants as reply
 use Rattle.far_frame.specs.Lending.{int_piece, text_piece}
-use Rattle.far_frame.specs.State.{live}
-use Rattle.far_frame.specs.Steps.{IsStep}
-use Rattle.far_frame.specs.Worlds.{World, HasOwnTickets}
 use Rattle.far_commands.specs.declared.command.Command.{Command}
 use Rattle.far_commands.specs.declared.command.Command.TheVariants as command
 use Rattle.far_script.specs.Fields.{cells_from}
 use Rattle.far_commands.specs.Commands.{command_of}
-use Rattle.far_commands.specs.Listings.{listing_of}
 use Rattle.far_commands.specs.Pieces.{pieces_text, next_text}
 use Rattle.far_script.specs.Printing.{numbered_text, answer_text, refusal_text}
 use Rattle.far_commands.specs.Progress.{At}
 use Rattle.far_commands.specs.Recounts.{Recounts}
-use Rattle.far_commands.specs.Renewals.{Renews}
+use Rattle.far_commands.specs.Rules.{Rules}
 
 -- the text for `Done` as the reply to this step
 abbrev pub done_text : Step → List ℕ
@@ -54,52 +49,51 @@ AfterReply _ ends goes = goes
 abbrev pub records_of : List ℕ → List (List (List ℕ))
 records_of text = records default_config (strip_bom text)
 
-module _ {S K : Type 0} (tickets : Tickets S K) where
+module _ {W : Type 0} (rules : Rules W) where
   -- a step is served, and the text is its reply
-  abbrev pub Takes : World K → Step → List ℕ → World K → Type 0
-  Takes old s text new = (given : Reply) × IsStep tickets.content tickets.number_of old s given new
+  abbrev pub Takes : W → Step → List ℕ → W → Type 0
+  Takes old s text new = (given : Reply) × rules.Steps old s given new
       × (text ≡ reply_text (done_text s) given)
 
   -- the records of a load are inserted in order, up to the first that is refused. `count` were inserted before
-  abbrev pub Loads : ℕ → World K → List (List (List ℕ)) → List ℕ → World K → Type 0
+  abbrev pub Loads : ℕ → W → List (List (List ℕ)) → List ℕ → W → Type 0
   Loads count old [] text new = (new ≡ old) × (text ≡ numbered_text (codes "loaded") count)
   Loads count old (fields ∷ more) text new =
-      (given : Reply) × (mid : World K)
-      × IsStep tickets.content tickets.number_of old
-      (insert_of_record old.state.table.schema fields) given mid
+      (given : Reply) × (mid : W)
+      × rules.Steps old (insert_of_record (rules.table_in old).schema fields) given mid
       × AfterReply given
       (λ refusal. (new ≡ mid)
       × (text ≡ numbered_text (codes "loaded") count ++ refusal_text refusal))
       (Loads (count + 1) mid more text new)
 
   -- a command is served, and the text is its reply. `rows` are the bytes of its load, and empty for any other command
-  abbrev pub Serves : World K → Command → List ℕ → List ℕ → World K → Type 0
+  abbrev pub Serves : W → Command → List ℕ → List ℕ → W → Type 0
   Serves old (command.Step s) rows text new = (rows ≡ []) × Takes old s text new
   Serves old (command.Load count) rows text new = (length rows ≡ count)
       × IsUtf8 rows
       × Loads 0 old (records_of rows) text new
   Serves old command.Dump rows text new = (rows ≡ [])
-      × (text ≡ listing_of (live old.state))
+      × rules.Lists old text
       × (new ≡ old)
   Serves old (command.Renew capacity) rows text new = (rows ≡ [])
-      × Renews tickets capacity old text new
+      × rules.Moves capacity old text new
   Serves old (command.Recount a) rows text new = (rows ≡ [])
-      × Recounts old.state.table a text
+      × Recounts (rules.table_in old) a text
       × (new ≡ old)
 
-  -- a line is served, and the text is its reply. If it spells no command, the world does not change
-  abbrev pub ServesLine : ℕ → World K → Option Command → List ℕ → List ℕ → World K → Type 0
+  -- a line is served, and the text is its reply. If it spells no command, nothing changes
+  abbrev pub ServesLine : ℕ → W → Option Command → List ℕ → List ℕ → W → Type 0
   ServesLine number old None rows text new = (rows ≡ [])
       × (text ≡ numbered_text (codes "syntax command") number)
       × (new ≡ old)
   ServesLine number old (Some asked) rows text new = Serves old asked rows text new
 
   -- a line is answered. An empty line has no reply and is no command. Any other is valid UTF-8 and counts as the next
-  -- command; after it every ticket is of the world's store, also one that a carry or a renewal got
-  abbrev pub AnswersLine : At K → List ℕ → List ℕ → List ℕ → At K → Type 0
+  -- command
+  abbrev pub AnswersLine : At W → List ℕ → List ℕ → List ℕ → At W → Type 0
   AnswersLine old [] rows text new = (rows ≡ []) × (text ≡ []) × (new ≡ old)
   AnswersLine old (c ∷ cs) rows text new =
       IsUtf8 (c ∷ cs) × (new.number ≡ old.number + 1)
-      × ServesLine new.number old.world (command_of old.world.state.table.schema (c ∷ cs)) rows text
-      new.world
-      × HasOwnTickets tickets.is_of new.world
+      × ServesLine new.number old.world (command_of (rules.table_in old.world).schema (c ∷ cs))
+      rows text new.world
+      × rules.Stays new.world

@@ -3,10 +3,13 @@ ghost use Rattle.std.specs.Prelude.{◌≡◌, ℕ, List, [], ◌∷◌, true, f
 ghost use Rattle.std.specs.List.{slice_split};
 ghost use Rattle.csv.specs.Records.{fields_of};
 ghost use Rattle.far_frame.specs.Steps.{IsStep};
+ghost use Rattle.far_frame.specs.TableRuns.{IsTableStep};
+ghost use Rattle.far_frame.specs.TableViews.{table_of};
 ghost use Rattle.far_script.specs.OneRecord.{is_comma};
 ghost use Rattle.far_script.specs.PlainLines.{are_plain_lines};
 ghost use Rattle.far_commands.specs.Loading.{Remains, loaded_text};
 ghost use Rattle.far_commands.specs.Replies.{Loads, insert_of_record, records_of};
+ghost use Rattle.far_commands.specs.WorldRules.{both_rules};
 
 use csv::{Reader, ReaderBuilder, StringRecord};
 use far_frame::{Reply, World};
@@ -38,6 +41,10 @@ fn insert_record<S: FarStore>(
         (λ reply. IsStep S.content S.number_of world.old
         (insert_of_record world.old.state.table.schema (fields_of fields.now)) reply
         world.new) }
+    ensures table { IfOk result
+        (λ reply. IsTableStep (table_of world.old.state)
+        (insert_of_record world.old.state.table.schema (fields_of fields.now)) reply
+        (table_of world.new.state)) }
     ensures faults { world.new.faults ≡ world.old.faults }
     ensures memory { IfErr result (λ e. e ≡ Refusal.NoMemory) }
 {
@@ -55,6 +62,10 @@ fn insert_line<S: FarStore>(
         (λ reply. IsStep S.content S.number_of world.old
         (insert_of_record world.old.state.table.schema (slice_split is_comma line.now)) reply
         world.new) }
+    ensures table { IfOk result
+        (λ reply. IsTableStep (table_of world.old.state)
+        (insert_of_record world.old.state.table.schema (slice_split is_comma line.now)) reply
+        (table_of world.new.state)) }
     ensures faults { world.new.faults ≡ world.old.faults }
     ensures memory { IfErr result (λ e. e ≡ Refusal.NoMemory) }
 {
@@ -73,7 +84,7 @@ fn load_lines<S: FarStore>(
 ) -> Result<Loaded, Refusal>
     requires { are_plain_lines text.now ≡ true }
     ensures ok { IfOk result
-        (λ loaded. Loads S.FarTickets 0 world.old (records_of text.now)
+        (λ loaded. Loads (both_rules S.FarTickets) 0 world.old (records_of text.now)
         (loaded_text loaded.count loaded.refusal) world.new) }
     ensures faults { world.new.faults ≡ world.old.faults }
     ensures memory { IfErr result (λ e. e ≡ Refusal.NoMemory) }
@@ -129,7 +140,8 @@ fn insert_records<S: FarStore, R: Read>(
 ) -> Result<Loaded, Refusal>
     ensures ok { IfOk result
         (λ loaded. (rows : List (List (List ℕ))) → Remains R.remaining reader.old rows
-        → Loads S.FarTickets 0 world.old rows (loaded_text loaded.count loaded.refusal) world.new) }
+        → Loads (both_rules S.FarTickets) 0 world.old rows
+        (loaded_text loaded.count loaded.refusal) world.new) }
     ensures faults { world.new.faults ≡ world.old.faults }
     ensures memory { IfErr result (λ e. e ≡ Refusal.NoMemory) }
 {
@@ -159,7 +171,7 @@ fn load_records<S: FarStore>(
     text: &str,
 ) -> Result<Loaded, Refusal>
     ensures ok { IfOk result
-        (λ loaded. Loads S.FarTickets 0 world.old (records_of text.now)
+        (λ loaded. Loads (both_rules S.FarTickets) 0 world.old (records_of text.now)
         (loaded_text loaded.count loaded.refusal) world.new) }
     ensures faults { world.new.faults ≡ world.old.faults }
     ensures memory { IfErr result (λ e. e ≡ Refusal.NoMemory) }
@@ -179,7 +191,7 @@ fn insert_all<S: FarStore>(
     text: &str,
 ) -> Result<Loaded, Refusal>
     ensures ok { IfOk result
-        (λ loaded. Loads S.FarTickets 0 world.old (records_of text.now)
+        (λ loaded. Loads (both_rules S.FarTickets) 0 world.old (records_of text.now)
         (loaded_text loaded.count loaded.refusal) world.new) }
     ensures faults { world.new.faults ≡ world.old.faults }
     ensures memory { IfErr result (λ e. e ≡ Refusal.NoMemory) }
@@ -213,7 +225,7 @@ pub fn load<S: FarStore>(
     reply: &mut Page,
 ) -> Result<(), Refusal>
     ensures ok { OnOk result
-        (Loads S.FarTickets 0 world.old (records_of text.now) reply.new world.new) }
+        (Loads (both_rules S.FarTickets) 0 world.old (records_of text.now) reply.new world.new) }
     ensures faults { world.new.faults ≡ world.old.faults }
     ensures memory { IfErr result (λ e. e ≡ Refusal.NoMemory) }
 {

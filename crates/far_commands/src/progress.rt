@@ -16,9 +16,10 @@ pub struct Progress<S: FarStore> {
 
 impl<S: FarStore> Model for Progress<S> {
     ghost use Rattle.std.specs.Prelude.{◌≤◌};
+    ghost use Rattle.far_frame.specs.Worlds.{World};
     ghost use Rattle.far_commands.specs.Progress.{At};
 
-    ghost Value = { At S.Ticket };
+    ghost Value = { At (World S.Ticket) };
 
     ghost view = { λ progress. record { world = progress.world; number = progress.number } };
 

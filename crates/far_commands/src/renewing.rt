@@ -1,6 +1,7 @@
 // Moves the far copies of a table to a new store.
 ghost use Rattle.std.specs.Prelude.{◌≡◌, ◌+◌, ◌≤◌, ◌<◌, ◌^◌, OnOk, IfErr, IsErrAnd, IsOkAnd};
 ghost use Rattle.far_frame.specs.Renewing.{IsMigratedTo};
+ghost use Rattle.far_frame.specs.TableViews.{table_of};
 ghost use Rattle.far_commands.specs.Renewals.{IsRenewed, IsNotRenewed, Renews};
 
 use super::opening::open_table;
@@ -66,6 +67,7 @@ fn migrate<S: FarStore>(world: &mut World<S>, empty: World<S>, store: S) -> Resu
     requires few { world.old.faults < 2 ^ 62 }
     ensures renewed { OnOk result
         (IsMigratedTo S.content S.content (S.store_id store) world.old world.new) }
+    ensures table { table_of world.new.state ≡ table_of world.old.state }
     ensures back { IfErr result (λ e. IsNotRenewed world.old e world.new) }
 {
     let old = mem::replace(world, empty);
@@ -81,6 +83,7 @@ fn go_on<S: FarStore, A: Resources<S>>(
 ) -> Result<(), Refusal>
     requires few { world.old.faults < 2 ^ 62 }
     ensures renewed { OnOk result (IsRenewed S.FarTickets capacity world.old world.new) }
+    ensures table { table_of world.new.state ≡ table_of world.old.state }
     ensures back { IfErr result (λ e. IsNotRenewed world.old e world.new) }
 {
     let store = resources.store(u64::from(capacity))?;
@@ -99,6 +102,7 @@ pub fn renew<S: FarStore, A: Resources<S>>(
 ) -> Result<(), Refusal>
     requires few { world.old.faults < 2 ^ 62 }
     ensures ok { OnOk result (Renews S.FarTickets capacity world.old reply.new world.new) }
+    ensures table { table_of world.new.state ≡ table_of world.old.state }
     ensures faults { world.new.faults ≤ world.old.faults + 1 }
     ensures memory { IfErr result (λ e. e ≡ Refusal.NoMemory) }
 {

@@ -1,6 +1,8 @@
 // Serves lines as commands and prints their replies.
 ghost use Rattle.std.specs.Prelude.{◌≡◌, ℕ, List, ◌++◌, ◌+◌, ◌≤◌, ◌<◌, ◌^◌, true, false, codes, IfOk, IfErr, OnOk, OnErr, Some};
 ghost use Rattle.far_frame.specs.State.{live};
+ghost use Rattle.far_frame.specs.TableViews.{gone_at};
+ghost use Rattle.far_frame.specs.Views.{away};
 ghost use Rattle.far_commands.specs.Answering.{IsAnswered, IsOfWrite, StopsAtLine, TakesForLine};
 ghost use Rattle.far_commands.specs.Cuts.{FailsBy, IsListing, PrintsCut, TakesFor};
 ghost use Rattle.far_script.specs.Faults.{IfInput, IfHalted};
@@ -8,6 +10,7 @@ ghost use Rattle.far_script.specs.Flow.{Holds, IsShort, Prints, Reads, Stops, by
 ghost use Rattle.far_script.specs.Printing.{numbered_text};
 ghost use Rattle.far_commands.specs.Listings.{listing_of};
 ghost use Rattle.far_commands.specs.Replies.{Serves, Takes, done_text, reply_text};
+ghost use Rattle.far_commands.specs.WorldRules.{both_rules};
 
 use super::command::{Command, parse};
 use super::lending::lent;
@@ -67,7 +70,8 @@ fn take_lending<S: FarStore>(
 ) -> Result<bool, Refusal>
     ensures lent { IfOk result
         (λ lent. lent ≡ true
-        → Takes S.FarTickets world.old (Step.Lend column from to) reply.new world.new) }
+        → Takes (both_rules S.FarTickets) world.old (Step.Lend column from to) reply.new
+        world.new) }
     ensures refused { IfOk result (λ lent. lent ≡ false → world.new ≡ world.old) }
     ensures faults { world.new.faults ≡ world.old.faults }
     ensures memory { IfErr result (λ e. e ≡ Refusal.NoMemory) }
@@ -75,6 +79,8 @@ fn take_lending<S: FarStore>(
     if !lent(reply, world.frame(), column, from, to)? {
         return Ok(false);
     }
+    // For the proof: shows that the limits are valid.
+    let _limits = world.frame().limits();
     match world.record_lending(column, from, to) {
         Ok(()) => Ok(true),
         Err(_) => Ok(false),
@@ -91,7 +97,7 @@ fn take_lend<S: FarStore>(
 ) -> Result<(), Refusal>
     requires few { world.old.faults < 2 ^ 62 }
     ensures ok { OnOk result
-        (Takes S.FarTickets world.old (Step.Lend column from to) reply.new world.new) }
+        (Takes (both_rules S.FarTickets) world.old (Step.Lend column from to) reply.new world.new) }
     ensures faults { world.new.faults ≤ world.old.faults + 1 }
     ensures memory { IfErr result (λ e. e ≡ Refusal.NoMemory) }
 {
@@ -107,7 +113,8 @@ fn take_lend<S: FarStore>(
 /// another form or has pending row groups.
 fn answer_plain<S: FarStore>(world: &World<S>, a: u32, reply: &mut Page) -> Result<bool, Refusal>
     ensures plain { IfOk result
-        (λ plain. plain ≡ true → Takes S.FarTickets world.now (Step.Ask a) reply.new world.now) }
+        (λ plain. plain ≡ true
+        → Takes (both_rules S.FarTickets) world.now (Step.Ask a) reply.new world.now) }
     ensures memory { IfErr result (λ e. e ≡ Refusal.NoMemory) }
 {
     let Some((count, sum)) = world.frame().plain(a) else {
@@ -122,7 +129,8 @@ fn answer_plain<S: FarStore>(world: &World<S>, a: u32, reply: &mut Page) -> Resu
 /// there are no such extrema, they have no line, or row groups are pending.
 fn answer_extrema<S: FarStore>(world: &World<S>, a: u32, reply: &mut Page) -> Result<bool, Refusal>
     ensures plain { IfOk result
-        (λ plain. plain ≡ true → Takes S.FarTickets world.now (Step.Ask a) reply.new world.now) }
+        (λ plain. plain ≡ true
+        → Takes (both_rules S.FarTickets) world.now (Step.Ask a) reply.new world.now) }
     ensures memory { IfErr result (λ e. e ≡ Refusal.NoMemory) }
 {
     let frame = world.frame();
@@ -143,7 +151,8 @@ fn answer_extrema<S: FarStore>(world: &World<S>, a: u32, reply: &mut Page) -> Re
 /// Serves `ask`, and prints the answer or the refusal.
 fn take_ask<S: FarStore>(world: &mut World<S>, a: u32, reply: &mut Page) -> Result<(), Refusal>
     requires few { world.old.faults < 2 ^ 62 }
-    ensures ok { OnOk result (Takes S.FarTickets world.old (Step.Ask a) reply.new world.new) }
+    ensures ok { OnOk result
+        (Takes (both_rules S.FarTickets) world.old (Step.Ask a) reply.new world.new) }
     ensures faults { world.new.faults ≤ world.old.faults + 1 }
     ensures memory { IfErr result (λ e. e ≡ Refusal.NoMemory) }
 {
@@ -157,7 +166,7 @@ fn take_ask<S: FarStore>(world: &mut World<S>, a: u32, reply: &mut Page) -> Resu
 /// Serves a step, and prints its reply. Edits, which most steps are, go to the table on a shorter path.
 fn take_step<S: FarStore>(world: &mut World<S>, step: Step, reply: &mut Page) -> Result<(), Refusal>
     requires few { world.old.faults < 2 ^ 62 }
-    ensures ok { OnOk result (Takes S.FarTickets world.old step reply.new world.new) }
+    ensures ok { OnOk result (Takes (both_rules S.FarTickets) world.old step reply.new world.new) }
     ensures faults { world.new.faults ≤ world.old.faults + 1 }
     ensures memory { IfErr result (λ e. e ≡ Refusal.NoMemory) }
 {
@@ -176,6 +185,33 @@ fn take_step<S: FarStore>(world: &mut World<S>, step: Step, reply: &mut Page) ->
     }
 }
 
+/// For the proof: shows that the object that the refusal of a dump names is away in the table too. Changes nothing: asks for
+/// an eviction of the object, which is refused.
+fn show_named<S: FarStore>(world: &mut World<S>, refusal: Refusal)
+    requires few { world.old.faults < 2 ^ 62 }
+    requires named { away (live world.old.state) ≡ Some refusal }
+    ensures away { (c : ℕ) → (g : ℕ) → refusal ≡ Refusal.Absent c g
+        → gone_at world.old.state.rows c g ≡ true }
+    ensures same { world.new ≡ world.old }
+{
+    if let Refusal::Absent { column, group } = refusal {
+        drop(world.serve(Step::BeginEvac { column, group }));
+    }
+}
+
+/// For the proof: shows that an object of which a dump would say that it is away is so in the table too. Changes nothing.
+fn show_away<S: FarStore>(world: &mut World<S>)
+    requires few { world.old.faults < 2 ^ 62 }
+    ensures away { (c : ℕ) → (g : ℕ) → away (live world.old.state) ≡ Some (Refusal.Absent c g)
+        → gone_at world.old.state.rows c g ≡ true }
+    ensures same { world.new ≡ world.old }
+{
+    match world.frame().scope().all() {
+        Ok(()) => {}
+        Err(refusal) => show_named(world, refusal),
+    }
+}
+
 /// Serves `load`: takes this many bytes after the line, inserts their rows, and prints the reply.
 fn serve_load<S: FarStore, R: Source + Drop, W: Sink>(
     alloc: Global,
@@ -189,7 +225,7 @@ fn serve_load<S: FarStore, R: Source + Drop, W: Sink>(
         ((rows : List ℕ) × (text : List ℕ) × Reads R.Read input.old rows input.new
         × Prints (W.contents writer.old) output.old.page text (W.contents writer.new)
         output.new.page
-        × Serves S.FarTickets world.old (Command.Load count) rows text world.new) }
+        × Serves (both_rules S.FarTickets) world.old (Command.Load count) rows text world.new) }
     ensures err { IfErr result
         (λ fault. PrintsCut fault (λ said. ⊥) (W.contents writer.old) output.old.page
         (W.contents writer.new) output.new.page) }
@@ -224,7 +260,7 @@ fn serve_command<S: FarStore, A: Resources<S>, R: Source + Drop, W: Sink>(
         ((rows : List ℕ) × (text : List ℕ) × Reads R.Read input.old rows input.new
         × Prints (W.contents writer.old) output.old.page text (W.contents writer.new)
         output.new.page
-        × Serves S.FarTickets world.old command rows text world.new) }
+        × Serves (both_rules S.FarTickets) world.old command rows text world.new) }
     ensures err { IfErr result
         (λ fault. PrintsCut fault
         (λ said. (command ≡ Command.Dump) × (said ≡ listing_of (live world.old.state)))
@@ -246,7 +282,10 @@ fn serve_command<S: FarStore, A: Resources<S>, R: Source + Drop, W: Sink>(
             output.add_printed(printed)
         }
         Command::Load(count) => serve_load(resources.alloc(), world, count, input, output, writer),
-        Command::Dump => dump(world.frame(), output, writer),
+        Command::Dump => {
+            show_away(world);
+            dump(world.frame(), output, writer)
+        }
         Command::Renew(capacity) => {
             let printed = renew(resources, world, capacity, &mut output.reply);
             output.add_printed(printed)
@@ -282,8 +321,9 @@ pub fn answer_line<S: FarStore, A: Resources<S>, R: Source + Drop, W: Sink>(
     requires held { Holds R.Read input.old line }
     requires few { progress.old.number < 4294967295 }
     ensures ok { OnOk result
-        (IsAnswered R.Read input.old line input.new S.FarTickets progress.old progress.new
-        (W.contents writer.old) output.old.page (W.contents writer.new) output.new.page) }
+        (IsAnswered R.Read input.old line input.new (both_rules S.FarTickets) progress.old
+        progress.new (W.contents writer.old) output.old.page (W.contents writer.new)
+        output.new.page) }
     ensures err { IfErr result
         (λ fault. PrintsCut fault (IsListing progress.old (bytes_in R.Read input.old line))
         (W.contents writer.old) output.old.page (W.contents writer.new) output.new.page) }

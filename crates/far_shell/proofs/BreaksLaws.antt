@@ -12,7 +12,7 @@ use Rattle.far_shell.specs.Breaks.{Breaks, EndsBy, IsBroken, IsSplit, IsUnfinish
 use Rattle.far_script.specs.Faults.{IfInput, IsCut}
 use Rattle.far_script.specs.Flow.{Counts, Gives, IsOver, IsAtEnd, IsUnseen, Prints, Reads, unread}
 use Rattle.far_script.specs.Openings.{Opened, Schema, start_in}
-use Rattle.far_shell.specs.Scripts.{Begins}
+use Rattle.far_shell.specs.Scripts.{Begins, IsScript}
 use Rattle.far_shell.specs.Sessions.{IsAnswered}
 use Rattle.far_script.proofs.FlowLaws.{no-rest, prints-nothing-then, prints-then-nothing}
 use Rattle.far_shell.proofs.ScriptsLaws.{begins-then}
@@ -104,7 +104,7 @@ breaks-unwritten tickets unseen spent splits may_fail u v w why bytes rest text 
     record { bytes = bytes; rest = rest; text = text; sent = all.0; lost = lost; written = all.1; said = all.2; ends = (cause, inr (why, (split, b))) }
 
 -- the script gets all its replies, and then a write fails
-pub whole-unwritten : {S K : Type 0} (tickets : Tickets S K) (unseen spent : List ℕ → Type 0) (splits : ShellFault → List ℕ → List ℕ → Type 0) (may_fail : Bool) (u v w : Option (List ℕ)) (script rest text left lost : List ℕ) → IsTrue may_fail → splits fault.Output script rest → Prints u [] text v left → IsAnswered tickets script (rest ≡ []) text → Prints v left [] w lost
+pub whole-unwritten : {S K : Type 0} (tickets : Tickets S K) (unseen spent : List ℕ → Type 0) (splits : ShellFault → List ℕ → List ℕ → Type 0) (may_fail : Bool) (u v w : Option (List ℕ)) (script rest text left lost : List ℕ) → IsTrue may_fail → splits fault.Output script rest → Prints u [] text v left → IsAnswered (IsScript tickets) script (rest ≡ []) text → Prints v left [] w lost
     → Breaks tickets unseen spent splits may_fail u w fault.Output
 whole-unwritten tickets unseen spent splits may_fail u v w script rest text left lost cause begins p s q =
     let all = prints-then-nothing u v w [] text left lost p q in
@@ -131,8 +131,8 @@ module _ {S K : Type 0} (tickets : Tickets S K) (P Q A B : List ℕ → Type 0) 
   split-as : (why : ShellFault) (bytes rest text : List ℕ) → IsSplit tickets P A splits why bytes rest text → IsSplit tickets Q B others why bytes rest text
   split-as why bytes rest text h = (g why bytes rest h.0, broken-as tickets P Q A B why bytes rest text (f why bytes rest h.0) (s rest) h.1)
 
-  unwritten-as : (bytes rest text : List ℕ) → (splits fault.Output bytes rest × IsAnswered tickets bytes (rest ≡ []) text) ⊎ ((why : ShellFault) × IsSplit tickets P A splits why bytes rest text)
-      → (others fault.Output bytes rest × IsAnswered tickets bytes (rest ≡ []) text) ⊎ ((why : ShellFault) × IsSplit tickets Q B others why bytes rest text)
+  unwritten-as : (bytes rest text : List ℕ) → (splits fault.Output bytes rest × IsAnswered (IsScript tickets) bytes (rest ≡ []) text) ⊎ ((why : ShellFault) × IsSplit tickets P A splits why bytes rest text)
+      → (others fault.Output bytes rest × IsAnswered (IsScript tickets) bytes (rest ≡ []) text) ⊎ ((why : ShellFault) × IsSplit tickets Q B others why bytes rest text)
   unwritten-as bytes rest text (inl h) = inl (g fault.Output bytes rest h.0, h.1)
   unwritten-as bytes rest text (inr h) = inr (h.0, split-as h.0 bytes rest text h.1)
 

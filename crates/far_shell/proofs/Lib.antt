@@ -10,3 +10,4 @@ mod HistoriesOneSession
 mod RunsGauge
 mod RunsLaws
 mod RunsTotals
+pub mod SeenLaws

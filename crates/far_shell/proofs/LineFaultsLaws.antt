@@ -9,12 +9,14 @@ use Rattle.far_script.specs.declared.fault.ShellFault.{ShellFault}
 use Rattle.far_script.specs.declared.fault.ShellFault.TheVariants as fault
 use Rattle.far_script.specs.declared.input.Input.{Input}
 use Rattle.far_types.specs.declared.cell.Kind.{Kind}
+use Rattle.far_frame.specs.Worlds.{World}
 use Rattle.far_commands.specs.Commands.{command_of}
 use Rattle.far_commands.specs.Cuts.{IsListing, Fails, PrintsCut, TakesFor}
 use Rattle.far_shell.specs.LineFaults.{BreaksIn, BreaksLater, BreaksOff, BreaksServing, HasNotBegun, HasNoTurn, IsAtStart, IsRefused, IsStopped, IsUnknown, Rejection, Rejects}
 use Rattle.far_script.specs.Faults.{IfInput, IfHalted}
 use Rattle.far_script.specs.Flow.{Counts, Gives, IsOver, IsShort, IsAtEnd, Prints, Reads, StartsWith, Stops}
 use Rattle.far_commands.specs.Progress.{At}
+use Rattle.far_commands.specs.WorldRules.{world_rules}
 use Rattle.far_script.specs.Lines.{Blank, IsOneLine, without_return}
 use Rattle.far_script.specs.Openings.{Opened}
 use Rattle.far_shell.specs.Scripts.{AnswersLines, Begins, IsNew}
@@ -76,11 +78,11 @@ module _ {R : Type 0} (read : Ghosts R) {S K : Type 0} (tickets : Tickets S K) (
   Short new rest = IsOver read new rest ⊎ unseen
 
   -- the lines of a script end early
-  abbrev pub Ending : Input R read → Input R read → Option (List ℕ) → Option (List ℕ) → List ℕ → List ℕ → At K → ShellFault → Type 0
+  abbrev pub Ending : Input R read → Input R read → Option (List ℕ) → Option (List ℕ) → List ℕ → List ℕ → At (World K) → ShellFault → Type 0
   Ending first new a b h k old why = (all : List ℕ) × (rest : List ℕ) × (said : List ℕ) × Gives read why first new all rest × Prints a h said b k × BreaksOff tickets unseen (IsOver read new rest) old why all rest said
 
-  between : (first after new : Input R read) (a b : Option (List ℕ)) (h k : List ℕ) (old at : At K) (bytes text : List ℕ) (why : ShellFault)
-      → IfInput why (Counts read first bytes new) → IfHalted why (Reads read first bytes new) → BreaksIn unseen (IsOver read new (coming read after)) why at [] (coming read after) [] → Reads read first bytes after → Prints a h text b k → AnswersLines tickets old bytes text at → Ending first new a b h k old why
+  between : (first after new : Input R read) (a b : Option (List ℕ)) (h k : List ℕ) (old at : At (World K)) (bytes text : List ℕ) (why : ShellFault)
+      → IfInput why (Counts read first bytes new) → IfHalted why (Reads read first bytes new) → BreaksIn unseen (IsOver read new (coming read after)) why at [] (coming read after) [] → Reads read first bytes after → Prints a h text b k → AnswersLines (world_rules tickets) old bytes text at → Ending first new a b h k old why
   between first after new a b h k old at bytes text why counts taken cut p q r = (
     bytes,
     coming read after,
@@ -91,8 +93,8 @@ module _ {R : Type 0} (read : Ghosts R) {S K : Type 0} (tickets : Tickets S K) (
   )
 
   -- no whole turn follows
-  stopped : (first after new : Input R read) (a b : Option (List ℕ)) (h k : List ℕ) (old at : At K) (bytes text : List ℕ)
-      → Reads read first bytes after → Prints a h text b k → AnswersLines tickets old bytes text at → Stops read (λ bytes rest. HasNoTurn unseen (IsOver read new rest) (Fails (Short new rest) at.world.state.table.schema) bytes) after new → Ending first new a b h k old fault.Input
+  stopped : (first after new : Input R read) (a b : Option (List ℕ)) (h k : List ℕ) (old at : At (World K)) (bytes text : List ℕ)
+      → Reads read first bytes after → Prints a h text b k → AnswersLines (world_rules tickets) old bytes text at → Stops read (λ bytes rest. HasNoTurn unseen (IsOver read new rest) (Fails (Short new rest) at.world.state.table.schema) bytes) after new → Ending first new a b h k old fault.Input
   stopped first after new a b h k old at bytes text p q r s = (
     bytes ++ s.0,
     s.1,
@@ -103,8 +105,8 @@ module _ {R : Type 0} (read : Ghosts R) {S K : Type 0} (tickets : Tickets S K) (
   )
 
   -- the script ends between two lines
-  pub breaks-between : (first after new : Input R read) (a b : Option (List ℕ)) (h k : List ℕ) (old at : At K) (bytes text : List ℕ) (why : ShellFault) → (why ≡ fault.BadStart → ⊥) → (why ≡ fault.Turns → ⊥)
-      → Reads read first bytes after → Prints a h text b k → AnswersLines tickets old bytes text at → IfInput why unseen → IfInput why (Stops read (λ bytes rest. IsOneLine bytes) after new) → IfHalted why (Reads read after [] new) → Ending first new a b h k old why
+  pub breaks-between : (first after new : Input R read) (a b : Option (List ℕ)) (h k : List ℕ) (old at : At (World K)) (bytes text : List ℕ) (why : ShellFault) → (why ≡ fault.BadStart → ⊥) → (why ≡ fault.Turns → ⊥)
+      → Reads read first bytes after → Prints a h text b k → AnswersLines (world_rules tickets) old bytes text at → IfInput why unseen → IfInput why (Stops read (λ bytes rest. IsOneLine bytes) after new) → IfHalted why (Reads read after [] new) → Ending first new a b h k old why
   breaks-between first after new a b h k old at bytes text fault.BadStart other distinct p q r u s kept = absurd (other refl)
   breaks-between first after new a b h k old at bytes text fault.Input other distinct p q r u s kept = stopped first after new a b h k old at bytes text p q r (s.0, s.1, s.2, s.3, inl (s.4, inl u))
   breaks-between first after new a b h k old at bytes text fault.Output other distinct p q r u s kept =
@@ -114,9 +116,9 @@ module _ {R : Type 0} (read : Ghosts R) {S K : Type 0} (tickets : Tickets S K) (
   breaks-between first after new a b h k old at bytes text fault.Turns other distinct p q r u s kept = absurd (distinct refl)
 
   -- the script ends within a turn whose bytes are `next`
-  within-turn : (first before new : Input R read) (a b c d : Option (List ℕ)) (h k l m : List ℕ) (old at : At K) (next bytes text front : List ℕ) (why : ShellFault)
+  within-turn : (first before new : Input R read) (a b c d : Option (List ℕ)) (h k l m : List ℕ) (old at : At (World K)) (next bytes text front : List ℕ) (why : ShellFault)
       → IfInput why (Counts read first (bytes ++ next) new) → BreaksIn unseen (IsOver read new (coming read new)) why at next (coming read new) front
-      → Reads read first bytes before → Prints a h text b k → AnswersLines tickets old bytes text at → Reads read before next new → Prints b k [] c l → Prints c l front d m → Ending first new a d h m old why
+      → Reads read first bytes before → Prints a h text b k → AnswersLines (world_rules tickets) old bytes text at → Reads read before next new → Prints b k [] c l → Prints c l front d m → Ending first new a d h m old why
   within-turn first before new a b c d h k l m old at next bytes text front why counts cut p q r s t u =
       let taken = reads-then read first before new bytes next p s in (
         bytes ++ next,
@@ -128,8 +130,8 @@ module _ {R : Type 0} (read : Ghosts R) {S K : Type 0} (tickets : Tickets S K) (
       )
 
   -- the script ends within the reply to a line
-  pub breaks-line : (first before mid new : Input R read) (a b c d : Option (List ℕ)) (h k l m : List ℕ) (old at : At K) (line raw bytes text : List ℕ) (why : ShellFault)
-      → Reads read first bytes before → Prints a h text b k → AnswersLines tickets old bytes text at
+  pub breaks-line : (first before mid new : Input R read) (a b c d : Option (List ℕ)) (h k l m : List ℕ) (old at : At (World K)) (line raw bytes text : List ℕ) (why : ShellFault)
+      → Reads read first bytes before → Prints a h text b k → AnswersLines (world_rules tickets) old bytes text at
       → list_any (λ x. x == 10) raw ≡ false → line ≡ strip_last 13 raw → Reads read before (raw ++ 10 ∷ []) mid → Prints b k [] c l
       → PrintsCut why (λ said. IsListing at line said) c l d m → IfInput why (Stops read (λ behind rest. Fails (Short new rest) at.world.state.table.schema line behind) mid new)
       → IfHalted why (TakesFor read (command_of at.world.state.table.schema line) mid new) → Ending first new a d h m old why
@@ -147,8 +149,8 @@ module _ {R : Type 0} (read : Ghosts R) {S K : Type 0} (tickets : Tickets S K) (
   breaks-line first before mid new a b c d h k l m old at line raw bytes text fault.Turns p q r one stripped s t u v w = absurd u.2
 
   -- the script ends within the reply to the last line
-  pub breaks-last : (first before mid new : Input R read) (a b c d : Option (List ℕ)) (h k l m : List ℕ) (old at : At K) (line bytes text : List ℕ) (why : ShellFault)
-      → Reads read first bytes before → Prints a h text b k → AnswersLines tickets old bytes text at
+  pub breaks-last : (first before mid new : Input R read) (a b c d : Option (List ℕ)) (h k l m : List ℕ) (old at : At (World K)) (line bytes text : List ℕ) (why : ShellFault)
+      → Reads read first bytes before → Prints a h text b k → AnswersLines (world_rules tickets) old bytes text at
       → list_any (λ x. x == 10) line ≡ false → Reads read before line mid → IsAtEnd read mid → Prints b k [] c l
       → PrintsCut why (λ said. IsListing at line said) c l d m → IfInput why (Stops read (λ behind rest. Fails (Short new rest) at.world.state.table.schema line behind) mid new)
       → IfHalted why (TakesFor read (command_of at.world.state.table.schema line) mid new) → Ending first new a d h m old why
@@ -185,8 +187,8 @@ module _ {R : Type 0} (read : Ghosts R) {S K : Type 0} (tickets : Tickets S K) (
   )
 
   -- the table is opened, and its lines end early
-  pub breaks-lines : (old new : Input R read) (u w : Option (List ℕ)) (held k left bytes rest text : List ℕ) (opened : Opened) (at : At K) (why : ShellFault)
-      → k ≡ held ++ codes "ok\n" → IsNew tickets opened at → Gives read why old new bytes rest → Prints u k text w left → BreaksOff tickets unseen (IsOver read new rest) at why bytes rest text
+  pub breaks-lines : (old new : Input R read) (u w : Option (List ℕ)) (held k left bytes rest text : List ℕ) (opened : Opened) (at : At (World K)) (why : ShellFault)
+      → k ≡ held ++ codes "ok\n" → IsNew (world_rules tickets) opened at → Gives read why old new bytes rest → Prints u k text w left → BreaksOff tickets unseen (IsOver read new rest) at why bytes rest text
       → Serving old new u w held left opened why
   breaks-lines old new u w held k left bytes rest text opened at why e fresh g q b =
       (bytes, rest, codes "ok\n" ++ text, g, prints-then u u w held (codes "ok\n") k text left (prints u held (codes "ok\n") k e) q, inr (at, text, fresh, b, refl))
@@ -276,7 +278,7 @@ not-begun-as P Q A B fault.Output bytes rest text f s h = h
 not-begun-as P Q A B fault.Memory bytes rest text f s h = h
 not-begun-as P Q A B fault.Turns bytes rest text f s h = h
 
-breaks-in-as : {K : Type 0} (P Q A B : Type 0) (why : ShellFault) (at : At K) (next rest front : List ℕ) → IfInput why (P → Q) → (A → B) → BreaksIn P A why at next rest front → BreaksIn Q B why at next rest front
+breaks-in-as : {K : Type 0} (P Q A B : Type 0) (why : ShellFault) (at : At (World K)) (next rest front : List ℕ) → IfInput why (P → Q) → (A → B) → BreaksIn P A why at next rest front → BreaksIn Q B why at next rest front
 breaks-in-as P Q A B fault.BadStart at next rest front f s h = h
 breaks-in-as P Q A B fault.Input at next rest front f s h =
     let kinds = at.world.state.table.schema in
@@ -286,7 +288,7 @@ breaks-in-as P Q A B fault.Memory at next rest front f s h = h
 breaks-in-as P Q A B fault.Turns at next rest front f s h = h
 
 module _ {S K : Type 0} (tickets : Tickets S K) (P Q A B : Type 0) where
-  breaks-off-as : (old : At K) (why : ShellFault) (bytes rest text : List ℕ) → IfInput why (P → Q) → (A → B) → BreaksOff tickets P A old why bytes rest text → BreaksOff tickets Q B old why bytes rest text
+  breaks-off-as : (old : At (World K)) (why : ShellFault) (bytes rest text : List ℕ) → IfInput why (P → Q) → (A → B) → BreaksOff tickets P A old why bytes rest text → BreaksOff tickets Q B old why bytes rest text
   breaks-off-as old why bytes rest text f s b = record {
     before = b.before;
     printed = b.printed;

@@ -16,7 +16,7 @@ use Rattle.far_script.proofs.FlowStops.{coming, spent-rest, starts}
 use Rattle.far_shell.specs.declared.sessions.outcome.Outcome.{Outcome}
 use Rattle.far_shell.specs.Runs.{IsOutcome}
 use Rattle.far_shell.specs.Scripts.{Begins}
-use Rattle.far_shell.specs.Sessions.{CutOutcome, IsAnswered, IsThreads, IsOutcomeText, gauges_text, session_line, outcome_text}
+use Rattle.far_shell.specs.Sessions.{CutOutcome, IsThreads, IsOutcomeText, gauges_text, session_line, outcome_text}
 use Rattle.far_shell.proofs.BreaksLaws.{Breaking}
 use Rattle.far_commands.proofs.ListingsFields.{drop-past}
 use Rattle.far_shell.proofs.ScriptsLaws.{begins-then, either}
@@ -53,23 +53,24 @@ cut-unwritten may_fail old new sessions edits text page left cause printed is p 
     (p.0, (cause, (left, subst (λ (z : List ℕ). IsOutcomeText sessions edits z) (sym is ∙ sym (append-nil page) ∙ p.2) printed)), p.1)
 
 -- a script is answered in weaker terms
-pub answered-then : {S K : Type 0} (tickets : Tickets S K) (bytes text : List ℕ) (P Q : Type 0) → (P → Q) → IsAnswered tickets bytes P text → IsAnswered tickets bytes Q text
-answered-then tickets bytes text P Q f a =
-    either (λ s. (s.0, f s.1)) (λ (t : IsThreads bytes P text). record { sessions = t.sessions; edits = t.edits; asks = (t.asks.0, begins-then bytes t.asks.0 P Q f t.asks.1, t.asks.2); printed = t.printed }) a
+pub answered-then : (bytes text : List ℕ) (A P Q : Type 0) → (P → Q) → (A × P) ⊎ IsThreads bytes P text → (A × Q) ⊎ IsThreads bytes Q text
+answered-then bytes text A P Q f a =
+    either (λ (s : A × P). (s.0, f s.1)) (λ (t : IsThreads bytes P text). record { sessions = t.sessions; edits = t.edits; asks = (t.asks.0, begins-then bytes t.asks.0 P Q f t.asks.1, t.asks.2); printed = t.printed }) a
 
-module _ {R : Type 0} (read : Ghosts R) {S K : Type 0} (tickets : Tickets S K) where
+module _ {R : Type 0} (read : Ghosts R) where
   -- a script begins with sessions, and they ended
   pub sessions-whole : (old mid : Input R read) (u w : Option (List ℕ)) (held l left first line text : List ℕ) (sessions edits : ℕ) → held ≡ []
       → Reads read old first mid → Begins first (IsAtEnd read mid) line → start_in line ≡ Some (Threads sessions edits) → Prints u held [] w l → left ≡ l ++ text → IsOutcomeText sessions edits text
-      → (bytes : List ℕ) × (said : List ℕ) × Reads read old bytes mid × Prints u [] said w left × IsAnswered tickets bytes (IsAtEnd read mid) said
+      → (bytes : List ℕ) × (said : List ℕ) × Reads read old bytes mid × Prints u [] said w left × IsThreads bytes (IsAtEnd read mid) said
   sessions-whole old mid u w held l left first line text sessions edits empty p b asks q e printed = (
     first,
     text,
     p,
     subst (λ (z : List ℕ). Prints u z text w left) empty (prints-nothing-then u w w held l text left q (prints w l text left e)),
-    inr (record { sessions = sessions; edits = edits; asks = (line, b, asks); printed = printed }),
+    record { sessions = sessions; edits = edits; asks = (line, b, asks); printed = printed },
   )
 
+module _ {R : Type 0} (read : Ghosts R) {S K : Type 0} (tickets : Tickets S K) where
   -- a script begins with sessions, and they were stopped
   pub sessions-stopped : (old mid : Input R read) (u w : Option (List ℕ)) (held l left first line : List ℕ) (sessions edits : ℕ) (why : ShellFault) (unseen : Type 0) → held ≡ []
       → Reads read old first mid → Begins first (IsAtEnd read mid) line → start_in line ≡ Some (Threads sessions edits) → Prints u held [] w l → left ≡ l → (why ≡ fault.Memory) ⊎ (why ≡ fault.Turns)

@@ -5,6 +5,7 @@ use Rattle.far_store.specs.declared.store.FarTickets.{Ghosts as Tickets}
 use Rattle.far_script.specs.declared.fault.ShellFault.{ShellFault}
 use Rattle.far_script.specs.declared.fault.ShellFault.TheVariants as fault
 use Rattle.far_shell.specs.LineFaults.{BreaksLater, HasNotBegun}
+use Rattle.far_shell.specs.Scripts.{IsScript}
 use Rattle.far_shell.specs.Sessions.{AsksSessions, IsAnswered}
 
 -- in what follows, `unseen` says for the bytes that came why no more did, and `spent` says for the rest that it is empty
@@ -48,7 +49,7 @@ module _ {S K : Type 0} (tickets : Tickets S K) (unseen spent : List ℕ → Typ
       × (lost ≡ [])
   EndsBy splits may_fail fault.Output bytes rest text lost =
       IsTrue may_fail
-      × ((splits fault.Output bytes rest × IsAnswered tickets bytes (rest ≡ []) text)
+      × ((splits fault.Output bytes rest × IsAnswered (IsScript tickets) bytes (rest ≡ []) text)
       ⊎ ((why : ShellFault) × IsSplit splits why bytes rest text))
 
   -- a script ended early with this fault: what was written is a prefix of the replies to its first bytes

@@ -3,6 +3,7 @@ use Rattle.std.specs.Prelude.{◌≡◌, ◌⊎◌, ℕ, List, [], ◌∷◌, �
 use Rattle.far_types.specs.declared.refusal.Refusal.TheVariants as refusal
 use Rattle.far_types.specs.Bounds.{IsSchema, AreLimits}
 use Rattle.far_store.specs.declared.store.FarTickets.{Ghosts as Tickets}
+use Rattle.far_frame.specs.Worlds.{World}
 use Rattle.far_script.specs.declared.fault.ShellFault.{ShellFault}
 use Rattle.far_script.specs.declared.fault.ShellFault.TheVariants as fault
 use Rattle.far_commands.specs.Commands.{command_of}
@@ -10,6 +11,7 @@ use Rattle.far_commands.specs.Cuts.{Fails, IsFront, IsListing, IsTakenFor}
 use Rattle.far_script.specs.Openings.{Opened, Schema, start_in}
 use Rattle.far_script.specs.Printing.{refusal_text}
 use Rattle.far_commands.specs.Progress.{At}
+use Rattle.far_commands.specs.WorldRules.{world_rules}
 use Rattle.far_script.specs.Lines.{Blank, IsOneLine, without_return}
 use Rattle.far_shell.specs.Scripts.{AnswersLines, Begins, IsNew, Opens}
 
@@ -78,12 +80,12 @@ HasNotBegun unseen spent fault.Turns bytes rest text = ⊥
 module _ {K : Type 0} where
   -- the bytes taken after a line without a complete reply, and the part of its reply that was printed. Only the reply to
   -- `dump` can be printed in part
-  abbrev pub IsStopped : At K → List ℕ → List ℕ → List ℕ → Type 0
+  abbrev pub IsStopped : At (World K) → List ℕ → List ℕ → List ℕ → Type 0
   IsStopped at line rows front = IsTakenFor (command_of at.world.state.table.schema line) rows
       × IsFront (IsListing at line) front
 
   -- the bytes of a command without a complete reply: none, or a line with the bytes of its load, or the last line
-  abbrev pub StopsIn : At K → List ℕ → List ℕ → List ℕ → Type 0
+  abbrev pub StopsIn : At (World K) → List ℕ → List ℕ → List ℕ → Type 0
   StopsIn at next rest front = ((next ≡ []) × (front ≡ []))
       ⊎ (((line : List ℕ) × (rows : List ℕ) × IsOneLine line × (next ≡ line ++ 10 ∷ rows)
       × IsStopped at (without_return line) rows front)
@@ -92,7 +94,8 @@ module _ {K : Type 0} where
   -- `next` is the command at which the fault occurred, and `front` the printed part of its reply. At `Input`, `next` is all
   -- that came after the answered lines, and has no line that can be answered: `unseen` says why no more came, `spent` that
   -- nothing follows. At `Output` and `Memory`, it is all that was taken
-  abbrev pub BreaksIn : Type 0 → Type 0 → ShellFault → At K → List ℕ → List ℕ → List ℕ → Type 0
+  abbrev pub BreaksIn :
+      Type 0 → Type 0 → ShellFault → At (World K) → List ℕ → List ℕ → List ℕ → Type 0
   BreaksIn unseen spent fault.BadStart at next rest front = ⊥
   BreaksIn unseen spent fault.Input at next rest front = (front ≡ [])
       × HasNoTurn unseen spent (Fails (spent ⊎ unseen) at.world.state.table.schema) next
@@ -103,11 +106,12 @@ module _ {K : Type 0} where
 -- in what follows, `unseen` says why no more of the script came, and `spent` that nothing follows
 module _ {S K : Type 0} (tickets : Tickets S K) (unseen spent : Type 0) where
   -- a script ends early after its first command: some lines are answered in full, and at most one more in part
-  pub record BreaksOff (old : At K) (why : ShellFault) (bytes rest text : List ℕ) : Type 0 where
+  pub record BreaksOff (old : At (World K)) (why : ShellFault)
+      (bytes rest text : List ℕ) : Type 0 where
     pub before : List ℕ
     pub printed : List ℕ
-    pub mid : At K
-    pub answered : AnswersLines tickets old before printed mid
+    pub mid : At (World K)
+    pub answered : AnswersLines (world_rules tickets) old before printed mid
     pub next : List ℕ
     pub front : List ℕ
     pub cut : BreaksIn unseen spent why mid next rest front
@@ -118,17 +122,17 @@ module _ {S K : Type 0} (tickets : Tickets S K) (unseen spent : Type 0) where
   -- more is read; or it is opened, and the fault comes among its lines
   abbrev pub BreaksServing : Opened → ShellFault → List ℕ → List ℕ → List ℕ → Type 0
   BreaksServing opened why bytes rest text = ((bytes ≡ []) × Rejection why (IsRefused opened) text)
-      ⊎ ((at : At K) × (tail : List ℕ) × IsNew tickets opened at
+      ⊎ ((at : At (World K)) × (tail : List ℕ) × IsNew (world_rules tickets) opened at
       × BreaksOff at why bytes rest tail
       × (text ≡ codes "ok\n" ++ tail))
 
   -- a script ends early after its first command opened a table
   pub record BreaksLater (why : ShellFault) (bytes rest text : List ℕ) : Type 0 where
     pub first : List ℕ
-    pub at : At K
+    pub at : At (World K)
     pub more : List ℕ
     pub tail : List ℕ
-    pub opens : Opens tickets first (more ++ rest ≡ []) at
+    pub opens : Opens (world_rules tickets) first (more ++ rest ≡ []) at
     pub breaks : BreaksOff at why more rest tail
     pub whole : bytes ≡ first ++ more
     pub said : text ≡ codes "ok\n" ++ tail

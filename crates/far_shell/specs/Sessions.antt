@@ -1,7 +1,6 @@
 -- The replies to a script of sessions on threads.
 use Rattle.std.specs.Prelude.{◌≡◌, ◌⊎◌, ℕ, ◌+◌, ◌*◌, Bool, IsTrue, List, [], ◌∷◌, ◌++◌, Some, replicate}
 use Rattle.far_sessions.specs.declared.reading.Reading.{Reading}
-use Rattle.far_store.specs.declared.store.FarTickets.{Ghosts as Tickets}
 use Rattle.far_shell.specs.declared.sessions.outcome.Outcome.{Outcome}
 use Rattle.far_shell.specs.declared.sessions.outcome.Stop.{Stop}
 use Rattle.far_shell.specs.declared.sessions.outcome.Stop.TheVariants as stop
@@ -10,7 +9,7 @@ use Rattle.far_script.specs.declared.fault.ShellFault.{ShellFault}
 use Rattle.far_script.specs.declared.fault.ShellFault.TheVariants as fault
 use Rattle.far_script.specs.Openings.{Threads, start_in}
 use Rattle.far_script.specs.Printing.{answer_text, gauge_text}
-use Rattle.far_shell.specs.Scripts.{Begins, IsScript}
+use Rattle.far_shell.specs.Scripts.{Begins}
 
 -- the gauge line of a session
 abbrev pub session_line : ℕ → Reading → List ℕ
@@ -65,8 +64,8 @@ pub record IsThreads (bytes : List ℕ) (spent : Type 0) (text : List ℕ) : Typ
   pub asks : AsksSessions bytes spent sessions edits
   pub printed : IsOutcomeText sessions edits text
 
-module _ {S K : Type 0} (tickets : Tickets S K) where
-  -- the text is the reply to a script: these bytes are all of a script over a table, or they begin with a command for
-  -- sessions
-  abbrev pub IsAnswered : List ℕ → Type 0 → List ℕ → Type 0
-  IsAnswered bytes spent text = (IsScript tickets bytes text × spent) ⊎ IsThreads bytes spent text
+-- the text is the reply to a script: these bytes are all of a script over a table, with the replies that `says` allows, or
+-- they begin with a command for sessions
+abbrev pub IsAnswered :
+    (List ℕ → List ℕ → Type 0) → List ℕ → Type 0 → List ℕ → Type 0
+IsAnswered says bytes spent text = (says bytes text × spent) ⊎ IsThreads bytes spent text

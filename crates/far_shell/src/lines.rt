@@ -1,6 +1,7 @@
 // Answers the lines after the first command.
 ghost use Rattle.std.specs.Prelude.{◌≡◌, ◌≤◌, ℕ, List, true, IfErr, OnOk};
 ghost use Rattle.far_script.specs.Flow.{Gives, IsOver, IsAtEnd, IsUnseen, Prints, Reads, has_failed};
+ghost use Rattle.far_commands.specs.WorldRules.{both_rules};
 ghost use Rattle.far_shell.specs.LineFaults.{BreaksOff};
 ghost use Rattle.far_shell.specs.Scripts.{Ends};
 
@@ -25,7 +26,7 @@ pub fn serve_lines<S: FarStore, A: Resources<S>, R: Source + Drop, W: Sink>(
         ((bytes : List ℕ) × (text : List ℕ) × Reads R.Read input.old bytes input.new
         × Prints (W.contents writer.old) output.old.page text (W.contents writer.new)
         output.new.page
-        × Ends S.FarTickets progress.old bytes text
+        × Ends (both_rules S.FarTickets) progress.old bytes text
         × IsAtEnd R.Read input.new) }
     ensures err { IfErr result
         (λ fault. (bytes : List ℕ) × (rest : List ℕ) × (text : List ℕ)

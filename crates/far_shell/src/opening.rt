@@ -1,5 +1,6 @@
 // Opens the table of a script.
 ghost use Rattle.std.specs.Prelude.{◌≡◌, ◌≢◌, ℕ, List, ◌++◌, codes, IfOk, IfErr, IsErrOf, IsOk, OnOk};
+ghost use Rattle.far_commands.specs.WorldRules.{both_rules};
 ghost use Rattle.far_shell.specs.LineFaults.{IsRefused, Rejection};
 ghost use Rattle.far_shell.specs.Scripts.{IsNew};
 
@@ -31,7 +32,8 @@ pub fn open<S: FarStore, A: Resources<S>, W: Sink>(
     opening: Opening,
     output: &mut Output<W>,
 ) -> Result<Progress<S>, ShellFault>
-    ensures ok { IfOk result (IsNew S.FarTickets (opening.kinds.items, opening.limits)) }
+    ensures ok { IfOk result
+        (IsNew (both_rules S.FarTickets) (opening.kinds.items, opening.limits)) }
     ensures said { OnOk result (output.new.page ≡ output.old.page ++ codes "ok\n") }
     ensures err { IfErr result
         (λ fault. (text : List ℕ) × (output.new.page ≡ output.old.page ++ text)

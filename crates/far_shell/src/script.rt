@@ -3,6 +3,7 @@ ghost use Rattle.std.specs.Prelude.{◌≡◌, ℕ, List, [], ◌++◌, ◌≤�
 ghost use Rattle.std.specs.Io.KnownBytes.{Appends, Keeps};
 ghost use Rattle.far_script.specs.Flow.{Gives, IsFrontOf, IsOver, IsAtEnd, IsUnseen, Prints, Reads, has_failed};
 ghost use Rattle.far_shell.specs.Breaks.{Breaks, IsBroken, IsUnfinished};
+ghost use Rattle.far_shell.specs.Scripts.{IsScript, IsTableScript};
 ghost use Rattle.far_shell.specs.Sessions.{IsAnswered};
 
 use super::first_line::first_command;
@@ -36,7 +37,8 @@ fn serve<
     ensures ok { OnOk result
         ((bytes : List ℕ) × (text : List ℕ) × Reads R.Read input.old bytes input.new
         × Prints (W.contents writer.old) [] text (W.contents writer.new) output.new.page
-        × IsAnswered S.FarTickets bytes (IsAtEnd R.Read input.new) text) }
+        × IsAnswered (IsScript S.FarTickets) bytes (IsAtEnd R.Read input.new) text
+        × IsAnswered IsTableScript bytes (IsAtEnd R.Read input.new) text) }
     ensures err { IfErr result
         (λ fault. (bytes : List ℕ) × (rest : List ℕ) × (text : List ℕ)
         × Gives R.Read fault input.old input.new bytes rest
@@ -109,8 +111,12 @@ pub fn run_input<T: AllocGlobal + Sync + Threads + Wait, R: Source + Drop, W: Si
     ensures ok { OnOk result
         ((bytes : List ℕ) × (text : List ℕ) × Reads R.Read input.old bytes input.new
         × Appends (W.contents writer.old) (W.contents writer.new) text
-        × IsAnswered ⟦<AgentStore<&'static T> as FarTickets>⟧ bytes (IsAtEnd R.Read input.new)
-        text) }
+        × IsAnswered (IsScript ⟦<AgentStore<&'static T> as FarTickets>⟧) bytes
+        (IsAtEnd R.Read input.new) text) }
+    ensures table { OnOk result
+        ((bytes : List ℕ) × (text : List ℕ) × Reads R.Read input.old bytes input.new
+        × Appends (W.contents writer.old) (W.contents writer.new) text
+        × IsAnswered IsTableScript bytes (IsAtEnd R.Read input.new) text) }
     ensures err { IfErr result
         (λ fault. Breaks ⟦<AgentStore<&'static T> as FarTickets>⟧
         (λ _. IsUnseen R.Read R.may_fail input.old input.new) (IsOver R.Read input.new)
@@ -174,7 +180,13 @@ pub fn run_script<T: AllocGlobal + Sync + Threads + Wait, R: Source + Drop, W: S
         ((bytes : List ℕ) × (rest : List ℕ) × (text : List ℕ)
         × IsFrontOf (R.remaining reader) bytes rest
         × Appends (W.contents writer.old) (W.contents writer.new) text
-        × IsAnswered ⟦<AgentStore<&'static T> as FarTickets>⟧ bytes (rest ≡ []) text) }
+        × IsAnswered (IsScript ⟦<AgentStore<&'static T> as FarTickets>⟧) bytes (rest ≡ [])
+        text) }
+    ensures table { OnOk result
+        ((bytes : List ℕ) × (rest : List ℕ) × (text : List ℕ)
+        × IsFrontOf (R.remaining reader) bytes rest
+        × Appends (W.contents writer.old) (W.contents writer.new) text
+        × IsAnswered IsTableScript bytes (rest ≡ []) text) }
     ensures err { IfErr result
         (λ fault. Breaks ⟦<AgentStore<&'static T> as FarTickets>⟧ (IsUnfinished R.may_fail)
         (λ rest. rest ≡ [])

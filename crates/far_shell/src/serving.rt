@@ -1,6 +1,7 @@
 // Serves a script over a table, from its first command to its end.
 ghost use Rattle.std.specs.Prelude.{◌≡◌, ◌≤◌, ℕ, List, true, IfErr, OnOk};
 ghost use Rattle.far_script.specs.Flow.{Gives, IsOver, IsAtEnd, IsUnseen, Prints, Reads, has_failed};
+ghost use Rattle.far_commands.specs.WorldRules.{both_rules};
 ghost use Rattle.far_shell.specs.LineFaults.{BreaksServing};
 ghost use Rattle.far_shell.specs.Scripts.{IsServed};
 
@@ -23,7 +24,7 @@ pub fn serve_table<S: FarStore, A: Resources<S>, R: Source + Drop, W: Sink>(
         ((bytes : List ℕ) × (text : List ℕ) × Reads R.Read input.old bytes input.new
         × Prints (W.contents writer.old) output.old.page text (W.contents writer.new)
         output.new.page
-        × IsServed S.FarTickets (opening.kinds.items, opening.limits) bytes text
+        × IsServed (both_rules S.FarTickets) (opening.kinds.items, opening.limits) bytes text
         × IsAtEnd R.Read input.new) }
     ensures err { IfErr result
         (λ fault. (bytes : List ℕ) × (rest : List ℕ) × (text : List ℕ)

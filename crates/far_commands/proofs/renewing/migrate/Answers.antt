@@ -1,11 +1,23 @@
+use Rattle.std.proofs.Common.{◌≡◌, ap}
+use Rattle.far_frame.specs.TableViews.{table_of}
 use Rattle.far_commands.specs.Renewals.{IsNotRenewed}
-use Rattle.far_commands.proofs.ResultLaws.{came-back, both-errs, moved-on}
+use Rattle.far_commands.proofs.ResultLaws.{both-errs, both-ways, came-back, each-err, moved-on}
 use Rattle.far_commands.proofs.renewing.migrate.Goals as goal
 
 pub returns-clause-renewed : goal.returns-clause-renewed
 returns-clause-renewed g c =
     let moved = rw c.replace-old.ensures.value at c.migrate.ensures.migrated in
     moved-on c.put_back.result c.migrate.result c.put_back.new.place _ c.put_back.ensures.moved moved
+
+pub returns-clause-table : goal.returns-clause-table
+returns-clause-table g c =
+    let old = c.args.world.now in
+    let moved = rw c.replace-old.ensures.value at c.migrate.ensures.table in
+    let back = rw c.replace-old.ensures.value at c.migrate.ensures.back in
+    both-ways c.put_back.result (table_of c.put_back.new.place.state ≡ table_of old.state)
+    (moved-on c.put_back.result c.migrate.result c.put_back.new.place (λ at. table_of at.state ≡ table_of old.state) c.put_back.ensures.moved moved)
+    (came-back c.put_back.result c.migrate.result c.put_back.new.place (λ why at. table_of at.state ≡ table_of old.state) c.put_back.ensures.back
+    (each-err c.migrate.result _ _ (λ e same. ap (λ at. table_of at.state) same) back))
 
 pub returns-clause-back : goal.returns-clause-back
 returns-clause-back g c =

@@ -8,6 +8,7 @@ use Rattle.far_commands.specs.declared.command.Command.{Command}
 use Rattle.far_commands.specs.declared.command.Command.TheVariants as command
 use Rattle.far_commands.specs.Listings.{listing_of}
 use Rattle.far_commands.specs.Replies.{AnswersLine, Serves}
+use Rattle.far_commands.specs.WorldRules.{both_rules}
 use Rattle.far_commands.specs.Progress.{At}
 use Rattle.far_commands.specs.Commands.{command_of}
 use Rattle.far_commands.specs.Cuts.{Fails, FailsBy, IsListing, IsTakenFor}
@@ -24,33 +25,33 @@ returns-then-is_empty-clause-ok g c = (
   [],
   reads-none g.R.Read _ _ refl,
   prints-none (g.W.Write.contents c.args.writer.now) c.args.output.now.page,
-  answers-empty g.S.FarTickets c.args.progress.now (bytes_in g.R.Read c.args.input.now c.args.line) (range-empty c.args.input.now.held c.args.line.from c.args.line.to (grind (arith, c.if-is_empty.ensures))),
+  answers-empty (both_rules g.S.FarTickets) c.args.progress.now (bytes_in g.R.Read c.args.input.now c.args.line) (range-empty c.args.input.now.held c.args.line.from c.args.line.to (grind (arith, c.if-is_empty.ensures))),
 )
 
 pub returns-in-Ok-Some-clause-ok : goal.returns-in-Ok-Some-clause-ok
 returns-in-Ok-Some-clause-ok g c =
     let some = rw c.in_ok-text.ensures.ok.0 at (sym c.in-Ok-Some.ensures.command ∙ c.in-Ok-Some.field-0-is) in
     let line = bytes_in g.R.Read c.args.input.now c.args.line in
-    let old : At g.row.S-Ticket.Denot = record { world = c.progress.inside.world; number = c.progress.inside.number } in
-    let new : At g.row.S-Ticket.Denot = record { world = c.serve_command-served.new.world; number = c.progress.inside.number + 1 } in
+    let old : At (World g.row.S-Ticket.Denot) = record { world = c.progress.inside.world; number = c.progress.inside.number } in
+    let new : At (World g.row.S-Ticket.Denot) = record { world = c.serve_command-served.new.world; number = c.progress.inside.number + 1 } in
     let shown : c.args.line.from < c.args.line.to = grind (arith, c.if-is_empty.ensures) in
     on-ok c.serve_command-served.result _ _ (λ a. (
       a.0,
       a.1,
       a.2,
       a.3,
-      subst (λ (at : At g.row.S-Ticket.Denot). AnswersLine g.S.FarTickets at line a.0 a.1 new) c.progress.view_is
-          (answers-command g.S.FarTickets old new line a.0 a.1 (range-some c.args.input.now.held c.args.line.from c.args.line.to shown c.requires.held.1)
+      subst (λ (at : At (World g.row.S-Ticket.Denot)). AnswersLine (both_rules g.S.FarTickets) at line a.0 a.1 new) c.progress.view_is
+          (answers-command (both_rules g.S.FarTickets) old new line a.0 a.1 (range-some c.args.input.now.held c.args.line.from c.args.line.to shown c.requires.held.1)
           (rw c.in_ok-text.ensures.ok.0 at c.in_ok-text.ensures.ok.1) refl
-          (rw some (subst (λ (w : World g.row.S-Ticket.Denot). Serves g.S.FarTickets w c.in-Ok-Some.command a.0 a.1 c.serve_command-served.new.world) c.in-Ok-Some.ensures.same a.4)) c.keeps-in-Ok-Some.ensures),
+          (rw some (subst (λ (w : World g.row.S-Ticket.Denot). Serves (both_rules g.S.FarTickets) w c.in-Ok-Some.command a.0 a.1 c.serve_command-served.new.world) c.in-Ok-Some.ensures.same a.4)) (c.keeps-in-Ok-Some.ensures, tt)),
     )) c.serve_command-served.ensures.ok
 
 pub returns-in-Ok-None-clause-ok : goal.returns-in-Ok-None-clause-ok
 returns-in-Ok-None-clause-ok g c =
     let none = rw c.in_ok-text.ensures.ok.0 at (sym c.in-Ok-None.ensures.command ∙ c.in-Ok-None.field-0-is) in
     let line = bytes_in g.R.Read c.args.input.now c.args.line in
-    let old : At g.row.S-Ticket.Denot = record { world = c.progress.inside.world; number = c.progress.inside.number } in
-    let new : At g.row.S-Ticket.Denot = record { world = c.parse.new.world; number = c.progress.inside.number + 1 } in
+    let old : At (World g.row.S-Ticket.Denot) = record { world = c.progress.inside.world; number = c.progress.inside.number } in
+    let new : At (World g.row.S-Ticket.Denot) = record { world = c.parse.new.world; number = c.progress.inside.number + 1 } in
     let text = numbered_text (codes "syntax command") (c.progress.inside.number + 1) in
     let shown : c.args.line.from < c.args.line.to = grind (arith, c.if-is_empty.ensures) in
     on-ok c.print_syntax.result _ _ (λ printed. (
@@ -58,10 +59,10 @@ returns-in-Ok-None-clause-ok g c =
       text,
       reads-none g.R.Read _ _ refl,
       prints (g.W.Write.contents c.args.writer.now) c.args.output.now.page text c.print_syntax.new.output.page printed,
-      subst (λ (at : At g.row.S-Ticket.Denot). AnswersLine g.S.FarTickets at line [] text new) c.progress.view_is
-          (answers-command g.S.FarTickets old new line [] text (range-some c.args.input.now.held c.args.line.from c.args.line.to shown c.requires.held.1)
+      subst (λ (at : At (World g.row.S-Ticket.Denot)). AnswersLine (both_rules g.S.FarTickets) at line [] text new) c.progress.view_is
+          (answers-command (both_rules g.S.FarTickets) old new line [] text (range-some c.args.input.now.held c.args.line.from c.args.line.to shown c.requires.held.1)
           (rw c.in_ok-text.ensures.ok.0 at c.in_ok-text.ensures.ok.1) refl (rw none (refl, refl, c.in-Ok-None.ensures.same))
-          (subst (HasOwnTickets g.S.FarTickets.is_of) (sym c.in-Ok-None.ensures.same) c.keeps.ensures)),
+          (subst (HasOwnTickets g.S.FarTickets.is_of) (sym c.in-Ok-None.ensures.same) c.keeps.ensures, tt)),
     )) c.print_syntax.ensures.ok
 
 pub returns-in_err-text-clause-err : goal.returns-in_err-text-clause-err
@@ -87,7 +88,7 @@ returns-in-Ok-Some-clause-err g c =
       p.0,
       p.1,
       cut-more why (λ said. (c.in-Ok-Some.command ≡ command.Dump) × (said ≡ listing_of (live world.state))) (λ said. IsListing c.args.progress.now line said) p.0
-          (λ said s. subst (λ (at : At g.row.S-Ticket.Denot). IsListing at line said) c.progress.view_is (some ∙ ap (λ (asked : Command). Some asked) s.0, s.1 ∙ ap (λ (w : World g.row.S-Ticket.Denot). listing_of (live w.state)) c.in-Ok-Some.ensures.same)) p.2,
+          (λ said s. subst (λ (at : At (World g.row.S-Ticket.Denot)). IsListing at line said) c.progress.view_is (some ∙ ap (λ (asked : Command). Some asked) s.0, s.1 ∙ ap (λ (w : World g.row.S-Ticket.Denot). listing_of (live w.state)) c.in-Ok-Some.ensures.same)) p.2,
     )) c.serve_command-served.ensures.err
 
 pub returns-in_err-text-clause-stopped : goal.returns-in_err-text-clause-stopped
@@ -103,7 +104,7 @@ returns-in-Ok-Some-clause-stopped g c =
     let some = rw c.in_ok-text.ensures.ok.0 at (sym c.in-Ok-Some.ensures.command ∙ c.in-Ok-Some.field-0-is) in
     let line = bytes_in g.R.Read c.args.input.now c.args.line in
     each-fault c.serve_command-served.result _ _ (λ why stopped. if-input why _ _ (λ s. stops-more g.R.Read c.args.input.now c.serve_command-served.new.input (λ behind rest. FailsBy (short rest) (Some c.in-Ok-Some.command) behind) (λ behind rest. Fails (short rest) c.args.progress.now.world.state.table.schema line behind)
-    (λ bytes rest f. subst (λ (at : At g.row.S-Ticket.Denot). Fails (short rest) at.world.state.table.schema line bytes) c.progress.view_is (inr (subst (λ (asked : Option Command). FailsBy (short rest) asked bytes) (sym some) f))) s) stopped)
+    (λ bytes rest f. subst (λ (at : At (World g.row.S-Ticket.Denot)). Fails (short rest) at.world.state.table.schema line bytes) c.progress.view_is (inr (subst (λ (asked : Option Command). FailsBy (short rest) asked bytes) (sym some) f))) s) stopped)
     c.serve_command-served.ensures.stopped
 
 pub returns-in-Ok-None-clause-failed : goal.returns-in-Ok-None-clause-failed
@@ -125,6 +126,6 @@ returns-in-Ok-Some-clause-taken g c =
     each-fault c.serve_command-served.result _ _ (λ why taken. if-halted why _ _ (λ t. (
       t.0,
       t.1,
-      subst (λ (at : At g.row.S-Ticket.Denot). IsTakenFor (command_of at.world.state.table.schema line) t.0) c.progress.view_is (subst (λ (asked : Option Command). IsTakenFor asked t.0) (sym some) t.2),
+      subst (λ (at : At (World g.row.S-Ticket.Denot)). IsTakenFor (command_of at.world.state.table.schema line) t.0) c.progress.view_is (subst (λ (asked : Option Command). IsTakenFor asked t.0) (sym some) t.2),
     )) taken)
     c.serve_command-served.ensures.taken

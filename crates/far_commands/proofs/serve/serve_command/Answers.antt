@@ -1,9 +1,11 @@
-use Rattle.std.proofs.Common.{◌≡◌, [], inl, refl}
+use Rattle.std.proofs.Common.{◌≡◌, [], inl, refl, ap, ◌∙◌}
 use Rattle.far_commands.specs.declared.command.Command.TheVariants as command
 use Rattle.far_commands.specs.Listings.{listing_of}
 use Rattle.far_frame.specs.State.{live}
 use Rattle.far_script.proofs.FlowLaws.{prints, reads-none}
 use Rattle.far_script.proofs.FlowStops.{at-halted, each-fault, not-input}
+use Rattle.far_commands.proofs.AwayLaws.{listing-seen}
+use Rattle.far_commands.proofs.RulesLaws.{move-seen}
 use Rattle.far_commands.proofs.CutsLaws.{cut-more, no-input, no-output, printed-err}
 use Rattle.far_commands.proofs.ResultLaws.{on-ok, printed-ok}
 use Rattle.far_commands.proofs.serve.serve_command.Goals as goal
@@ -31,12 +33,15 @@ returns-in-Load-clause-stopped g c = rw c.in-Load.is c.serve_load.ensures.stoppe
 
 pub returns-in-Dump-clause-ok : goal.returns-in-Dump-clause-ok
 returns-in-Dump-clause-ok g c =
-    on-ok c.dump.result _ _ (λ said. ([], listing_of (live c.args.world.now.state), reads-none g.R.Read _ _ refl, said, rw c.in-Dump.is (refl, refl, refl))) (rw c.frame.ensures at c.dump.ensures.ok)
+    let here = c.frame.ensures ∙ ap (λ world. world.state) c.show_away.ensures.same in
+    on-ok c.dump.result _ _ (λ said. ([], listing_of (live c.args.world.now.state), reads-none g.R.Read _ _ refl, said, rw c.in-Dump.is (refl, (refl, listing-seen c.args.world.now.state c.show_away.ensures.away), c.show_away.ensures.same)))
+    (rw here at c.dump.ensures.ok)
 
 pub returns-in-Dump-clause-err : goal.returns-in-Dump-clause-err
 returns-in-Dump-clause-err g c =
+    let here = c.frame.ensures ∙ ap (λ world. world.state) c.show_away.ensures.same in
     let listed = listing_of (live c.args.world.now.state) in
-    each-fault c.dump.result _ _ (λ why p. (p.0, p.1, cut-more why (λ said. said ≡ listed) (λ said. (c.args.command ≡ command.Dump) × (said ≡ listed)) p.0 (λ said is. (c.in-Dump.is, is)) p.2)) (rw c.frame.ensures at c.dump.ensures.err)
+    each-fault c.dump.result _ _ (λ why p. (p.0, p.1, cut-more why (λ said. said ≡ listed) (λ said. (c.args.command ≡ command.Dump) × (said ≡ listed)) p.0 (λ said is. (c.in-Dump.is, is)) p.2)) (rw here at c.dump.ensures.err)
 
 pub returns-in-Dump-clause-stopped : goal.returns-in-Dump-clause-stopped
 returns-in-Dump-clause-stopped g c = each-fault c.dump.result _ _ (λ why other. not-input why _ other) c.dump.ensures.fault
@@ -44,7 +49,7 @@ returns-in-Dump-clause-stopped g c = each-fault c.dump.result _ _ (λ why other.
 pub returns-in-Renew-clause-ok : goal.returns-in-Renew-clause-ok
 returns-in-Renew-clause-ok g c =
     printed-ok c.add_printed-in-Renew.result c.renew-printed.result _ _ _ c.add_printed-in-Renew.ensures.printed c.add_printed-in-Renew.ensures.ok c.renew-printed.ensures.ok (λ added said.
-    ([], c.renew-printed.new.reply, reads-none g.R.Read _ _ refl, prints (g.W.Write.contents c.args.writer.now) c.args.output.now.page c.renew-printed.new.reply c.add_printed-in-Renew.new.self.page added, rw c.in-Renew.is (refl, said)))
+    ([], c.renew-printed.new.reply, reads-none g.R.Read _ _ refl, prints (g.W.Write.contents c.args.writer.now) c.args.output.now.page c.renew-printed.new.reply c.add_printed-in-Renew.new.self.page added, rw c.in-Renew.is (refl, (said, move-seen g.S.FarTickets c.in-Renew.capacity c.args.world.now c.renew-printed.new.world c.renew-printed.new.reply c.renew-printed.ensures.table said))))
 
 pub returns-in-Renew-clause-err : goal.returns-in-Renew-clause-err
 returns-in-Renew-clause-err g c = printed-err c.add_printed-in-Renew.result _ (g.W.Write.contents c.args.writer.now) c.args.output.now.page c.add_printed-in-Renew.new.self.page c.add_printed-in-Renew.ensures.memory c.add_printed-in-Renew.ensures.err

@@ -2,12 +2,18 @@ use Rattle.std.proofs.Common.{◌≡◌, [], append-nil, ◌∙◌, refl, rules,
 use Rattle.std.proofs.lemmas.Result.{IfOk-weaker, IfErr-weaker, IfErr-at_err}
 use Rattle.far_script.specs.declared.fault.ShellFault.TheVariants as fault
 use Rattle.far_shell.specs.LineFaults.{IsRefused, Rejection}
+use Rattle.far_script.specs.Openings.{Opened}
 use Rattle.far_shell.specs.Scripts.{IsNew}
+use Rattle.far_commands.specs.WorldRules.{both_rules, world_rules}
+use Rattle.far_shell.proofs.SeenLaws.{both-new}
 use Rattle.far_shell.proofs.SaidLaws.{kept-as, said-then, unsaid}
 use Rattle.far_shell.proofs.opening.open.Goals as goal
 
 pub returns-in-Ok-open_table-clause-ok : goal.returns-in-Ok-open_table-clause-ok
-returns-in-Ok-open_table-clause-ok g c = kept-as (IsNew g.S.FarTickets (c.args.opening.kinds.items, c.args.opening.limits)) c.once_said.result c.new.result _ c.once_said.ensures.ok (search rules)
+returns-in-Ok-open_table-clause-ok g c =
+    let opened : Opened = (c.args.opening.kinds.items, c.args.opening.limits) in
+    let new : IsNew (world_rules g.S.FarTickets) opened c.new.result = search rules in
+    kept-as (IsNew (both_rules g.S.FarTickets) opened) c.once_said.result c.new.result _ c.once_said.ensures.ok (both-new g.S.FarTickets opened c.new.result new)
 
 pub returns-in-Ok-open_table-clause-said : goal.returns-in-Ok-open_table-clause-said
 returns-in-Ok-open_table-clause-said g c = said-then c.once_said.result c.add_text-said.result _ _ c.once_said.ensures.ok c.add_text-said.ensures.ok

@@ -14,6 +14,13 @@ returns-in-Ok-clause-ok g c =
     let flushed = subst (λ t. Prints (g.W.Write.contents c.serve-outcome.new.writer) c.serve-outcome.new.output.page [] (g.W.Write.contents c.flush.new.writer) t) f.ok f.printed in
     (s.0, s.1, s.2, all-written (g.W.Write.contents c.args.writer.now) (g.W.Write.contents c.serve-outcome.new.writer) (g.W.Write.contents c.flush.new.writer) s.1 c.serve-outcome.new.output.page s.3 flushed, s.4)
 
+pub returns-in-Ok-clause-table : goal.returns-in-Ok-clause-table
+returns-in-Ok-clause-table g c =
+    let s = c.in-Ok.ensures.ok in
+    let f = c.in_ok-flush-in-Ok.ensures in
+    let flushed = subst (λ t. Prints (g.W.Write.contents c.serve-outcome.new.writer) c.serve-outcome.new.output.page [] (g.W.Write.contents c.flush.new.writer) t) f.ok f.printed in
+    (s.0, s.1, s.2, all-written (g.W.Write.contents c.args.writer.now) (g.W.Write.contents c.serve-outcome.new.writer) (g.W.Write.contents c.flush.new.writer) s.1 c.serve-outcome.new.output.page s.3 flushed, s.5)
+
 pub returns-in_err-flush-in-Ok-clause-err : goal.returns-in_err-flush-in-Ok-clause-err
 returns-in_err-flush-in-Ok-clause-err g c =
     let s = c.in-Ok.ensures.ok in
@@ -21,7 +28,7 @@ returns-in_err-flush-in-Ok-clause-err g c =
     let new = c.serve-outcome.new.input in
     handed-on c.from_residual.result fault.Output _ (rw f.fault at c.from_residual.ensures.1)
     (whole-unwritten _ (λ _. IsUnseen g.R.Read g.R.Source.may_fail c.args.input.now new) (IsOver g.R.Read new) (λ why. Gives g.R.Read why c.args.input.now new) g.W.Sink.may_fail (g.W.Write.contents c.args.writer.now) (g.W.Write.contents c.serve-outcome.new.writer) (g.W.Write.contents c.flush.new.writer)
-    s.0 (coming g.R.Read new) s.1 c.serve-outcome.new.output.page c.flush.new.self.page (c.flush.new.self.cause f.failed) (starts g.R.Read c.args.input.now new s.0 s.2, tt, s.2) s.3 (answered-then _ s.0 s.1 (IsAtEnd g.R.Read new) (coming g.R.Read new ≡ []) (spent-rest g.R.Read new) s.4) f.printed)
+    s.0 (coming g.R.Read new) s.1 c.serve-outcome.new.output.page c.flush.new.self.page (c.flush.new.self.cause f.failed) (starts g.R.Read c.args.input.now new s.0 s.2, tt, s.2) s.3 (answered-then s.0 s.1 _ (IsAtEnd g.R.Read new) (coming g.R.Read new ≡ []) (spent-rest g.R.Read new) s.4) f.printed)
 
 pub returns-in_err-flush_at-in-Err-clause-err : goal.returns-in_err-flush_at-in-Err-clause-err
 returns-in_err-flush_at-in-Err-clause-err g c =

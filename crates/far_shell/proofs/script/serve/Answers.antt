@@ -1,8 +1,10 @@
-use Rattle.std.proofs.Common.{arith}
+use Rattle.std.proofs.Common.{arith, inl, inr}
 use Rattle.far_script.specs.Flow.{IsOver, IsUnseen}
 use Rattle.far_script.proofs.FlowStops.{handed-on, unseen-later}
 use Rattle.far_shell.proofs.LineFaultsLaws.{breaks-serving-as}
 use Rattle.far_shell.proofs.BreaksLaws.{always, breaks-start, breaks-table}
+use Rattle.far_commands.specs.WorldRules.{both_rules}
+use Rattle.far_shell.proofs.SeenLaws.{table-script, world-script}
 use Rattle.far_shell.proofs.SessionsScripts.{script-whole}
 use Rattle.far_shell.proofs.SessionsLaws.{sessions-stopped, sessions-whole, stopped-unwritten}
 use Rattle.far_shell.proofs.script.serve.Goals as goal
@@ -23,16 +25,18 @@ returns-in_ok-serve_table-in-Schema-clause-ok g c =
     let opening = c.in-Schema.opening in
     let asks = rw c.in-Schema.is at f.ok.4 in
     let s = c.in_ok-serve_table-in-Schema.ensures.ok in
-    script-whole g.R.Read _ c.args.input.now c.first_command.new.input c.serve_table.new.input f.ok.0 f.ok.1 s.0 s.1 (opening.kinds.items, opening.limits) (g.W.Write.contents c.args.writer.now) (g.W.Write.contents c.first_command.new.writer) (g.W.Write.contents c.serve_table.new.writer)
-    c.args.output.now.page c.first_command.new.output.page c.serve_table.new.output.page c.requires f.ok.2 f.printed f.ok.3 asks s.2 s.3 s.4 s.5
+    let w = script-whole g.R.Read (both_rules g.S.FarTickets) c.args.input.now c.first_command.new.input c.serve_table.new.input f.ok.0 f.ok.1 s.0 s.1 (opening.kinds.items, opening.limits) (g.W.Write.contents c.args.writer.now) (g.W.Write.contents c.first_command.new.writer) (g.W.Write.contents c.serve_table.new.writer)
+    c.args.output.now.page c.first_command.new.output.page c.serve_table.new.output.page c.requires f.ok.2 f.printed f.ok.3 asks s.2 s.3 s.4 s.5 in
+    (w.0, w.1, w.2, w.3, inl (world-script g.S.FarTickets w.0 w.1 w.4, w.5), inl (table-script g.S.FarTickets w.0 w.1 w.4, w.5))
 
 pub returns-in_ok-print_sessions-in-Threads-clause-ok : goal.returns-in_ok-print_sessions-in-Threads-clause-ok
 returns-in_ok-print_sessions-in-Threads-clause-ok g c =
     let f = c.in_ok-first.ensures in
     let asks = rw c.in-Threads.is at f.ok.4 in
     let s = c.in_ok-print_sessions-in-Threads.ensures.ok in
-    sessions-whole g.R.Read _ c.args.input.now c.first_command.new.input (g.W.Write.contents c.args.writer.now) (g.W.Write.contents c.first_command.new.writer) c.args.output.now.page c.first_command.new.output.page c.print_sessions.new.output.page f.ok.0 f.ok.1 s.0 c.in-Threads.sessions c.in-Threads.edits c.requires
-    f.ok.2 f.ok.3 asks f.printed s.2 s.1
+    let w = sessions-whole g.R.Read c.args.input.now c.first_command.new.input (g.W.Write.contents c.args.writer.now) (g.W.Write.contents c.first_command.new.writer) c.args.output.now.page c.first_command.new.output.page c.print_sessions.new.output.page f.ok.0 f.ok.1 s.0 c.in-Threads.sessions c.in-Threads.edits c.requires
+    f.ok.2 f.ok.3 asks f.printed s.2 s.1 in
+    (w.0, w.1, w.2, w.3, inr w.4, inr w.4)
 
 pub returns-in_err-first-clause-err : goal.returns-in_err-first-clause-err
 returns-in_err-first-clause-err g c =
