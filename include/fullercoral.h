@@ -5,18 +5,29 @@
  * object. Objects lie in the local region, and each may be evicted: the calling program then keeps its bytes, wherever it likes.
  *
  * Every call returns a code: FC_OK, the number of a refusal, or one of the codes from FC_CLOSED on. A call that is not FC_OK changes
- * no row, no aggregate and no object, and leaves its out parameters alone unless its comment says otherwise.
+ * no row, no aggregate and no object, and leaves its out parameters alone unless its comment says otherwise. Two calls are different:
+ * of fc_insert_columns and fc_set_column the rows and cells before the refused one stay.
  *
- * The code behind these calls is proved to do what their contracts say, for all arguments, if the caller keeps to these rules:
+ * What code can see of pointers is tested. Before anything else a call returns
  *
- *   1. Every pointer is valid for what it points to, aligned for its type, and not null. No call checks that. It goes for arrays of length
- *      0 too, as `tests` of an fc_spec without tests, and what an fc_column does not use: let these point to any object of their type, or
- *      those of bytes to fc_no_bytes.at. So name every pointer of a struct: one that an initializer leaves out is null.
- *   2. A handle is zeroed before fc_open, never copied, and given to one call at a time. It may go from thread to thread.
- *   3. What a call lends (an fc_bytes that it wrote) is read only until the next call with this handle.
- *   4. An fc_bytes that a call writes is fc_no_bytes, or another valid one, before.
- *   5. No call is made from a signal handler, or in the child of a fork of a process with threads.
- *   6. malloc, realloc and free are of one allocator. (They are the C library's unless the program brings its own.)
+ *   - FC_CLOSED if the handle is closed, null or not aligned (but fc_open FC_ALREADY_OPEN if it is open, FC_BAD_ARGUMENT if it is null or
+ *     not aligned);
+ *   - then FC_BAD_ARGUMENT if another pointer is null or not aligned for its type, if an array or a text is longer than an object can be
+ *     (PTRDIFF_MAX bytes), if what fc_numbers, fc_texts or fc_ask_key is to fill overlaps itself or the key, or if `has_key` is no bool.
+ *
+ * That goes for the pointers of a struct, used or not. An array or a text of length 0 is empty whatever its pointer is, also null: so what
+ * an initializer leaves out is right. But a row of more than 16 cells, or a list of more than 4 tests, with a null text in it is
+ * FC_BAD_ARGUMENT.
+ *
+ * These tests are in C, and tested. The code that they call is proved to do what its contracts say, for all arguments, if the caller keeps
+ * to these rules, which say what no code can see.
+ *
+ *   1. A pointer that is not null points to an object of its type, or to an array of the length that comes with it, unless that is 0.
+ *   2. A handle is zeroed before fc_open, then written by calls alone, never copied, and given to one call at a time. It may go from
+ *      thread to thread.
+ *   3. What a call lends (an fc_bytes that it wrote) is read only until the next call with this handle, and not given to that one.
+ *   4. No call is made from a signal handler, or in the child of a fork of a process with threads.
+ *   5. malloc, realloc and free are of one allocator. (They are the C library's unless the program brings its own.)
  *
  * And one premise, about fc_deliver: no two contents that meet there have the same digest. It is their SHA-256; of 1,024 bytes and more,
  * which are hashed in four parts side by side, the SHA-256 of the parts' SHA-256. So whoever breaks the premise has broken SHA-256.
@@ -64,10 +75,11 @@ enum fc_code {
     FC_FAR_FULL = 22,            /* the numbers of contents are used up: fc_migrate goes on with new ones */
     FC_EDITS_USED_UP = 24,       /* the limit of edits, of jobs or of pins is reached */
 
-    FC_CLOSED = 100,       /* the handle is closed */
+    FC_CLOSED = 100,       /* the handle is closed, or null */
     FC_ALREADY_OPEN = 101, /* fc_open of an open handle */
     FC_NO_UTF8 = 102,      /* a text is no UTF-8 */
-    FC_BAD_ARGUMENT = 103, /* a length, a kind, a fold or a comparison is none of those that there are */
+    FC_BAD_ARGUMENT = 103, /* a pointer is null or not aligned; what is to be filled overlaps; a length, a kind, a fold, a comparison or a
+                            * bool is none of those that there are */
     FC_NOTHING = 104,      /* there is nothing of the kind asked for */
     FC_SHORT_BUFFER = 105, /* a buffer is shorter than what goes there */
     FC_USED_UP = 106       /* 2^62 faults were counted: the table can be read, and no job carried */
@@ -94,10 +106,10 @@ typedef struct fc_bytes {
     size_t len;
 } fc_bytes;
 
-/* No bytes, at a valid address. */
+/* No bytes. */
 static const fc_bytes fc_no_bytes = {(const uint8_t *)"", 0};
 
-/* A cell. `number` counts if `kind` is FC_INT, `text` if it is FC_TEXT; else it is fc_no_bytes. */
+/* A cell. `number` counts if `kind` is FC_INT, `text` if it is FC_TEXT; else the text is empty, as where an initializer leaves it out. */
 typedef struct fc_cell {
     int64_t number;
     fc_bytes text;
@@ -106,9 +118,10 @@ typedef struct fc_cell {
 
 /* The limits of a table. The local memory is 16 * int_segments * int_size bytes for numbers and text_segments * text_size for texts. A row
  * group of numbers takes `group` elements of a segment, one of texts the bytes of its texts, 4 for each place, 6, and a bit for each place
- * if a text is missing; neither is divided between segments. So int_size is a multiple of `group`, and text_size several times what a row
- * group needs. An edit may need a segment of numbers for each column of numbers, and two of texts for each column of texts, besides those
- * of pinned objects. docs/EMBEDDING.md has an example. */
+ * if a text is missing; neither is divided between segments. So int_size is a multiple of `group`, and text_size at least what a row group
+ * needs: 6 + group * (4 + B) for texts of B bytes on average, and group / 8 more if one is missing. An edit may need a segment of numbers
+ * for each column of numbers, and two of texts for each column of texts, besides those of pinned objects. docs/EMBEDDING.md has an
+ * example. */
 typedef struct fc_limits {
     uint64_t edits;         /* how many edits, and how many jobs, are accepted: 1 to 2^40 */
     uint32_t group;         /* how many places a row group has: 1 to 65,536 */
@@ -122,14 +135,14 @@ typedef struct fc_limits {
 /* A test that a row must pass to be folded. */
 typedef struct fc_test {
     int64_t number;  /* the constant of FC_EQ to FC_GE */
-    fc_bytes text;   /* the constant of FC_TEXT_IS and FC_TEXT_BEGINS; else fc_no_bytes */
+    fc_bytes text;   /* the constant of FC_TEXT_IS and FC_TEXT_BEGINS; else empty */
     uint32_t column;
     uint32_t op;     /* an fc_op */
 } fc_test;
 
 /* An aggregate: what it computes, of which column, by which key column, over which rows. */
 typedef struct fc_spec {
-    const fc_test *tests; /* a row is folded if it passes all of them; at most 4; not null if there is none (rule 1) */
+    const fc_test *tests; /* a row is folded if it passes all of them; at most 4 */
     size_t tests_len;
     uint32_t fold;        /* an fc_fold */
     uint32_t value;       /* the column of the values, of numbers */
@@ -146,8 +159,7 @@ typedef struct fc_aggregate {
     bool has_key;
 } fc_aggregate;
 
-/* A column of rows to be inserted, or the cells of a column to be set, as Arrow lays columns out. No pointer is null, whatever its length
- * is (rule 1). */
+/* A column of rows to be inserted, or the cells of a column to be set, as Arrow lays columns out. */
 typedef struct fc_column {
     const int64_t *numbers; /* of FC_INT: the values; else of length 0 */
     size_t numbers_len;

@@ -5,7 +5,8 @@
 
 enum { CONTENTS = 64 };
 
-/* The storage: a file to which contents are appended, with where each lies. Nothing of it has to be trusted. */
+/* The storage: a file to which contents are appended, with where each lies. Nothing of it has to be trusted. The table gives out numbers
+ * below the capacity of fc_open, CONTENTS, so a number is an index here. */
 static FILE *file;
 static long begins[CONTENTS], lengths[CONTENTS];
 
@@ -18,13 +19,14 @@ static void ok(uint32_t code, const char *what) {
 /* Keeps the bytes of a carried eviction under the number that the table asks for. */
 static void keep(fc_table *table, uint64_t job) {
     uint64_t number;
-    fc_bytes bytes = fc_no_bytes;
+    fc_bytes bytes;
     uint32_t code = fc_outgoing(table, job, &number, &bytes);
     if (code == FC_NOTHING) return; /* the file has this content already */
     ok(code, "outgoing");
     fseek(file, 0, SEEK_END);
     begins[number] = ftell(file);
     lengths[number] = (long)bytes.len;
+    /* fc_fault never returns FC_OK, so a failed write ends the program here. */
     if (fwrite(bytes.at, 1, bytes.len, file) != bytes.len) ok(fc_fault(table, job), "write");
 }
 
@@ -55,7 +57,7 @@ static uint32_t fetch(fc_table *table, uint32_t column, uint32_t group, uint8_t 
 }
 
 static uint32_t insert(fc_table *table, const char *name, size_t length, int64_t quantity) {
-    fc_cell row[2] = {{0, {(const uint8_t *)name, length}, FC_TEXT}, {quantity, fc_no_bytes, FC_INT}};
+    fc_cell row[2] = {{.text = {(const uint8_t *)name, length}, .kind = FC_TEXT}, {.number = quantity, .kind = FC_INT}};
     uint32_t place;
     return fc_insert(table, row, 2, &place);
 }
@@ -65,7 +67,7 @@ static void print_answer(fc_table *table, uint32_t sold) {
     size_t lines;
     ok(fc_ask(table, sold, &lines), "ask");
     for (size_t i = 0; i < lines; i++) {
-        fc_line line = {.key_text = fc_no_bytes};
+        fc_line line;
         ok(fc_line_at(table, i, &line), "line");
         printf("%.*s count %llu sum %lld\n", (int)line.key_text.len, (const char *)line.key_text.at, (unsigned long long)line.count,
                (long long)line.sum_low);
@@ -76,9 +78,8 @@ int main(void) {
     const uint32_t kinds[2] = {FC_TEXT, FC_INT};
     const fc_limits limits = {.edits = 1000, .group = 4, .places = 100, .int_segments = 4, .int_size = 16, .text_segments = 4,
                               .text_size = 256};
-    const fc_test no_tests[1] = {{0, {(const uint8_t *)"", 0}, 0, 0}};
-    const fc_spec by_name = {.tests = no_tests, .tests_len = 0, .fold = FC_TOTALS, .value = 1, .key = 0, .has_key = true};
-    const fc_cell nine = {9, fc_no_bytes, FC_INT};
+    const fc_spec by_name = {.fold = FC_TOTALS, .value = 1, .key = 0, .has_key = true};
+    const fc_cell nine = {.number = 9, .kind = FC_INT};
     fc_table table = {NULL};
     fc_details why;
     uint32_t sold;

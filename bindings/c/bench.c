@@ -46,19 +46,15 @@ static void insert_all(fc_table *table, size_t rows) {
 }
 
 static void insert_columns(fc_table *table, size_t rows, const int64_t *numbers) {
-    static const uint64_t no_offsets[1];
     size_t inserted;
-    const fc_column column = {.numbers = numbers, .numbers_len = rows, .offsets = no_offsets, .bytes = fc_no_bytes.at,
-                              .valid = fc_no_bytes.at, .kind = FC_INT};
+    const fc_column column = {.numbers = numbers, .numbers_len = rows, .kind = FC_INT};
     const fc_column columns[COLUMNS] = {column, column};
     ok(fc_insert_columns(table, columns, COLUMNS, rows, &inserted), "insert_columns");
 }
 
 /* Sets the cells of each place, call by call and then in one call. */
 static void set_all(fc_table *table, size_t rows, const int64_t *numbers) {
-    static const uint64_t no_offsets[1];
-    const fc_column column = {.numbers = numbers, .numbers_len = rows, .offsets = no_offsets, .bytes = fc_no_bytes.at,
-                              .valid = fc_no_bytes.at, .kind = FC_INT};
+    const fc_column column = {.numbers = numbers, .numbers_len = rows, .kind = FC_INT};
     uint32_t *places = room(4 * rows);
     size_t set;
     for (size_t i = 0; i < rows; i++) places[i] = (uint32_t)i;
@@ -75,8 +71,7 @@ static void set_all(fc_table *table, size_t rows, const int64_t *numbers) {
 }
 
 static void find(fc_table *table) {
-    const fc_test none = {.text = fc_no_bytes};
-    const fc_spec by_key = {.tests = &none, .fold = FC_TOTALS, .value = 1, .key = 0, .has_key = true};
+    const fc_spec by_key = {.fold = FC_TOTALS, .value = 1, .key = 0, .has_key = true};
     const int finds = 1000000;
     uint32_t aggregate;
     size_t lines, index;
@@ -92,8 +87,7 @@ static void find(fc_table *table) {
 }
 
 static void ask(fc_table *table) {
-    const fc_test none = {.text = fc_no_bytes};
-    const fc_spec total = {.tests = &none, .fold = FC_TOTALS, .value = 1};
+    const fc_spec total = {.fold = FC_TOTALS, .value = 1};
     uint32_t aggregate, pending, first;
     size_t lines;
     const int asks = 1000000;
@@ -111,10 +105,9 @@ static void ask_keys(uint32_t kind, int64_t apart, const char *what) {
     const uint32_t kinds[COLUMNS] = {kind, FC_INT};
     const fc_limits limits = {.edits = (uint64_t)1 << 40, .group = GROUP, .places = GROUP, .int_segments = 3, .int_size = GROUP,
                               .text_segments = 2, .text_size = 1 << 20};
-    const fc_test none = {.text = fc_no_bytes};
-    const fc_spec by_key = {.tests = &none, .fold = FC_TOTALS, .value = 1, .key = 0, .has_key = true};
+    const fc_spec by_key = {.fold = FC_TOTALS, .value = 1, .key = 0, .has_key = true};
     fc_table table = {NULL};
-    fc_line line = {.key_text = fc_no_bytes};
+    fc_line line;
     fc_cell keys[KEYS];
     uint32_t aggregate, place;
     size_t lines;
@@ -171,7 +164,7 @@ static void move(fc_table *table, size_t rows) {
     uint8_t *shelf = room((size_t)GROUP * 16 + 64), *from = room(groups * half), *to = room(groups * half);
     for (uint32_t group = 0; group < groups; group++) {
         uint64_t job, number;
-        fc_bytes bytes = fc_no_bytes;
+        fc_bytes bytes;
         double at[8];
         at[0] = now();
         ok(fc_begin_evict(table, 1, group, &job), "begin");

@@ -2,7 +2,7 @@
  * libFuzzer it is driven by that (tests/fuzz); with -DREPLAY it has a main() that runs one input, or those of fuzz.corpus (tests/c-tests).
  *
  * The first byte says which allocation is refused, if one is. Two bytes say what the table is. Then each byte is a call, with its arguments
- * behind it. The heap is this file's own: it refuses one allocation, and looks whether bytes beside a block were written. */
+ * after it. The heap is this file's own: it refuses one allocation, and looks whether bytes beside a block were written. */
 #include "fuzz.h"
 
 /* The number of the input that runs, if it was drawn. */
@@ -35,7 +35,7 @@ tried rattle_alloc(size_t size, size_t align);
 tried rattle_realloc(void *block, size_t kept, size_t size, size_t align);
 void rattle_dealloc(void *block);
 
-/* A block stands between two guards: before it its length and a mark, behind it a mark. */
+/* A block is between two guards: before it its length and a mark, after it a mark. */
 #define GUARD 16
 static const uint64_t MARK = 0x5afe5afe5afe5afe;
 static unsigned long allocations, refused_one;
@@ -103,7 +103,7 @@ void rattle_dealloc(void *block) {
 
 /* --- What calls return ------------------------------------------------------------------------------------------------------------ */
 
-/* Which codes came of which calls, and behind which: libFuzzer takes these counters for code that was reached. */
+/* Which codes came of which calls, and after which: libFuzzer takes these counters for code that was reached. */
 #ifdef REPLAY
 static uint8_t reached[8192];
 #else
@@ -170,12 +170,11 @@ static bool is_schema(const fc_limits *limits, uint32_t columns) {
 
 /* Registers the aggregate that is looked at after each call, if there is a column of numbers. */
 static void watch_total(world *w) {
-    static const fc_test NO_TESTS[1] = {{0, {(const uint8_t *)"", 0}, 0, 0}};
     w->total = NONE;
     for (w->summed = 0; w->summed < w->columns && w->kinds[w->summed] != FC_INT; w->summed++)
         ;
     if (w->summed == w->columns) return;
-    fc_spec spec = {.tests = NO_TESTS, .fold = FC_TOTALS, .value = w->summed};
+    fc_spec spec = {.fold = FC_TOTALS, .value = w->summed};
     uint32_t number = 99;
     if (seen(w, fc_watch(&w->table, &spec, &number), CODES(FC_NO_MEMORY)) == FC_OK) w->total = number;
 }
@@ -238,6 +237,10 @@ static void one_call(world *w, program *it) {
         open_table(w, it);
         return;
     }
+    if (which == 253) {
+        call_with_null(w, it);
+        return;
+    }
     uint32_t part = which % 62, call = which / 62;
     for (uint32_t kind = 0; kind < 5; kind++) {
         if (part < KINDS[kind].parts) {
@@ -286,7 +289,7 @@ static unsigned reached_in_all(void) {
     return count;
 }
 
-/* Runs an input at the end of a block of its own, so that a read behind it is seen. */
+/* Runs an input at the end of a block of its own, so that a read past it is seen. */
 static void run(const uint8_t *bytes, size_t size) {
     uint8_t *data = malloc(size ? size : 1);
     if (data == NULL) FAIL("the fuzzer itself has no memory");
@@ -295,7 +298,7 @@ static void run(const uint8_t *bytes, size_t size) {
     free(data);
 }
 
-/* Runs each `step`-th of the inputs of a file, each of which stands behind its length, of two bytes, the lower first. */
+/* Runs each `step`-th of the inputs of a file, each after its length, of two bytes, the lower first. */
 static unsigned long run_packed(FILE *file, unsigned long step) {
     static uint8_t bytes[1 << 16];
     uint8_t len[2];

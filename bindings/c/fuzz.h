@@ -96,6 +96,8 @@ uint32_t noted(world *w, uint32_t code);
 
 void open_table(world *w, program *it);
 void close_table(world *w, program *it);
+/* Makes any call with one of its pointers null: it is refused, and writes nothing. */
+void call_with_null(world *w, program *it);
 
 /* A call with arguments of the program, and checks of what it returns. */
 typedef void call(world *w, program *it);

@@ -30,9 +30,11 @@ static const uint8_t *text_of(const plain_cell *cell) {
     return long_text;
 }
 
+/* (A text of no bytes is null where the number is odd.) */
 fc_cell raw_cell(const plain_cell *cell) {
     fc_cell raw = {cell->number, fc_no_bytes, cell->kind};
     if (cell->kind == FC_TEXT) raw.text = (fc_bytes){text_of(cell), cell->len};
+    if (raw.text.len == 0 && cell->number % 2 != 0) raw.text.at = NULL;
     return raw;
 }
 
@@ -163,6 +165,7 @@ typedef struct {
 
 #define ROWS 9
 
+/* (A part without elements is null where the rows are odd.) */
 static fc_column gathered(parts *made, plain_cell cells[ROWS][MOST_COLUMNS], uint32_t column, size_t rows, uint32_t kind) {
     size_t bytes = 0;
     for (size_t row = 0; row < rows; row++) bytes += cells[row][column].kind == FC_TEXT ? cells[row][column].len : 0;
@@ -178,9 +181,14 @@ static fc_column gathered(parts *made, plain_cell cells[ROWS][MOST_COLUMNS], uin
             made->numbers[row] = cell->kind == FC_INT ? cell->number : 0;
         }
     }
-    bool is_int = kind == FC_INT;
-    return (fc_column){made->numbers, is_int ? rows : 0, made->offsets, is_int ? 0 : rows + 1, made->bytes, is_int ? 0 : bytes,
-                       made->valid, (rows + 7) / 8, kind};
+    fc_column column_of = {made->numbers, rows, made->offsets, rows + 1, made->bytes, bytes, made->valid, (rows + 7) / 8, kind};
+    bool is_null = rows % 2;
+    if (kind == FC_TEXT) column_of.numbers_len = 0;
+    if (kind == FC_INT) column_of.offsets_len = column_of.bytes_len = 0;
+    if (is_null && column_of.numbers_len == 0) column_of.numbers = NULL;
+    if (is_null && column_of.offsets_len == 0) column_of.offsets = NULL;
+    if (is_null && column_of.bytes_len == 0) column_of.bytes = NULL;
+    return column_of;
 }
 
 /* Spoils the shape of columns, so that none of their rows is inserted. */

@@ -73,7 +73,9 @@ static uint8_t *returned(const world *w, program *it, uint64_t number, size_t *l
     if (how >= 240 && how < 250) *len = 0;
     bool is_known = number < MOST_CONTENTS && w->shelf[number].at;
     *is_right = is_known && *len == w->shelf[number].len && memcmp(bytes, w->shelf[number].at, *len) == 0;
-    return realloc(bytes, *len ? *len : 1);
+    if (*len) return realloc(bytes, *len);
+    free(bytes);
+    return NULL;
 }
 
 static uint32_t deliver_number(world *w, program *it, uint64_t job, uint64_t number, bool is_wanted) {

@@ -56,7 +56,7 @@ static bool is_before(const fc_line *one, const fc_line *other) {
 static bool is_asked_alone(world *w, uint32_t aggregate, const fc_line *line) {
     static uint8_t text[LONGEST_TEXT];
     fc_cell key = {line->key_number, fc_no_bytes, line->key_kind};
-    fc_line alone = {.key_text = fc_no_bytes};
+    fc_line alone;
     if (key.kind == FC_TEXT) key.text = (fc_bytes){memcpy(text, line->key_text.at, line->key_text.len), line->key_text.len};
     uint32_t code = seen(w, fc_ask_key(&w->table, aggregate, &key, &alone), CODES(FC_CLOSED));
     return code == FC_NO_MEMORY ||
@@ -66,7 +66,7 @@ static bool is_asked_alone(world *w, uint32_t aggregate, const fc_line *line) {
 
 /* Looks at each line of an answer by its key alone. (Line by line anew, since the answer stays in the handle.) */
 static void ask_keys(world *w, uint32_t aggregate, size_t lines) {
-    fc_line line = {.key_text = fc_no_bytes};
+    fc_line line;
     for (size_t index = 0; index < lines; index++) {
         HOLDS(seen(w, fc_line_at(&w->table, index, &line), CODES(FC_CLOSED)) == FC_OK);
         HOLDS(is_asked_alone(w, aggregate, &line));
@@ -164,8 +164,7 @@ static void check_absent(world *w, uint32_t code) {
 static void row(world *w, program *it) {
     uint32_t place = next_number(it, w->places);
     size_t len = w->columns + (next_byte(it) > 240);
-    fc_cell *cells = calloc(len + 1, sizeof *cells);
-    for (size_t column = 0; column < len; column++) cells[column].text = fc_no_bytes;
+    fc_cell *cells = len ? calloc(len, sizeof *cells) : NULL;
     uint32_t code = seen(w, fc_row(&w->table, place, cells, len), CODES(FC_NO_ROW, FC_ABSENT, FC_BAD_ARGUMENT));
     HOLDS(code != FC_OK || (place < w->places && len == w->columns));
     for (size_t column = 0; code == FC_OK && column < len; column++) HOLDS(is_same_cell(&w->rows[place][column], &cells[column]));
@@ -184,8 +183,8 @@ static void numbers(world *w, program *it) {
     uint32_t column = next_number(it, w->columns), from = next_number(it, w->places + 1), to = next_number(it, w->places + 1);
     size_t len = to >= from && to - from <= MOST_PLACES ? to - from : 3;
     if (next_byte(it) > 240) len++;
-    int64_t *values = calloc(len + 1, 8);
-    bool *valid = calloc(len + 1, 1), *alive = calloc(len + 1, 1);
+    int64_t *values = len ? calloc(len, 8) : NULL;
+    bool *valid = len ? calloc(len, 1) : NULL, *alive = len ? calloc(len, 1) : NULL;
     uint32_t code = seen(w, fc_numbers(&w->table, column, from, to, values, len, valid, len, alive, len),
                          CODES(FC_NO_COLUMN, FC_WRONG_KIND, FC_OUT_OF_RANGE, FC_ABSENT, FC_BAD_ARGUMENT));
     HOLDS(code != FC_OK || (to <= w->places && len == to - from));
@@ -216,7 +215,7 @@ static void check_texts(world *w, uint32_t column, uint32_t from, size_t len, co
                         const bool *alive) {
     for (size_t i = 0; i < len; i++) {
         HOLDS(offsets[i] <= offsets[i + 1]);
-        fc_cell came = {0, {bytes + offsets[i], offsets[i + 1] - offsets[i]}, valid[i] ? FC_TEXT : FC_MISSING};
+        fc_cell came = {0, {bytes ? bytes + offsets[i] : fc_no_bytes.at, offsets[i + 1] - offsets[i]}, valid[i] ? FC_TEXT : FC_MISSING};
         HOLDS(is_same_cell(&w->rows[from + i][column], &came) && alive[i] == w->alive[from + i]);
     }
 }
@@ -231,8 +230,8 @@ static void texts(world *w, program *it) {
     if (how > 240) len++;
     size_t given = how % 16 == 1 && size > 0 ? size - 1 : size;
     uint64_t *offsets = calloc(len + 1, 8);
-    uint8_t *bytes = calloc(given + 1, 1);
-    bool *valid = calloc(len + 1, 1), *alive = calloc(len + 1, 1);
+    uint8_t *bytes = given ? calloc(given, 1) : NULL;
+    bool *valid = len ? calloc(len, 1) : NULL, *alive = len ? calloc(len, 1) : NULL;
     uint32_t code = seen(w, fc_texts(&w->table, column, from, to, offsets, len + 1, bytes, given, valid, len, alive, len),
                          CODES(FC_NO_COLUMN, FC_WRONG_KIND, FC_OUT_OF_RANGE, FC_ABSENT, FC_BAD_ARGUMENT, FC_SHORT_BUFFER));
     HOLDS(code != FC_OK || (sized == FC_OK && given == size && to <= w->places && len == to - from));
@@ -288,7 +287,6 @@ void look(world *w) {
 void look_at_rows(world *w) {
     fc_cell cells[MOST_COLUMNS];
     for (uint32_t place = 0; place < w->places; place++) {
-        for (uint32_t column = 0; column < w->columns; column++) cells[column].text = fc_no_bytes;
         uint32_t code = fc_row(&w->table, place, cells, w->columns);
         HOLDS(code == FC_OK || code == FC_ABSENT);
         for (uint32_t column = 0; code == FC_OK && column < w->columns; column++)

@@ -24,7 +24,7 @@ static void ok(uint32_t code, const char *what) {
 static bool evict_coldest(fc_table *table) {
     static off_t end;
     uint64_t job, number;
-    fc_bytes bytes = fc_no_bytes;
+    fc_bytes bytes;
     uint32_t code = fc_begin_coldest(table, &job);
     if (code == FC_NOTHING) return false;
     ok(code, "begin_coldest");
@@ -40,7 +40,7 @@ static bool evict_coldest(fc_table *table) {
 }
 
 static void insert(fc_table *table, int64_t i) {
-    const fc_cell row[COLUMNS] = {{i % 100, fc_no_bytes, FC_INT}, {i, fc_no_bytes, FC_INT}};
+    const fc_cell row[COLUMNS] = {{.number = i % 100, .kind = FC_INT}, {.number = i, .kind = FC_INT}};
     uint32_t place, code;
     while ((code = fc_insert(table, row, COLUMNS, &place)) == FC_REGION_FULL) {
         if (!evict_coldest(table)) break;
@@ -67,10 +67,9 @@ int main(int argc, char **argv) {
     const uint32_t segments = (uint32_t)(rows * COLUMNS / GROUP / 8 + 3);
     const fc_limits limits = {.edits = (uint64_t)1 << 40, .group = GROUP, .places = 1 << 24, .int_segments = segments, .int_size = GROUP,
                               .text_segments = 1, .text_size = 64};
-    const fc_test none = {.text = fc_no_bytes};
-    const fc_spec by_key = {.tests = &none, .fold = FC_TOTALS, .value = 1, .key = 0, .has_key = true};
+    const fc_spec by_key = {.fold = FC_TOTALS, .value = 1, .key = 0, .has_key = true};
     fc_table table = {NULL};
-    fc_line line = {.key_text = fc_no_bytes};
+    fc_line line;
     uint32_t aggregate;
     size_t lines;
     if (!(file = tmpfile())) return 3;

@@ -9,10 +9,9 @@
 static const uint32_t KINDS[2] = {FC_TEXT, FC_INT};
 static const fc_limits LIMITS = {.edits = 1000, .group = 4, .places = 16, .int_segments = 4, .int_size = 16, .text_segments = 4,
                                  .text_size = 256};
-static const fc_test NO_TESTS[1] = {{0, {(const uint8_t *)"", 0}, 0, 0}};
-static const fc_spec BY_NAME = {.tests = NO_TESTS, .fold = FC_TOTALS, .value = 1, .key = 0, .has_key = true};
-static const fc_spec TOTAL = {.tests = NO_TESTS, .fold = FC_TOTALS, .value = 1};
-static const fc_spec RANGE = {.tests = NO_TESTS, .fold = FC_EXTREMA, .value = 1};
+static const fc_spec BY_NAME = {.fold = FC_TOTALS, .value = 1, .key = 0, .has_key = true};
+static const fc_spec TOTAL = {.fold = FC_TOTALS, .value = 1};
+static const fc_spec RANGE = {.fold = FC_EXTREMA, .value = 1};
 
 static fc_bytes text(const char *of) { return (fc_bytes){(const uint8_t *)of, strlen(of)}; }
 
@@ -43,7 +42,7 @@ typedef struct {
 static content shelf[1000];
 
 static bool keep(fc_table *table, uint64_t job, uint64_t *number) {
-    fc_bytes bytes = fc_no_bytes;
+    fc_bytes bytes;
     if (fc_outgoing(table, job, number, &bytes) != FC_OK) return false;
     memcpy(shelf[*number].bytes, bytes.at, bytes.len);
     shelf[*number].len = bytes.len;
@@ -137,7 +136,7 @@ static void many_rows(void) {
     };
     size_t inserted = 99;
     uint32_t total;
-    fc_cell row[2] = {{0, fc_no_bytes, 0}, {0, fc_no_bytes, 0}};
+    fc_cell row[2];
     open_bakery(&table);
     OK(fc_watch(&table, &TOTAL, &total));
     OK(fc_scan(&table, total, 0));
@@ -177,7 +176,7 @@ static void refused_rows(void) {
     wrong[0].numbers_len = 1;    /* texts with a number */
     wrong[1].offsets_len = 3;    /* two texts */
     wrong[2].offsets = descending;
-    wrong[3].bytes_len = 6;      /* the last text ends behind the bytes */
+    wrong[3].bytes_len = 6;      /* the last text ends past the bytes */
     wrong[4].kind = FC_INT;      /* texts as numbers */
     wrong[5].numbers_len = 2;    /* two numbers */
     wrong[6].offsets_len = 1;    /* numbers with an offset */
@@ -229,7 +228,7 @@ static void short_masks(void) {
 
 /* Whether the cell of column 1 of a place is this number, or missing if there is none. */
 static bool has_number(fc_table *table, uint32_t place, const int64_t *number) {
-    fc_cell row[2] = {{0, fc_no_bytes, 0}, {0, fc_no_bytes, 0}};
+    fc_cell row[2];
     if (fc_row(table, place, row, 2) != FC_OK) return false;
     return number ? row[1].kind == FC_INT && row[1].number == *number : row[1].kind == FC_MISSING;
 }
@@ -239,7 +238,7 @@ static void many_cells(void) {
     const int64_t numbers[5] = {7, 0, -2, 9, 4};
     const uint64_t offsets[4] = {0, 3, 3, 6};
     const uint8_t valid[1] = {29};
-    const uint32_t places[5] = {2, 1, 2, 0, 4}, removed[3] = {0, 1, 2}, none[1] = {0};
+    const uint32_t places[5] = {2, 1, 2, 0, 4}, removed[3] = {0, 1, 2};
     fc_column ints = {numbers, 5, offsets, 0, (const uint8_t *)"", 0, valid, 1, FC_INT};
     fc_column texts = {numbers, 0, offsets, 4, (const uint8_t *)"oatr\xff" "e", 6, valid, 0, FC_TEXT};
     fc_column bad = ints;
@@ -262,7 +261,7 @@ static void many_cells(void) {
     texts.bytes = (const uint8_t *)"oatrye";
     OK(fc_set_column(&table, 0, places, 3, &texts, &set));
     CHECK(set == 3);
-    OK(fc_set_column(&table, 1, none, 0, &(fc_column){numbers, 0, offsets, 0, (const uint8_t *)"", 0, valid, 0, FC_INT}, &set));
+    OK(fc_set_column(&table, 1, NULL, 0, &(fc_column){.kind = FC_INT}, &set));
     CHECK(set == 0);
     CODE(fc_set_column(&table, 1, places, 4, &ints, &set), FC_BAD_ARGUMENT);
     CHECK(set == 0);
@@ -296,7 +295,7 @@ static void finding(void) {
     uint32_t by_name, by_number, total;
     size_t lines, index = 99;
     const fc_cell missing = {0, fc_no_bytes, FC_MISSING}, bread = text_cell("bread"), bad = {0, {(const uint8_t *)"\xff", 1}, FC_TEXT};
-    fc_spec spec = {.tests = NO_TESTS, .fold = FC_EXTREMA, .value = 1, .key = 1, .has_key = true};
+    fc_spec spec = {.fold = FC_EXTREMA, .value = 1, .key = 1, .has_key = true};
     CODE(fc_find(&table, &bread, &index), FC_CLOSED);
     open_bakery(&table);
     CODE(fc_find(&table, &bread, &index), FC_NOTHING);
@@ -322,7 +321,7 @@ static void finding(void) {
 }
 
 static bool is_key_total(fc_table *table, uint32_t aggregate, fc_cell key, uint64_t count, int64_t sum) {
-    fc_line line = {.key_text = fc_no_bytes};
+    fc_line line;
     return fc_ask_key(table, aggregate, &key, &line) == FC_OK && line.fold == FC_TOTALS && line.key_kind == key.kind &&
            line.key_number == key.number && line.key_text.len == key.text.len &&
            (key.kind != FC_TEXT || line.key_text.at == key.text.at) && line.count == count && (int64_t)line.sum_low == sum &&
@@ -330,7 +329,7 @@ static bool is_key_total(fc_table *table, uint32_t aggregate, fc_cell key, uint6
 }
 
 static bool is_key_range(fc_table *table, uint32_t aggregate, fc_cell key, int64_t min, int64_t max) {
-    fc_line line = {.key_text = fc_no_bytes};
+    fc_line line;
     return fc_ask_key(table, aggregate, &key, &line) == FC_OK && line.fold == FC_EXTREMA && line.key_kind == key.kind && line.min == min &&
            line.max == max;
 }
@@ -342,7 +341,7 @@ static void one_key(void) {
     fc_line line = {.key_text = fc_no_bytes, .fold = 9}, kept = {.key_text = fc_no_bytes};
     fc_details why;
     const fc_cell missing = {0, fc_no_bytes, FC_MISSING}, bread = text_cell("bread"), bad = {0, {(const uint8_t *)"\xff", 1}, FC_TEXT};
-    fc_spec spec = {.tests = NO_TESTS, .fold = FC_EXTREMA, .value = 1, .key = 0, .has_key = true};
+    fc_spec spec = {.fold = FC_EXTREMA, .value = 1, .key = 0, .has_key = true};
     CODE(fc_ask_key(&table, 0, &bread, &line), FC_CLOSED);
     open_bakery(&table);
     CODE(fc_ask_key(&table, 0, &bread, &line), FC_NO_AGGREGATE);
@@ -387,7 +386,7 @@ static void aggregates(void) {
     fc_table table;
     uint32_t by_name, total, range, groups = 99, first = 99;
     size_t lines;
-    fc_line line = {.key_text = fc_no_bytes};
+    fc_line line;
     const fc_test tests[2] = {{3, {(const uint8_t *)"", 0}, 1, FC_GE}, {0, {(const uint8_t *)"b", 1}, 0, FC_TEXT_BEGINS}};
     fc_spec filtered = {.tests = tests, .tests_len = 2, .fold = FC_TOTALS, .value = 1};
     fc_spec wrong = TOTAL;
@@ -556,9 +555,9 @@ static void many_lines(void) {
 /* What is lent, twice over, and refused between: nothing but the last refusal changes. */
 static void lending(void) {
     fc_table table;
-    fc_line line = {.key_text = fc_no_bytes};
-    fc_cell row[2] = {{0, fc_no_bytes, 0}, {0, fc_no_bytes, 0}};
-    fc_bytes name = fc_no_bytes, out = fc_no_bytes;
+    fc_line line;
+    fc_cell row[2];
+    fc_bytes name, out;
     fc_object before, after;
     fc_details why;
     uint64_t job, number = 999, begun, waiting;
@@ -575,7 +574,6 @@ static void lending(void) {
     memset(&after, 0, sizeof after);
     OK(fc_object_of(&table, 1, 0, &before));
     for (int i = 0; i < 2; i++) {
-        name = out = line.key_text = row[0].text = fc_no_bytes;
         OK(fc_line_at(&table, 0, &line));
         CHECK(line.key_text.len == 5 && line.count == 2 && line.sum_low == 7);
         OK(fc_row(&table, 1, row, 2));
@@ -702,11 +700,11 @@ static void refused_jobs(void) {
 static void closed_edits(void) {
     fc_table table = {NULL};
     const fc_cell cell = {0, fc_no_bytes, FC_MISSING};
-    const fc_column column = {(const int64_t[1]){0}, 0, (const uint64_t[1]){0}, 0, fc_no_bytes.at, 0, fc_no_bytes.at, 0, FC_INT};
+    const fc_column column = {.kind = FC_INT};
     uint32_t n = 99, first = 99;
     size_t count = 99;
     fc_sum sum;
-    fc_line line = {.key_text = fc_no_bytes};
+    fc_line line;
     CODE(fc_insert(&table, &cell, 1, &n), FC_CLOSED);
     CODE(fc_insert_columns(&table, &column, 1, 0, &count), FC_CLOSED);
     CODE(fc_set(&table, 0, 0, &cell), FC_CLOSED);
@@ -842,6 +840,8 @@ static void is_refused(fc_table *table, uint64_t job, uint64_t number, const uin
 static void lies(void) {
     fc_table table;
     uint64_t job, number, older, other;
+    uint32_t by_name;
+    size_t lines;
     const fc_cell eight = int_cell(8);
     uint8_t bytes[256];
     open_bakery(&table);
@@ -866,9 +866,15 @@ static void lies(void) {
     CODE(fc_deliver(&table, job, older, shelf[older].bytes, shelf[older].len), FC_STALE_JOB);
     CODE(fc_carry(&table, job), FC_FAR_FAULT);
     OK(fc_deliver(&table, job, number, right.bytes, right.len));
+    /* (a refused delivery leaves what was delivered before) */
+    is_refused(&table, job, number, right.bytes, right.len - 1);
     OK(fc_carry(&table, job));
     CODE(fc_wanted(&table, job, 0, &number), FC_NOTHING);
     OK(fc_install(&table, job));
+    /* (a recount reads local columns where they are: no content is delivered now) */
+    OK(fc_watch(&table, &BY_NAME, &by_name));
+    OK(fc_recount(&table, by_name, &lines));
+    CHECK(lines == 2);
     OK(fc_close(&table));
 }
 
@@ -881,8 +887,7 @@ static void lies(void) {
 static uint32_t set_names(fc_table *table, size_t *done) {
     static const uint32_t places[2] = {0, 1};
     static const uint64_t offsets[3] = {0, 3, 6};
-    static const int64_t no_numbers[1];
-    const fc_column names = {no_numbers, 0, offsets + *done, 3 - *done, (const uint8_t *)"oatrye", 6, fc_no_bytes.at, 0, FC_TEXT};
+    const fc_column names = {NULL, 0, offsets + *done, 3 - *done, (const uint8_t *)"oatrye", 6, NULL, 0, FC_TEXT};
     size_t set;
     const uint32_t code = fc_set_column(table, 0, places + *done, 2 - *done, &names, &set);
     *done += set;
@@ -894,7 +899,7 @@ static void a_day_without_memory(unsigned long which) {
     uint32_t by_name, code;
     uint64_t job, number;
     size_t lines = 0, set = 0;
-    fc_line line = {.key_text = fc_no_bytes};
+    fc_line line;
     const fc_cell rye = text_cell("rye");
     allocations = 0;
     refused_one = which;
