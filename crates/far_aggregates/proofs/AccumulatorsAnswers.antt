@@ -11,7 +11,7 @@ use Rattle.std.proofs.lemmas.List.Elements.{filter_map-append}
 use Rattle.far_types.specs.declared.answer.Answer.TheVariants as answer
 use Rattle.far_types.specs.declared.spec.Spec.{Spec}
 use Rattle.far_types.specs.declared.spec.Fold.{Fold}
-use Rattle.far_types.specs.Answers.{Extrema, totals, extrema, or_zero, total_lines, extrema_lines, answer_of, answer_over}
+use Rattle.far_types.specs.Answers.{Extrema, totals, extrema, or_zero, lines_by_key, answer_of, answer_over}
 use Rattle.far_types.specs.Effects.{merge_two, join_min_maxes, joined_extrema}
 use Rattle.far_types.specs.Keys.{line_cmp}
 use Rattle.far_types.specs.Pairs.{Pair, pairs_of}
@@ -84,10 +84,10 @@ module _ (spec : Spec) (size : ℕ) (ps : List Place) where
 
 answers : (f : Fold) (size : ℕ) (places : List Place) (a : Aggregate) (k : Accumulator) → 0 < size → fold_of k ≡ f → IsUpToDate size places a k → left a.pending ≡ 0 → accumulator_answer a.spec.key k ≡ answer_of f a.spec.key (pairs_of a.spec (rows_of places))
 answers f size places a (accumulator.Totals live) pos e h z =
-    ap (λ m. answer.Totals (or_zero a.spec.key (total_lines m))) (h.0 ∙ ap totals (scanned-all a.spec size a.pending 0 places z ∙ sym (pairs_of-rows a.spec places)))
+    ap (λ m. answer.Totals (or_zero a.spec.key (lines_by_key m))) (h.0 ∙ ap totals (scanned-all a.spec size a.pending 0 places z ∙ sym (pairs_of-rows a.spec places)))
     ∙ ap (λ x. answer_of x a.spec.key (pairs_of a.spec (rows_of places))) e
 answers f size places a (accumulator.Extrema live) pos e h z =
-    ap (λ m. answer.Extrema (extrema_lines m)) (joined-all a.spec size places live.groups pos (λ k. h.0 k ∙ ap (λ b. cond b fin.empty (extrema (group_pairs a.spec size k places))) (none_left a.pending k z)) ∙ ap extrema (sym (pairs_of-rows a.spec places)))
+    ap (λ m. answer.Extrema (lines_by_key m)) (joined-all a.spec size places live.groups pos (λ k. h.0 k ∙ ap (λ b. cond b fin.empty (extrema (group_pairs a.spec size k places))) (none_left a.pending k z)) ∙ ap extrema (sym (pairs_of-rows a.spec places)))
     ∙ ap (λ x. answer_of x a.spec.key (pairs_of a.spec (rows_of places))) e
 
 pub answers-now : (size : ℕ) (places : List Place) (a : Aggregate) → 0 < size → KeepsEntry size places (Some a) → left a.pending ≡ 0 → accumulator_answer a.spec.key a.accumulator ≡ answer_over a.spec (rows_of places)

@@ -9,12 +9,16 @@ use Rattle.std.proofs.lemmas.List.Sums.{sum_by-cons}
 use Rattle.std.proofs.lemmas.Nat.{le-div}
 use Rattle.far_types.specs.declared.spec.Spec.{Spec}
 use Rattle.far_types.specs.Answers.{totals, extrema}
-use Rattle.far_types.specs.Table.{Place, Registered, groups, all_pending, is_pending, left, in_group, place_pair}
+use Rattle.far_types.specs.Table.{Place, Registered, groups, is_pending, left, in_group, place_pair}
 use Rattle.far_aggregates.specs.declared.aggregate.Accumulator.{Accumulator}
 use Rattle.far_aggregates.specs.declared.aggregate.Accumulator.TheVariants as accumulator
 use Rattle.far_aggregates.specs.Accumulators.{RegistryEntry, registered_in, registered_of, group_pairs, scanned_group, fold_of, KeepsNothing, KeepsEntry}
 use Rattle.far_aggregates.proofs.AccumulatorsTotals.{scanned-none}
 use Rattle.far_aggregates.proofs.ListLaws.{map-set_like}
+
+-- all row groups that hold a place are pending
+abbrev all_pending : ℕ → List Place → List Bool
+all_pending size places = replicate (groups size (length places)) true
 
 set-before : {X : Type 0} (xs ys : List X) (a : ℕ) (y : X) → a < length xs → slice_set (xs ++ ys) a y ≡ slice_set xs a y ++ ys
 set-before [] ys a y h = absurd (omega arith)

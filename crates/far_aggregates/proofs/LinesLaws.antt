@@ -10,7 +10,7 @@ use Rattle.far_types.specs.declared.answer.Answer.TheVariants as answer
 use Rattle.far_types.specs.declared.key.Key.{Key}
 use Rattle.far_types.specs.declared.refusal.Refusal.TheVariants as refusal
 use Rattle.far_types.specs.declared.spec.Spec.{Spec}
-use Rattle.far_types.specs.Answers.{is_under, values_of, count_sum, ByKey, Totals, totals, total_lines, TotalLines, Extrema, extrema_lines, or_zero, answer_over}
+use Rattle.far_types.specs.Answers.{is_under, values_of, count_sum, ByKey, Totals, totals, lines_by_key, Extrema, or_zero, answer_over}
 use Rattle.far_types.specs.Keys.{line_cmp}
 use Rattle.far_types.specs.Pairs.{Pair}
 use Rattle.far_types.specs.MayRefuse.{MayRefuse}
@@ -34,20 +34,20 @@ found_entry : {A B : Type 0} (es : List (Option Key × (A × B))) (q : Option Ke
 found_entry [] q = refl
 found_entry (e ∷ es) q = ap (cond (eq_by_cmp line_cmp q e.0) (Some e.1)) (found_entry es q)
 
-pub found-totals : (m : Totals) (q : Option Key) → found_in (total_lines m) q ≡ fin.get m q
+pub found-totals : (m : Totals) (q : Option Key) → found_in (lines_by_key m) q ≡ fin.get m q
 found-totals m q = found_entry (fin.entries m) q ∙ sym (fin.get-entries m q)
 
-pub found-extrema : (m : Extrema) (q : Option Key) → found_in (extrema_lines m) q ≡ fin.get m q
+pub found-extrema : (m : Extrema) (q : Option Key) → found_in (lines_by_key m) q ≡ fin.get m q
 found-extrema m q = found_entry (fin.entries m) q ∙ sym (fin.get-entries m q)
 
 -- `or_zero` changes no line
-or_zero-there : (column : Option ℕ) (lines : TotalLines) (q : Option Key) (x : ℕ × ℤ) → found_in lines q ≡ Some x → found_in (or_zero column lines) q ≡ Some x
+or_zero-there : (column : Option ℕ) (lines : List (Option Key × ℕ × ℤ)) (q : Option Key) (x : ℕ × ℤ) → found_in lines q ≡ Some x → found_in (or_zero column lines) q ≡ Some x
 or_zero-there None [] q x h = cc
 or_zero-there None (one ∷ lines) q x h = h
 or_zero-there (Some column) lines q x h = h
 
 -- `or_zero` adds no line for a key, or with a key column
-or_zero-key : (lines : TotalLines) (k : Key) → found_in (or_zero None lines) (Some k) ≡ found_in lines (Some k)
+or_zero-key : (lines : List (Option Key × ℕ × ℤ)) (k : Key) → found_in (or_zero None lines) (Some k) ≡ found_in lines (Some k)
 or_zero-key [] k = refl
 or_zero-key (one ∷ lines) k = refl
 
@@ -56,35 +56,35 @@ unfolding IsStrictlySortedBy
 no_entries = entries-by_key [] tt
 
 -- empty totals have no line
-no_lines : (m : Totals) → ((q : Option Key) → fin.get m q ≡ None) → total_lines m ≡ []
+no_lines : (m : Totals) → ((q : Option Key) → fin.get m q ≡ None) → lines_by_key m ≡ []
 no_lines m none =
     let empty : m ≡ fin.empty = same m fin.empty (λ q. none q ∙ sym (fin.get-empty line_cmp q)) in
-    ap total_lines empty ∙ ap (map {B = Option Key × ℕ × ℤ} (λ (e : Option Key × (ℕ × ℤ)). (e.0, e.1.0, e.1.1))) no_entries
+    ap lines_by_key empty ∙ ap (map {B = Option Key × ℕ × ℤ} (λ (e : Option Key × (ℕ × ℤ)). (e.0, e.1.0, e.1.1))) no_entries
 
 abbrev total_of : ℕ × ℤ → Line
 total_of found = line.Totals found.0 found.1
 
 -- the count and the sum under a key are its line
-pub line-there : (column : Option ℕ) (m : Totals) (q : Option Key) (x : ℕ × ℤ) → fin.get m q ≡ Some x → Some (line.Totals x.0 x.1) ≡ line_in (answer.Totals (or_zero column (total_lines m))) q
-line-there column m q x there = sym (ap (option_map total_of) (or_zero-there column (total_lines m) q x (found-totals m q ∙ there)))
+pub line-there : (column : Option ℕ) (m : Totals) (q : Option Key) (x : ℕ × ℤ) → fin.get m q ≡ Some x → Some (line.Totals x.0 x.1) ≡ line_in (answer.Totals (or_zero column (lines_by_key m))) q
+line-there column m q x there = sym (ap (option_map total_of) (or_zero-there column (lines_by_key m) q x (found-totals m q ∙ there)))
 
 -- without a key column, totals of no row have a line of count 0
-line-zero : (m : Totals) → KeysFit None m → fin.get m None ≡ None → Some (line.Totals 0 (pos 0)) ≡ line_in (answer.Totals (or_zero None (total_lines m))) None
-line-zero m fit none = sym (ap (λ (lines : TotalLines). line_in (answer.Totals (or_zero None lines)) None) (no_lines m each)) where
+line-zero : (m : Totals) → KeysFit None m → fin.get m None ≡ None → Some (line.Totals 0 (pos 0)) ≡ line_in (answer.Totals (or_zero None (lines_by_key m))) None
+line-zero m fit none = sym (ap (λ (lines : List (Option Key × ℕ × ℤ)). line_in (answer.Totals (or_zero None lines)) None) (no_lines m each)) where
   each : (q : Option Key) → fin.get m q ≡ None
   each None = none
   each (Some k) = fit refl k
 
-pub zero-line : (column : Option ℕ) (m : Totals) (q : Option Key) → column ≡ None → q ≡ None → KeysFit column m → fin.get m q ≡ None → Some (line.Totals 0 (pos 0)) ≡ line_in (answer.Totals (or_zero column (total_lines m))) q
+pub zero-line : (column : Option ℕ) (m : Totals) (q : Option Key) → column ≡ None → q ≡ None → KeysFit column m → fin.get m q ≡ None → Some (line.Totals 0 (pos 0)) ≡ line_in (answer.Totals (or_zero column (lines_by_key m))) q
 zero-line None m None plain none fit absent = line-zero m fit absent
 zero-line None m (Some k) plain none fit absent = cc
 zero-line (Some column) m q plain none fit absent = cc
 
 -- otherwise a key without a value has no line
-pub line-none : (column : Option ℕ) (m : Totals) (q : Option Key) → fin.get m q ≡ None → ((column ≡ None) → q ≡ None → ⊥) → None ≡ line_in (answer.Totals (or_zero column (total_lines m))) q
+pub line-none : (column : Option ℕ) (m : Totals) (q : Option Key) → fin.get m q ≡ None → ((column ≡ None) → q ≡ None → ⊥) → None ≡ line_in (answer.Totals (or_zero column (lines_by_key m))) q
 line-none (Some column) m q none not = sym (ap (option_map total_of) (found-totals m q ∙ none))
 line-none None m None none not = absurd (not refl refl)
-line-none None m (Some k) none not = sym (ap (option_map total_of) (or_zero-key (total_lines m) k ∙ found-totals m (Some k) ∙ none))
+line-none None m (Some k) none not = sym (ap (option_map total_of) (or_zero-key (lines_by_key m) k ∙ found-totals m (Some k) ∙ none))
 
 -- an option is `None` if a test for `None` says so
 pub none_of : {A : Type 0} (o : Option A) (b : Bool) → is_some o ≡ not b → b ≡ true → o ≡ None
@@ -133,8 +133,8 @@ building-due size ps a n is some kept =
     subst (λ b. MayRefuse (cond b None (Some (refusal.Building (left a.pending)))) false (refusal.Building n)) (sym test) (ap refusal.Building same)
 
 -- the least and the greatest value under a key are its line in extrema
-pub range-there : (m : Extrema) (q : Option Key) (x : ℤ × ℤ) → fin.get m q ≡ Some x → Some (line.Extrema x.0 x.1) ≡ line_in (answer.Extrema (extrema_lines m)) q
+pub range-there : (m : Extrema) (q : Option Key) (x : ℤ × ℤ) → fin.get m q ≡ Some x → Some (line.Extrema x.0 x.1) ≡ line_in (answer.Extrema (lines_by_key m)) q
 range-there m q x there = sym (ap (option_map (λ (found : ℤ × ℤ). line.Extrema found.0 found.1)) (found-extrema m q ∙ there))
 
-pub range-none : (m : Extrema) (q : Option Key) → fin.get m q ≡ None → None ≡ line_in (answer.Extrema (extrema_lines m)) q
+pub range-none : (m : Extrema) (q : Option Key) → fin.get m q ≡ None → None ≡ line_in (answer.Extrema (lines_by_key m)) q
 range-none m q none = sym (ap (option_map (λ (found : ℤ × ℤ). line.Extrema found.0 found.1)) (found-extrema m q ∙ none))

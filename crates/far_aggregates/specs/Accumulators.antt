@@ -7,7 +7,7 @@ use Rattle.far_types.specs.declared.spec.Fold.{Fold}
 use Rattle.far_types.specs.declared.spec.Fold.TheVariants as fold
 use Rattle.far_types.specs.declared.answer.Answer.{Answer}
 use Rattle.far_types.specs.declared.answer.Answer.TheVariants as answer
-use Rattle.far_types.specs.Answers.{Extrema, totals, extrema, or_zero, total_lines, extrema_lines}
+use Rattle.far_types.specs.Answers.{Extrema, totals, extrema, or_zero, lines_by_key}
 use Rattle.far_types.specs.Cells.{RowFits}
 use Rattle.far_types.specs.Pairs.{Pair}
 use Rattle.far_types.specs.Table.{Place, Registered, place_pair, in_group, is_pending, left}
@@ -76,9 +76,9 @@ pending_in (accumulator.Extrema live) = live.left
 -- the answer of an accumulator
 abbrev pub accumulator_answer : Option ℕ → Accumulator → Answer
 accumulator_answer key (accumulator.Totals live) = answer.Totals
-    (or_zero key (total_lines live.totals))
+    (or_zero key (lines_by_key live.totals))
 accumulator_answer key (accumulator.Extrema live) = answer.Extrema
-    (extrema_lines (all_groups live.groups))
+    (lines_by_key (all_groups live.groups))
 
 -- nothing is scanned, and this many row groups are pending
 abbrev pub KeepsNothing : ℕ → Accumulator → Type 0

@@ -1,4 +1,5 @@
 -- A row group that is scanned into an aggregate.
+-- Internal: no public contract cites it.
 use Rattle.std.specs.Prelude.{◌≡◌, ℕ, ◌-◌, ◌≤◌, ◌^◌, Bool, false, List, length, slice_set, Option, None, Some}
 use Rattle.std.specs.FinMap as fin
 use Rattle.far_types.specs.declared.spec.Spec.{Spec}
@@ -10,17 +11,11 @@ use Rattle.far_groups.specs.Live.{CanJoin}
 use Rattle.far_aggregates.specs.declared.aggregate.Accumulator.{Accumulator}
 use Rattle.far_aggregates.specs.declared.aggregate.Accumulator.TheVariants as accumulator
 use Rattle.far_aggregates.specs.Accumulators.{RegistryEntry, pairs_here, KeepsEntry}
-use Rattle.far_aggregates.specs.Aggregates.{after_scan}
 
 -- whether a row group is pending in a registry entry
 abbrev pub has_pending : ℕ → RegistryEntry → Bool
 has_pending g None = false
 has_pending g (Some a) = is_pending a.pending g
-
--- an entry of the registry once a row group is scanned into its aggregate
-abbrev pub entry_after_scan : ℕ → Option Registered → Option Registered
-entry_after_scan g None = None
-entry_after_scan g (Some aggregate) = Some (after_scan g aggregate)
 
 -- the rows of one more row group, at these places, are scanned. Any keys may be reserved
 abbrev pub IsScanned : Spec → ℕ → List Place → Accumulator → Accumulator → Type 0

@@ -18,7 +18,7 @@ use super::scans::scan_at;
 use super::spare_keys::SpareKeys;
 use super::spare_lists::SpareLists;
 use far_types::{Answer, Key, Reciprocal, Refusal, Spec};
-use std::alloc::Global;
+use std::alloc::{AllocError, Global};
 use std::marker::Model;
 
 /// The aggregates of a table by number, at most 32. An edit of the rows has three parts:
@@ -54,13 +54,12 @@ impl Model for Aggregates {
 }
 
 impl Aggregates {
-    ghost use Rattle.far_aggregates.specs.Aggregates.{free_from, aggregate_in, is_pending_in, ask_refusal, Answers};
+    ghost use Rattle.far_aggregates.specs.Aggregates.{free_from, aggregate_in, is_pending_in, ask_refusal, Answers, after_scan};
     ghost use Rattle.far_aggregates.specs.Accumulators.{Keeps, registered_of};
     ghost use Rattle.far_aggregates.specs.Lending.{EntryIsServed};
     ghost use Rattle.far_aggregates.specs.Lines.{AnswersKey};
     ghost use Rattle.far_aggregates.specs.PendingCounts.{pending_of};
     ghost use Rattle.far_aggregates.specs.Readings.{plain_in};
-    ghost use Rattle.far_aggregates.specs.Scans.{entry_after_scan};
     ghost use Rattle.far_aggregates.specs.Pending.{AreUpToDate, KeepsAsBefore};
 
     /// Makes a registry without an aggregate. Allocates nothing.
@@ -103,7 +102,7 @@ impl Aggregates {
     }
 
     /// Registers an aggregate under the lowest free number, over `places` places. All row groups that hold one of these places
-    /// are pending. Refused only with `NoMemory` (1). A refused call changes nothing.
+    /// are pending. If memory runs out, nothing is changed.
     pub fn register(
         &mut self,
         alloc: Global,
@@ -112,7 +111,7 @@ impl Aggregates {
         registration: u64,
         size: u32,
         places: usize,
-    ) -> Result<(), Refusal>
+    ) -> Result<(), AllocError>
         requires size { 0 < size }
         requires few { places ≤ 2 ^ 24 }
         requires free { free_from 0 (registered_of self.old) ≡ Some a }
@@ -129,7 +128,6 @@ impl Aggregates {
             → Keeps size all self.old
             → Keeps size all self.new }
         ensures unchanged { OnErr result (self.new ≡ self.old) }
-        ensures memory { IfErr result (λ e. e ≡ Refusal.NoMemory) }
     {
         self.reciprocal = Reciprocal::new(size as usize);
         register(
@@ -273,7 +271,7 @@ impl Aggregates {
         ensures registered { OnOk result
             (registered_of self.new
             ≡ slice_set (registered_of self.old) a
-            (entry_after_scan number (aggregate_in self.old a))) }
+            (option_map (after_scan number) (aggregate_in self.old a))) }
         ensures kept { (places : List Place) → G.places group.now ≡ in_group size number places
             → Keeps size places self.old
             → Keeps size places self.new }

@@ -1,6 +1,6 @@
 // The answer of an aggregate.
 ghost use Rattle.std.specs.Prelude.{◌≡◌, ◌≢◌, ◌<◌, ℕ, List, Some, true, Err, OnOk, IfOk, IfErr};
-ghost use Rattle.far_types.specs.Answers.{total_lines, answer_over};
+ghost use Rattle.far_types.specs.Answers.{lines_by_key, answer_over};
 ghost use Rattle.far_types.specs.MayRefuse.{MayRefuse};
 ghost use Rattle.far_types.specs.Table.{Place, left, rows_of};
 ghost use Rattle.far_aggregates.specs.Accumulators.{KeepsEntry, registered_in};
@@ -13,7 +13,7 @@ use std::alloc::Global;
 
 /// Returns the lines of live totals.
 fn lines_of(alloc: Global, live: &LiveTotals) -> Result<TotalLines, Refusal>
-    ensures ok { IfOk result (λ lines. lines ≡ total_lines live.now.totals) }
+    ensures ok { IfOk result (λ lines. lines ≡ lines_by_key live.now.totals) }
     ensures all_scanned { OnOk result (live.now.left ≡ 0) }
     ensures building { live.now.left ≢ 0 → result ≡ Err (Refusal.Building live.now.left) }
     ensures memory { live.now.left ≡ 0 → IfErr result (λ e. e ≡ Refusal.NoMemory) }

@@ -1,5 +1,5 @@
 // Applies changes to the aggregates, and undoes them if a later change is refused.
-ghost use Rattle.std.specs.Prelude.{◌≡◌, ◌/◌, ◌^◌, ◌<◌, ◌≤◌, ◌∷◌, ◌++◌, [], Some, OnOk, OnErr, IfErr, IfOk, length, map, vec_len, vec_capacity};
+ghost use Rattle.std.specs.Prelude.{◌≡◌, ◌/◌, ◌^◌, ◌<◌, ◌≤◌, ◌∷◌, ◌++◌, [], Some, OnOk, OnErr, IfOk, length, map, vec_len, vec_capacity};
 ghost use Rattle.far_types.specs.declared.key.Key.TheVariants as variants;
 ghost use Rattle.far_types.specs.Lent.{key_by};
 ghost use Rattle.far_aggregates.specs.Pairs.{Folds, EachFolds, row_gives};
@@ -12,7 +12,8 @@ use super::pairs::give;
 use super::spare_keys::SpareKeys;
 use far_extrema::MinMax;
 use far_groups::Pair;
-use far_types::{Key, LendCells, PairRef, Refusal, number_key};
+use far_types::{Key, LendCells, PairRef, number_key};
+use std::alloc::AllocError;
 
 /// A change to one aggregate: a pair that is added. For extrema it also holds the key's previous least and greatest value in
 /// the row group, so that the change can be undone.
@@ -61,14 +62,13 @@ fn add_to(
     group: u32,
     key: &Option<Key>,
     value: i64,
-) -> Result<Option<MinMax>, Refusal>
+) -> Result<Option<MinMax>, AllocError>
     requires { AccumulatorMayAdd group accumulator.old (key.now, value) }
     ensures previous { IfOk result
         (λ previous. previous ≡ previous_in group key.now accumulator.old) }
     ensures ok { OnOk result
         (accumulator.new ≡ accumulator_more group accumulator.old (key.now, value)) }
     ensures err { OnErr result (accumulator.new ≡ accumulator.old) }
-    ensures memory { IfErr result (λ e. e ≡ Refusal.NoMemory) }
 {
     match accumulator {
         Accumulator::Totals(live) => {
@@ -88,7 +88,7 @@ fn apply_under(
     group: u32,
     number: Option<i64>,
     value: i64,
-) -> Result<(), Refusal>
+) -> Result<(), AllocError>
     requires folds { Folds entry.old }
     requires reserved { IsReserved group entry.old }
     requires place { vec_len deltas.old < vec_capacity deltas.old }
@@ -101,7 +101,6 @@ fn apply_under(
     ensures capacity { vec_capacity deltas.new ≡ vec_capacity deltas.old }
     ensures err { OnErr result (entry.new ≡ entry.old) }
     ensures before { OnErr result (deltas.new.items ≡ deltas.old.items) }
-    ensures memory { IfErr result (λ e. e ≡ Refusal.NoMemory) }
 {
     match entry {
         None => {
@@ -131,7 +130,7 @@ fn apply_under_text(
     group: u32,
     text: &str,
     value: i64,
-) -> Result<(), Refusal>
+) -> Result<(), AllocError>
     requires folds { Folds entry.old }
     requires reserved { IsReserved group entry.old }
     requires place { vec_len deltas.old < vec_capacity deltas.old }
@@ -146,7 +145,6 @@ fn apply_under_text(
     ensures capacity { vec_capacity deltas.new ≡ vec_capacity deltas.old }
     ensures err { OnErr result (entry.new ≡ entry.old) }
     ensures before { OnErr result (deltas.new.items ≡ deltas.old.items) }
-    ensures memory { IfErr result (λ e. e ≡ Refusal.NoMemory) }
 {
     match entry {
         None => {
@@ -173,7 +171,7 @@ fn apply_next<R: LendCells>(
     size: u32,
     place: usize,
     group: u32,
-) -> Result<(), Refusal>
+) -> Result<(), AllocError>
     requires size { 0 < size }
     requires few { place ≤ 2 ^ 24 }
     requires group { group ≡ place / size }
@@ -191,7 +189,6 @@ fn apply_next<R: LendCells>(
     ensures capacity { vec_capacity deltas.new ≡ vec_capacity deltas.old }
     ensures err { OnErr result (entry.new ≡ entry.old) }
     ensures before { OnErr result (deltas.new.items ≡ deltas.old.items) }
-    ensures memory { IfErr result (λ e. e ≡ Refusal.NoMemory) }
 {
     match give(entry, row, size, place, group) {
         PairRef::Nothing => {
@@ -221,7 +218,7 @@ pub fn apply_deltas<R: LendCells>(
     size: u32,
     place: usize,
     group: u32,
-) -> Result<Vec<Option<Delta>>, Refusal>
+) -> Result<Vec<Option<Delta>>, AllocError>
     requires size { 0 < size }
     requires few { place ≤ 2 ^ 24 }
     requires group { group ≡ place / size }
@@ -240,7 +237,6 @@ pub fn apply_deltas<R: LendCells>(
     ensures undo { IfOk result
         (λ deltas. zip_all (undo (place / size)) registry.new deltas.items ≡ registry.old) }
     ensures err { OnErr result (registry.new ≡ registry.old) }
-    ensures memory { IfErr result (λ e. e ≡ Refusal.NoMemory) }
 {
     let mut deltas = list;
     deltas.clear();
@@ -248,9 +244,9 @@ pub fn apply_deltas<R: LendCells>(
     for i in 0..registry.len() {
         match apply_next(keys, &mut deltas, &mut registry[i], row, size, place, group) {
             Ok(()) => {}
-            Err(refusal) => {
+            Err(no_memory) => {
                 undo_first(registry, group, deltas.as_slice(), i);
-                return Err(refusal);
+                return Err(no_memory);
             }
         }
     }

@@ -7,7 +7,7 @@ ghost use Rattle.far_aggregates.specs.Known.{IsNoted};
 
 use far_extrema::{GroupExtrema, LiveExtrema, MinMax, RowsLeft};
 use far_types::{Answer, Key, Refusal};
-use std::alloc::Global;
+use std::alloc::{AllocError, Global};
 use std::marker::Model;
 
 /// Live extrema with a cache for aggregates without a key column: the min-max under no key of the first row groups, which then
@@ -88,7 +88,7 @@ fn observe_noted(
     group: u32,
     value: i64,
     noted: Option<MinMax>,
-) -> Result<Option<MinMax>, Refusal>
+) -> Result<Option<MinMax>, AllocError>
     requires reserved { group < length live.old.groups }
     requires noted { IfSome noted
         (λ min_max. fin.get (group_at live.old.groups group) None ≡ Some min_max) }
@@ -102,7 +102,6 @@ fn observe_noted(
         }) }
     ensures err { OnErr result (live.new ≡ live.old) }
     ensures only_new { OnErr result (fin.get (group_at live.old.groups group) None ≡ None) }
-    ensures memory { IfErr result (λ e. e ≡ Refusal.NoMemory) }
 {
     match noted {
         Some(min_max) => {
@@ -125,7 +124,7 @@ fn wider(value: i64, previous: &Option<MinMax>) -> MinMax
 }
 
 impl KnownExtrema {
-    ghost use Rattle.far_types.specs.Answers.{extrema_lines};
+    ghost use Rattle.far_types.specs.Answers.{lines_by_key};
     ghost use Rattle.far_extrema.specs.Live.{after_reserve, IsReservedFor};
     ghost use Rattle.far_extrema.specs.MinMaxes.{put_min_max};
 
@@ -148,12 +147,11 @@ impl KnownExtrema {
     }
 
     /// Reserves a row group and the keys of its extrema. See `LiveExtrema::reserve_for`.
-    pub fn reserve_for(&mut self, group: u32, extrema: &GroupExtrema) -> Result<(), Refusal>
+    pub fn reserve_for(&mut self, group: u32, extrema: &GroupExtrema) -> Result<(), AllocError>
         ensures left { self.new.left ≡ self.old.left }
         ensures groups { OnOk result (self.new.groups ≡ after_reserve group self.old.groups) }
         ensures reserved { OnOk result (IsReservedFor extrema.now self.new) }
         ensures err { OnErr result (self.new.groups ≡ self.old.groups) }
-        ensures memory { IfErr result (λ e. e ≡ Refusal.NoMemory) }
     {
         make_place(&mut self.plain, group as usize);
         self.live.reserve_for(group, extrema)
@@ -161,7 +159,7 @@ impl KnownExtrema {
 
     /// Observes a value like `observe_under`, for a row under no key. If the min-max is cached, a value within it costs no
     /// look-up, and nothing is written.
-    fn observe_plain(&mut self, group: u32, value: i64) -> Result<Option<MinMax>, Refusal>
+    fn observe_plain(&mut self, group: u32, value: i64) -> Result<Option<MinMax>, AllocError>
         requires { group < length self.old.groups }
         ensures previous { IfOk result
             (λ previous. previous ≡ fin.get (group_at self.old.groups group) None) }
@@ -173,7 +171,6 @@ impl KnownExtrema {
             }) }
         ensures err { OnErr result (self.new ≡ self.old) }
         ensures only_new { OnErr result (fin.get (group_at self.old.groups group) None ≡ None) }
-        ensures memory { IfErr result (λ e. e ≡ Refusal.NoMemory) }
     {
         let noted = noted_in(self.plain.as_slice(), group as usize);
         if is_within_noted(value, &noted) {
@@ -196,7 +193,7 @@ impl KnownExtrema {
         group: u32,
         key: &Option<Key>,
         value: i64,
-    ) -> Result<Option<MinMax>, Refusal>
+    ) -> Result<Option<MinMax>, AllocError>
         requires { group < length self.old.groups }
         ensures previous { IfOk result
             (λ previous. previous ≡ fin.get (group_at self.old.groups group) key.now) }
@@ -209,7 +206,6 @@ impl KnownExtrema {
         ensures err { OnErr result (self.new ≡ self.old) }
         ensures only_new { OnErr result
             (fin.get (group_at self.old.groups group) key.now ≡ None) }
-        ensures memory { IfErr result (λ e. e ≡ Refusal.NoMemory) }
     {
         match key {
             None => self.observe_plain(group, value),
@@ -292,7 +288,7 @@ impl KnownExtrema {
     /// Returns the answer. See `LiveExtrema::answer`.
     pub fn answer(&self, alloc: Global) -> Result<Answer, Refusal>
         ensures ok { IfOk result
-            (λ answer. answer ≡ Answer.Extrema (extrema_lines (all_groups self.now.groups))) }
+            (λ answer. answer ≡ Answer.Extrema (lines_by_key (all_groups self.now.groups))) }
         ensures all_scanned { OnOk result (self.now.left ≡ 0) }
         ensures building { self.now.left ≢ 0 → result ≡ Err (Refusal.Building self.now.left) }
         ensures memory { self.now.left ≡ 0 → IfErr result (λ e. e ≡ Refusal.NoMemory) }

@@ -1,5 +1,5 @@
 // The pairs that a row contributes to the aggregates.
-ghost use Rattle.std.specs.Prelude.{◌≡◌, ◌<◌, ◌/◌, ◌++◌, ◌∷◌, [], IfOk, OnOk, IfErr, map, vec_len, vec_capacity};
+ghost use Rattle.std.specs.Prelude.{◌≡◌, ◌<◌, ◌/◌, ◌++◌, ◌∷◌, [], IfOk, OnOk, map, vec_len, vec_capacity};
 ghost use Rattle.far_types.specs.Lent.{lent_pair};
 ghost use Rattle.far_aggregates.specs.Pairs.{change_of, row_gives};
 ghost use Rattle.far_aggregates.specs.Replacing.{value_of};
@@ -7,7 +7,8 @@ ghost use Rattle.far_aggregates.specs.Replacing.{value_of};
 use super::aggregate::Aggregate;
 use super::spare_keys::SpareKeys;
 use far_groups::Pair;
-use far_types::{LendCells, PairRef, Refusal, number_key};
+use far_types::{LendCells, PairRef, number_key};
+use std::alloc::AllocError;
 
 /// Returns the pair that a row that is alive at a place contributes to an aggregate, unless its row group is pending.
 #[inline(always)]
@@ -58,11 +59,10 @@ fn push_pair(
     keys: &mut SpareKeys,
     pairs: &mut Vec<Option<Pair>>,
     pair: PairRef<'_>,
-) -> Result<(), Refusal>
+) -> Result<(), AllocError>
     requires place { vec_len pairs.old < vec_capacity pairs.old }
     ensures capacity { vec_capacity pairs.new ≡ vec_capacity pairs.old }
     ensures ok { OnOk result (pairs.new.items ≡ pairs.old.items ++ lent_pair pair.entry ∷ []) }
-    ensures memory { IfErr result (λ e. e ≡ Refusal.NoMemory) }
 {
     match pair {
         PairRef::Nothing => pairs.push_reserved(None),
@@ -89,13 +89,12 @@ pub fn row_pairs<R: LendCells>(
     size: u32,
     place: usize,
     group: u32,
-) -> Result<Vec<Option<Pair>>, Refusal>
+) -> Result<Vec<Option<Pair>>, AllocError>
     requires size { 0 < size }
     requires group { group ≡ place / size }
     ensures ok { IfOk result
         (λ pairs. pairs.items
         ≡ map (change_of size place (row_gives (R.cells row.now))) registry.now) }
-    ensures memory { IfErr result (λ e. e ≡ Refusal.NoMemory) }
 {
     let mut pairs = list;
     pairs.clear();
@@ -118,13 +117,12 @@ pub fn value_pairs<R: LendCells>(
     size: u32,
     place: usize,
     group: u32,
-) -> Result<Vec<Option<Pair>>, Refusal>
+) -> Result<Vec<Option<Pair>>, AllocError>
     requires size { 0 < size }
     requires group { group ≡ place / size }
     ensures ok { IfOk result
         (λ pairs. pairs.items
         ≡ map (value_of column size place (row_gives (R.cells row.now))) registry.now) }
-    ensures memory { IfErr result (λ e. e ≡ Refusal.NoMemory) }
 {
     let mut pairs = list;
     pairs.clear();

@@ -1,7 +1,7 @@
 // Reads aggregates without building a whole answer.
 ghost use Rattle.std.specs.Prelude.{◌≡◌, ◌<◌, ◌≤◌, ℕ, List, Some, None, true, false, cond, ◌&&◌, ◌==◌, is_none, length, slice_get, IfSome, IfNone, IfOk, IfErr};
 ghost use Rattle.far_types.specs.declared.answer.Answer.TheVariants as answer;
-ghost use Rattle.far_types.specs.Answers.{or_zero, total_lines, extrema_lines};
+ghost use Rattle.far_types.specs.Answers.{or_zero, lines_by_key};
 ghost use Rattle.far_types.specs.MayRefuse.{MayRefuse};
 ghost use Rattle.far_types.specs.Table.{Place, left};
 ghost use Rattle.far_extrema.specs.Live.{all_groups};
@@ -67,7 +67,7 @@ fn left_in(accumulator: &Accumulator) -> u32
 fn total_line(live: &LiveTotals, column: Option<u32>, key: &Option<Key>) -> Option<Line>
     ensures { KeysFit column live.now.totals
         → result
-        ≡ line_in (answer.Totals (or_zero column (total_lines live.now.totals))) key.now }
+        ≡ line_in (answer.Totals (or_zero column (lines_by_key live.now.totals))) key.now }
 {
     match live.get(key) {
         Some(found) => Some(Line::of_totals(found)),
@@ -84,7 +84,7 @@ fn total_line(live: &LiveTotals, column: Option<u32>, key: &Option<Key>) -> Opti
 // Returns the line of a key in extrema.
 fn extrema_line(live: &KnownExtrema, key: &Option<Key>) -> Option<Line>
     ensures { result
-        ≡ line_in (answer.Extrema (extrema_lines (all_groups live.now.groups))) key.now }
+        ≡ line_in (answer.Extrema (lines_by_key (all_groups live.now.groups))) key.now }
 {
     match live.get(key) {
         Some(found) => Some(Line::of_extrema(found)),

@@ -1,5 +1,5 @@
 // Registers aggregates under their numbers.
-ghost use Rattle.std.specs.Prelude.{◌≡◌, ◌<◌, ◌≤◌, ◌+◌, ◌^◌, ℕ, List, Some, None, true, length, replicate, slice_get, slice_set, IfOk, IfErr, IfSome, OnOk, OnErr};
+ghost use Rattle.std.specs.Prelude.{◌≡◌, ◌<◌, ◌≤◌, ◌+◌, ◌^◌, ℕ, List, Some, None, true, length, replicate, slice_get, slice_set, IfOk, IfSome, OnOk, OnErr};
 ghost use Rattle.std.specs.Option.{option_copied};
 ghost use Rattle.far_types.specs.Table.{Place, groups, is_pending};
 ghost use Rattle.far_aggregates.specs.Accumulators.{Keeps, KeepsEntry, KeepsNothing, fold_of, registered_in, registered_of};
@@ -9,8 +9,8 @@ use super::aggregate::{Accumulator, Aggregate};
 use super::known::KnownExtrema;
 use super::pending_groups::PendingGroups;
 use far_groups::LiveTotals;
-use far_types::{Fold, Refusal, Spec};
-use std::alloc::Global;
+use far_types::{Fold, Spec};
+use std::alloc::{AllocError, Global};
 
 /// Returns the lowest number under which no aggregate is registered, or `None` if 32 are.
 pub fn free_number(registry: &[Option<Aggregate>]) -> Option<u32>
@@ -68,7 +68,7 @@ pub fn new_aggregate(
     registration: u64,
     size: u32,
     places: usize,
-) -> Result<Aggregate, Refusal>
+) -> Result<Aggregate, AllocError>
     requires size { 0 < size }
     requires few { places ≤ 2 ^ 24 }
     ensures registered { IfOk result
@@ -81,7 +81,6 @@ pub fn new_aggregate(
         })) }
     ensures kept { IfOk result
         (λ a. (all : List Place) → length all ≡ places → KeepsEntry size all (Some a)) }
-    ensures memory { IfErr result (λ e. e ≡ Refusal.NoMemory) }
 {
     let groups = group_count(size, places);
     let pending = PendingGroups::all(alloc, groups)?;
@@ -98,7 +97,7 @@ pub fn put(
     registry: &mut Vec<Option<Aggregate>>,
     a: u32,
     aggregate: Aggregate,
-) -> Result<(), Refusal>
+) -> Result<(), AllocError>
     requires number { a < 32 }
     requires within { a ≤ length registry.old.items }
     requires numbers { length registry.old.items ≤ 32 }
@@ -110,7 +109,6 @@ pub fn put(
         → Keeps size places registry.new.items }
     ensures numbers { length registry.new.items ≤ 32 }
     ensures unchanged { OnErr result (registry.new.items ≡ registry.old.items) }
-    ensures memory { IfErr result (λ e. e ≡ Refusal.NoMemory) }
 {
     if a as usize == registry.len() {
         registry.push(Some(aggregate))?;
@@ -129,7 +127,7 @@ pub fn register(
     registration: u64,
     size: u32,
     places: usize,
-) -> Result<(), Refusal>
+) -> Result<(), AllocError>
     requires size { 0 < size }
     requires few { places ≤ 2 ^ 24 }
     requires number { a < 32 }
@@ -149,7 +147,6 @@ pub fn register(
         → Keeps size all registry.new.items }
     ensures numbers { length registry.new.items ≤ 32 }
     ensures unchanged { OnErr result (registry.new.items ≡ registry.old.items) }
-    ensures memory { IfErr result (λ e. e ≡ Refusal.NoMemory) }
 {
     let aggregate = new_aggregate(alloc, spec, registration, size, places)?;
     put(registry, a, aggregate)

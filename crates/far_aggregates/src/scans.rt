@@ -1,5 +1,5 @@
 // Scans a row group into an aggregate.
-ghost use Rattle.std.specs.Prelude.{◌≡◌, ◌≢◌, ◌-◌, ◌<◌, ◌≤◌, ◌^◌, ℕ, List, true, length, slice_get, slice_set, IfOk, OnOk, OnErr, IfErr};
+ghost use Rattle.std.specs.Prelude.{◌≡◌, ◌≢◌, ◌-◌, ◌<◌, ◌≤◌, ◌^◌, ℕ, List, true, length, option_map, slice_get, slice_set, IfOk, OnOk, OnErr, IfErr};
 ghost use Rattle.far_types.specs.declared.spec.Fold.TheVariants as folds;
 ghost use Rattle.far_types.specs.Answers.{totals, extrema};
 ghost use Rattle.far_types.specs.Effects.{joined_totals, joined_extrema};
@@ -8,8 +8,8 @@ ghost use Rattle.far_groups.specs.Live.{CanJoin};
 ghost use Rattle.far_offload.specs.Partials.{partial_of};
 ghost use Rattle.far_aggregates.specs.Accumulators.{KeepsEntry, Keeps, fold_of, pairs_here, registered_in, registered_of};
 ghost use Rattle.far_aggregates.specs.Lending.{IsServed, EntryIsServed};
-ghost use Rattle.far_aggregates.specs.Scans.{entry_after_scan, has_pending, IsScanned, IsSame, AccumulatorMayScan, EntryMayScan};
-ghost use Rattle.far_aggregates.specs.Aggregates.{flattened};
+ghost use Rattle.far_aggregates.specs.Scans.{has_pending, IsScanned, IsSame, AccumulatorMayScan, EntryMayScan};
+ghost use Rattle.far_aggregates.specs.Aggregates.{after_scan, flattened};
 ghost use Rattle.far_aggregates.specs.Recounting.{AccumulatorMayMerge, IsMerged};
 
 use super::aggregate::{Accumulator, Aggregate};
@@ -19,15 +19,18 @@ use far_extrema::GroupExtrema;
 use far_groups::LiveTotals;
 use far_offload::{PartialDone, fold, fold_into, observe_into};
 use far_types::{Refusal, Spec};
-use std::alloc::Global;
+use std::alloc::{AllocError, Global};
 
-/// Folds the live places of a row group. Refused only with `NoMemory` (1).
-fn fold_group<G: LendGroup>(alloc: Global, spec: &Spec, group: &G) -> Result<PartialDone, Refusal>
+/// Folds the live places of a row group.
+fn fold_group<G: LendGroup>(
+    alloc: Global,
+    spec: &Spec,
+    group: &G,
+) -> Result<PartialDone, AllocError>
     requires few { length (G.places group.now) ≤ 2 ^ 24 }
     requires served { IsServed (G.has group.now) spec.now }
     ensures partial { IfOk result
         (λ done. done ≡ partial_of spec.now.fold (pairs_here spec.now (G.places group.now))) }
-    ensures memory { IfErr result (λ e. e ≡ Refusal.NoMemory) }
 {
     let columns = needed_columns(spec, group);
     fold(alloc, spec, &columns, group.alive())
@@ -88,19 +91,18 @@ pub fn scan_totals<G: LendGroup>(
     fold_into(alloc, live, spec, &columns, group.alive())
 }
 
-/// Observes the rows of a row group in extrema, which may already include rows of other row groups. Refused only with `NoMemory`
-/// (1). A refused call may have observed some of the rows.
+/// Observes the rows of a row group in extrema, which may already include rows of other row groups. If memory runs out, it may
+/// have observed some of the rows.
 pub fn observe_group<G: LendGroup>(
     alloc: Global,
     observed: &mut GroupExtrema,
     spec: &Spec,
     group: &G,
-) -> Result<(), Refusal>
+) -> Result<(), AllocError>
     requires served { IsServed (G.has group.now) spec.now }
     ensures ok { OnOk result
         (observed.new
         ≡ joined_extrema observed.old (extrema (pairs_here spec.now (G.places group.now)))) }
-    ensures memory { IfErr result (λ e. e ≡ Refusal.NoMemory) }
 {
     let columns = needed_columns(spec, group);
     observe_into(alloc, observed, spec, &columns, group.alive())
@@ -144,7 +146,7 @@ fn scan_in<G: LendGroup>(
     requires served { EntryIsServed (G.has group.now) (registered_in entry.old) }
     requires may { EntryMayScan size number (G.places group.now) entry.old }
     ensures registered { OnOk result
-        (registered_in entry.new ≡ entry_after_scan number (registered_in entry.old)) }
+        (registered_in entry.new ≡ option_map (after_scan number) (registered_in entry.old)) }
     ensures kept { (places : List Place) → G.places group.now ≡ in_group size number places
         → KeepsEntry size places entry.old
         → KeepsEntry size places entry.new }
@@ -183,7 +185,7 @@ pub fn scan_at<G: LendGroup>(
     ensures registered { OnOk result
         (registered_of registry.new.items
         ≡ slice_set (registered_of registry.old.items) a
-        (entry_after_scan number
+        (option_map (after_scan number)
         (registered_in (flattened (slice_get registry.old.items a))))) }
     ensures kept { (places : List Place) → G.places group.now ≡ in_group size number places
         → Keeps size places registry.old.items

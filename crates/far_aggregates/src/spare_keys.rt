@@ -1,12 +1,12 @@
 // Keeps the memory of text keys from one edit to the next.
-ghost use Rattle.std.specs.Prelude.{◌≡◌, ◌↔◌, ◌<◌, ◌≤◌, ◌++◌, [], Some, IsTrue, IfOk, IfErr, vec_len, vec_capacity};
+ghost use Rattle.std.specs.Prelude.{◌≡◌, ◌↔◌, ◌<◌, ◌≤◌, ◌++◌, [], Some, IsTrue, IfOk, vec_len, vec_capacity};
 ghost use Rattle.far_types.specs.declared.key.Key.TheVariants as keys;
 ghost use Rattle.far_aggregates.specs.SpareKeys.{text_key};
 
 use super::deltas::Delta;
 use far_groups::Pair;
-use far_types::{CellRef, Key, Refusal};
-use std::alloc::Global;
+use far_types::{CellRef, Key};
+use std::alloc::{AllocError, Global};
 
 /// The most keys that an edit has: for each of 32 aggregates, the key of a delta and the key of a retracted pair.
 const MOST: usize = 64;
@@ -30,10 +30,9 @@ impl SpareKeys {
         }
     }
 
-    /// Makes a key of a text, in the string of a spare key if there is one. Refused only with `NoMemory` (1).
-    pub fn key_of(&mut self, text: &str) -> Result<Option<Key>, Refusal>
+    /// Makes a key of a text, in the string of a spare key if there is one.
+    pub fn key_of(&mut self, text: &str) -> Result<Option<Key>, AllocError>
         ensures key { IfOk result (λ key. key ≡ Some (keys.Text text.now)) }
-        ensures memory { IfErr result (λ e. e ≡ Refusal.NoMemory) }
     {
         let earlier = self.keys.pop();
         if earlier.is_none() {

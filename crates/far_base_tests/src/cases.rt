@@ -40,16 +40,6 @@ pub fn all(answers: &[Result<bool, Refusal>]) -> Result<bool, Refusal> {
     Ok(true)
 }
 
-/// Returns whether two results are equal values.
-pub fn are_equal<T: PartialEq + Drop>(
-    one: Result<T, Refusal>,
-    other: Result<T, Refusal>,
-) -> Result<bool, Refusal> {
-    let one = one?;
-    let other = other?;
-    Ok(one == other)
-}
-
 /// Returns whether a result is a list of these elements.
 pub fn is_list<T: PartialEq + Drop>(
     made: Result<Vec<T>, Refusal>,

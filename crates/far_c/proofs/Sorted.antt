@@ -1,5 +1,5 @@
 -- A binary search by key among lines whose keys ascend, and that the keys of an answer ascend.
-use Rattle.std.proofs.Common.{◌≡◌, ◌≢◌, ◌∙◌, ℕ, ◌+◌, ◌<◌, ◌≤◌, false, List, [], ◌∷◌, length, get_or, Option, None, Some, Result, Ok, Err, MatchOption, IsSomeAnd, Less, Equal, Greater, is_lt, inl, inr, sym, ap, ap₂, subst, arith}
+use Rattle.std.proofs.Common.{◌≡◌, ◌≢◌, ◌∙◌, ℕ, ℤ, ◌+◌, ◌<◌, ◌≤◌, false, List, [], ◌∷◌, length, get_or, Option, None, Some, Result, Ok, Err, MatchOption, IsSomeAnd, Less, Equal, Greater, is_lt, inl, inr, sym, ap, ap₂, subst, arith}
 use Rattle.std.specs.Cmp.{tied_itself}
 use Rattle.std.specs.Result.{result_ok}
 use Rattle.std.specs.List.Sorted.{IsBinarySearchResult, IsNonDecreasingBy, IsSearchInRange, IsSortedBy, IsStrictlySortedBy}
@@ -14,7 +14,7 @@ use Rattle.far_types.specs.declared.answer.Answer.{Answer}
 use Rattle.far_types.specs.declared.key.Key.{Key}
 use Rattle.far_types.specs.declared.spec.Fold.{Fold}
 use Rattle.far_types.specs.declared.spec.Fold.TheVariants as fold
-use Rattle.far_types.specs.Answers.{answer_of, or_zero, total_lines, totals, TotalLines}
+use Rattle.far_types.specs.Answers.{answer_of, or_zero, lines_by_key, totals}
 use Rattle.far_types.specs.KeyOrder.{exact_line, line_total}
 use Rattle.far_types.specs.Keys.{line_cmp}
 use Rattle.far_types.specs.Pairs.{Pair, pairs_of}
@@ -79,14 +79,14 @@ module _ {A B : Type 0} (lines : List (Option Key × A × B)) (ascend : Ascend (
   ]
 
 -- the keys of an answer ascend
-with-zero : (column : Option ℕ) (lines : TotalLines) → Ascend (keys_in lines) → Ascend (keys_in (or_zero column lines))
+with-zero : (column : Option ℕ) (lines : List (Option Key × ℕ × ℤ)) → Ascend (keys_in lines) → Ascend (keys_in (or_zero column lines))
 unfolding IsStrictlySortedBy
 with-zero (Some column) lines h = h
 with-zero None [] h = (tt, tt)
 with-zero None (line ∷ lines) h = h
 
 answer-ascends : (f : Fold) (column : Option ℕ) (pairs : List Pair) → Ascend (keys_of (answer_of f column pairs))
-answer-ascends fold.Totals column pairs = with-zero column (total_lines (totals pairs)) (total_lines-ascend pairs)
+answer-ascends fold.Totals column pairs = with-zero column (lines_by_key (totals pairs)) (total_lines-ascend pairs)
 answer-ascends fold.Extrema column pairs = extrema_lines-ascend pairs
 
 answers-ascend : (places : List Place) (found : Option Registered) (answer : Answer) → Answers places found answer → Ascend (keys_of answer)

@@ -72,7 +72,7 @@ fn found_under(
         Ok(key) => frame.line(aggregate, &key),
         Err(no_memory) => {
             frame.line(aggregate, &None)?;
-            Err(no_memory)
+            Err(no_memory.into())
         }
     }
 }

@@ -15,10 +15,11 @@ use Rattle.far_types.specs.declared.refusal.Refusal.TheVariants as refusal
 use Rattle.far_types.specs.declared.spec.Spec.{Spec}
 use Rattle.far_types.specs.declared.spec.Fold.{Fold}
 use Rattle.far_types.specs.declared.spec.Fold.TheVariants as fold
-use Rattle.far_types.specs.Answers.{is_under, values_of, grouped, count_sum, min_max, totals, total_lines, extrema, extrema_lines, or_zero, answer_of, answer_over}
+use Rattle.far_types.specs.Answers.{is_under, values_of, grouped, count_sum, min_max, totals, lines_by_key, extrema, or_zero, answer_of, answer_over}
 use Rattle.far_types.specs.Cells.{cells_of, number_in}
 use Rattle.far_types.specs.Keys.{line_cmp}
-use Rattle.far_types.specs.Pairs.{Pair, key_under, paired, pair_in, kept, pairs_of}
+use Rattle.far_types.specs.Pairs.{Pair, key_under, paired, pair_in, pairs_of}
+use Rattle.far_types.proofs.TablePairs.{kept}
 use Rattle.far_types.specs.Table.{Place, Registered, Table, answer_now, rows_of, left}
 use Rattle.far_types.proofs.AnswersGrouping.{same, own_key, if_any, get-grouped, values_of-cons}
 use Rattle.far_types.proofs.AnswersByKeyMaps.{Entries, by_key, get_at, entries-by_key}
@@ -78,12 +79,12 @@ one_group {V} fold pair pairs h = same _ _ alike where
   alike None = get-grouped fold (pair ∷ pairs) None ∙ ap (λ vs. if_any vs (fold vs)) (under_none (pair ∷ pairs) h) ∙ sym (get_at (one_line t) None)
   alike (Some k) = get-grouped fold (pair ∷ pairs) (Some k) ∙ ap (λ vs. if_any vs (fold vs)) (under_key k (pair ∷ pairs) h) ∙ sym (get_at (one_line t) (Some k))
 
-plain_lines : (pairs : List Pair) → AreKeyless pairs → or_zero None (total_lines (totals pairs)) ≡ (None, (count_sum (values pairs)).0, (count_sum (values pairs)).1) ∷ []
+plain_lines : (pairs : List Pair) → AreKeyless pairs → or_zero None (lines_by_key (totals pairs)) ≡ (None, (count_sum (values pairs)).0, (count_sum (values pairs)).1) ∷ []
 unfolding values one_line
 plain_lines [] h = ap (λ (es : Entries (ℕ × ℤ)). or_zero None (map (λ (entry : Option Key × (ℕ × ℤ)). (entry.0, entry.1.0, entry.1.1)) es)) (entries-by_key [] none_ascends)
 plain_lines (pair ∷ pairs) h =
     let t = count_sum (values (pair ∷ pairs)) in
-    ap (λ m. or_zero None (total_lines m)) (one_group count_sum pair pairs h)
+    ap (λ m. or_zero None (lines_by_key m)) (one_group count_sum pair pairs h)
     ∙ ap (λ (es : Entries (ℕ × ℤ)). or_zero None (map (λ (entry : Option Key × (ℕ × ℤ)). (entry.0, entry.1.0, entry.1.1)) es)) (entries-by_key (one_line t) (ascends t))
 
 -- if the specification has no key column, each pair is without a key
@@ -148,20 +149,20 @@ asks tickets old a x text plain printed =
     asked tickets old a (answer.Totals ((None, x.0, x.1) ∷ [])) text (plain_answers old.state.table.places (aggregate_at old.state.table a) x plain) (printed ∙ sym (append-nil (total_text (None, x.0, x.1))))
 
 -- extrema without a key column have at most one line
-no_extrema : extrema_lines (extrema []) ≡ []
+no_extrema : lines_by_key (extrema []) ≡ []
 unfolding one_line
 no_extrema = ap (λ (es : Entries (ℤ × ℤ)). map (λ (entry : Option Key × (ℤ × ℤ)). (entry.0, entry.1.0, entry.1.1)) es) (entries-by_key [] none_ascends)
 
 one_extrema : (pair : Pair) (pairs : List Pair) → AreKeyless (pair ∷ pairs)
-    → extrema_lines (extrema (pair ∷ pairs)) ≡ (None, (min_max (values (pair ∷ pairs))).0, (min_max (values (pair ∷ pairs))).1) ∷ []
+    → lines_by_key (extrema (pair ∷ pairs)) ≡ (None, (min_max (values (pair ∷ pairs))).0, (min_max (values (pair ∷ pairs))).1) ∷ []
 unfolding one_line
 one_extrema pair pairs h =
     let t = min_max (values (pair ∷ pairs)) in
-    ap extrema_lines (one_group min_max pair pairs h)
+    ap lines_by_key (one_group min_max pair pairs h)
     ∙ ap (λ (es : Entries (ℤ × ℤ)). map (λ (entry : Option Key × (ℤ × ℤ)). (entry.0, entry.1.0, entry.1.1)) es) (entries-by_key (one_line t) (ascends t))
 
-line_of_extrema : (pairs : List Pair) (m n : ℤ) → AreKeyless pairs → Some (line.Extrema m n) ≡ line_in (answer.Extrema (extrema_lines (extrema pairs))) None
-    → extrema_lines (extrema pairs) ≡ (None, m, n) ∷ []
+line_of_extrema : (pairs : List Pair) (m n : ℤ) → AreKeyless pairs → Some (line.Extrema m n) ≡ line_in (answer.Extrema (lines_by_key (extrema pairs))) None
+    → lines_by_key (extrema pairs) ≡ (None, m, n) ∷ []
 line_of_extrema [] m n h is =
     let none : Some (line.Extrema m n) ≡ None = is ∙ ap (λ lines. line_in (answer.Extrema lines) None) no_extrema in
     cc
@@ -178,7 +179,7 @@ no_totals (Some found) m n is = cc
 
 answer_of_extrema : (f : Fold) (pairs : List Pair) (m n : ℤ) → AreKeyless pairs → Some (line.Extrema m n) ≡ line_in (answer_of f None pairs) None
     → answer_of f None pairs ≡ answer.Extrema ((None, m, n) ∷ [])
-answer_of_extrema fold.Totals pairs m n h is = absurd (no_totals (found_in (or_zero None (total_lines (totals pairs))) None) m n is)
+answer_of_extrema fold.Totals pairs m n h is = absurd (no_totals (found_in (or_zero None (lines_by_key (totals pairs))) None) m n is)
 answer_of_extrema fold.Extrema pairs m n h is = ap answer.Extrema (line_of_extrema pairs m n h is)
 
 extrema_answers : (places : List Place) (found : Option Registered) (spec : Spec) (all : Answer) (m n : ℤ)

@@ -1,7 +1,7 @@
 -- The extrema of row groups that result from the holdings of keys: how they change, and all of them joined.
 use Rattle.std.proofs.Common.{length-append, ◌≡◌, ℕ, zero, suc, ◌<◌, ◌+◌, ◌==◌, ◌&&◌, ◌||◌, true, false, Bool, cond, List, [], ◌∷◌, ◌++◌, length, map, refl, sym, ap, ◌∙◌, arith, Option, None, Some, subst, inl, inr}
 use Rattle.std.specs.Prelude.{ℤ, option_map, slice_set, slice_index_or, is_some}
-use Rattle.std.specs.List.{filter_map, list_any, cons_option}
+use Rattle.std.specs.List.{filter_map, list_any, cons_option, AllByRecursion}
 use Rattle.std.specs.Ordering.{eq_by_cmp}
 use Rattle.std.proofs.lemmas.Bool.Decides.{nat_tests}
 use Rattle.std.proofs.lemmas.List.Sums.{fold-append}
@@ -9,7 +9,7 @@ use Rattle.std.specs.FinMap as fin
 use Rattle.far_types.specs.declared.key.Key.{Key}
 use Rattle.far_types.specs.Keys.{line_cmp}
 use Rattle.far_types.specs.KeyOrder.{line_total}
-use Rattle.far_types.specs.Answers.{Extrema}
+use Rattle.far_types.specs.Answers.{Extrema, lines_by_key}
 use Rattle.far_types.specs.Effects.{merge_two, join_min_maxes, joined_extrema, min_max_with, with_observed}
 use Rattle.std.specs.Prelude.{◌≤ℤ◌}
 use Rattle.std.specs.Int.{int_min, int_max}
@@ -17,12 +17,10 @@ use Rattle.std.proofs.lemmas.Int.{ints, int_min_is, int_max_is}
 use Rattle.far_types.proofs.AnswersGrouping.{same, same_key, get-joined}
 use Rattle.far_extrema.specs.Spreads.{at, IsTopOf, IsSet, joined_to}
 use Rattle.std.specs.Prelude.{replicate}
-use Rattle.std.specs.List.{AllByRecursion}
 use Rattle.std.specs.List.Sorted.{IsStrictlySortedBy}
 use Rattle.std.specs.BTreeMap.{is_at}
 use Rattle.std.specs.declared.cmp.Ordering.TheVariants.{Less}
 use Rattle.std.proofs.lemmas.List.{append-nil, append_assoc}
-use Rattle.far_types.specs.Answers.{extrema_lines}
 use Rattle.far_types.proofs.AnswersByKeyMaps.{get_at, by_key, entries-by_key, HaveDistinctKeys, sorted_distinct}
 use Rattle.far_types.proofs.AnswersByKeyMaps as map_in
 use Rattle.far_extrema.proofs.LiveGroups.{past_reserved}
@@ -242,11 +240,11 @@ lines_tops (e ∷ es) = elim e.1.top as (λ o. map {B = Option Key × ℤ × ℤ
 
 -- the lines of the kept min-maxes are the lines of all row groups joined
 lines-all : (es : Entries) (count : ℕ) → AreReserved count (holders_of es) → AllByRecursion IsTopped es → IsStrictlySortedBy line_cmp (map (λ (e : Option Key × Holding). e.0) es)
-    → filter_map line_of es ≡ extrema_lines (all_groups (groups_in (holders_of es) count))
+    → filter_map line_of es ≡ lines_by_key (all_groups (groups_in (holders_of es) count))
 lines-all es count kept topped sorted =
     sym (lines_tops es)
     ∙ ap (map {B = Option Key × ℤ × ℤ} (λ (e : Option Key × (ℤ × ℤ)). (e.0, e.1.0, e.1.1))) (sym (entries-by_key (tops es) (sorted_tops es sorted)))
-    ∙ ap extrema_lines (same (by_key (tops es)) (all_groups (groups_in (holders_of es) count)) (λ q. get_at (tops es) q ∙ tops_at es q (sorted_distinct es sorted) ∙ ap top_in (sym (get_at es q)) ∙ sym (get-tops es count q kept topped)))
+    ∙ ap lines_by_key (same (by_key (tops es)) (all_groups (groups_in (holders_of es) count)) (λ q. get_at (tops es) q ∙ tops_at es q (sorted_distinct es sorted) ∙ ap top_in (sym (get_at es q)) ∙ sym (get-tops es count q kept topped)))
 
 -- a map is made from its own entries
 made_of_own : (m : Holders) → holders_of (fin.entries m) ≡ m
@@ -254,10 +252,10 @@ made_of_own m = same _ _ (λ q. fin.get-from_entries line_total (fin.entries m) 
 
 -- the lines of a map's own entries are the lines of all row groups joined
 pub lines-held : (m : Holders) (count : ℕ) → AreReserved count m → AllByRecursion IsTopped (fin.entries m) → IsStrictlySortedBy line_cmp (fin.keys m)
-    → filter_map line_of (fin.entries m) ≡ extrema_lines (all_groups (groups_in m count))
+    → filter_map line_of (fin.entries m) ≡ lines_by_key (all_groups (groups_in m count))
 lines-held m count kept topped sorted =
     lines-all (fin.entries m) count (subst (AreReserved count) (sym (made_of_own m)) kept) topped sorted
-    ∙ ap (λ n. extrema_lines (all_groups (groups_in n count))) (made_of_own m)
+    ∙ ap (λ n. lines_by_key (all_groups (groups_in n count))) (made_of_own m)
 
 -- putting a min-max in a reserved row group adds none to unreserved row groups
 pub reserved-put : (m m' : Holders) (count g : ℕ) (k : Option Key) (o : Option (ℤ × ℤ)) → AreReserved count m → g < count → IsPut m g k o m' → AreReserved count m'

@@ -1,5 +1,5 @@
 // The row groups by number, in a list with a place for each number from 0 on. A look-up is an index.
-ghost use Rattle.std.specs.Prelude.{◌≡◌, ◌≤◌, ◌<◌, Some, pos, length, slice_get, OnOk, OnErr, IfErr};
+ghost use Rattle.std.specs.Prelude.{◌≡◌, ◌≤◌, ◌<◌, Some, pos, length, slice_get, OnOk, OnErr};
 ghost use Rattle.std.specs.Option.{option_copied};
 ghost use Rattle.std.specs.List.{AllByRecursion};
 ghost use Rattle.far_extrema.specs.Holders.{IsTopped};
@@ -8,7 +8,8 @@ ghost use Rattle.far_extrema.specs.Numbers.{of_places, IsPlacePut, ArePlacesLike
 
 use super::holder::Holder;
 use super::lines::{Lines, add_line};
-use far_types::{Key, Refusal};
+use far_types::Key;
+use std::alloc::AllocError;
 
 /// The row groups of the numbers from 0 on. A number that does not occur has a vacant holder.
 pub type Dense = Vec<Holder>;
@@ -24,13 +25,12 @@ pub fn get(dense: &Dense, place: usize) -> Option<&Holder>
     None
 }
 
-/// Extends a list to at least `len` places. The new places are vacant. Refused only with `NoMemory` (1). Then it may have some new places.
-fn grow(dense: &mut Dense, len: usize) -> Result<(), Refusal>
+/// Extends a list to at least `len` places. The new places are vacant. If memory runs out, it may have some new places.
+fn grow(dense: &mut Dense, len: usize) -> Result<(), AllocError>
     requires { len ≤ 2048 }
     ensures same { ArePlacesLike dense.old.items dense.new.items }
     ensures few { length dense.old.items ≤ 2048 → length dense.new.items ≤ 2048 }
     ensures len { OnOk result (len ≤ length dense.new.items) }
-    ensures memory { IfErr result (λ e. e ≡ Refusal.NoMemory) }
 {
     for _place in dense.len()..len {
         dense.push(Holder::vacant())?;
@@ -38,13 +38,12 @@ fn grow(dense: &mut Dense, len: usize) -> Result<(), Refusal>
     Ok(())
 }
 
-/// Puts a holder at a place. Extends the list if the place is new. Refused only with `NoMemory` (1). Then the same numbers occur as before.
-pub fn put(dense: &mut Dense, place: usize, holder: Holder) -> Result<(), Refusal>
+/// Puts a holder at a place. Extends the list if the place is new. If memory runs out, the same numbers occur as before.
+pub fn put(dense: &mut Dense, place: usize, holder: Holder) -> Result<(), AllocError>
     requires { place < 2048 }
     ensures ok { OnOk result (IsPlacePut dense.old.items place holder dense.new.items) }
     ensures err { OnErr result (ArePlacesLike dense.old.items dense.new.items) }
     ensures few { length dense.old.items ≤ 2048 → length dense.new.items ≤ 2048 }
-    ensures memory { IfErr result (λ e. e ≡ Refusal.NoMemory) }
 {
     grow(dense, place + 1)?;
     dense[place] = holder;
@@ -83,11 +82,10 @@ fn key_at(place: usize) -> Option<Key>
 }
 
 /// Adds the lines of the numbers that occur, ascending.
-pub fn add_lines(lines: &mut Lines, dense: &Dense) -> Result<(), Refusal>
+pub fn add_lines(lines: &mut Lines, dense: &Dense) -> Result<(), AllocError>
     requires { length dense.now.items ≤ 2048 }
     ensures ok { OnOk result (Adds lines.old.items (of_places dense.now.items) lines.new.items) }
     ensures topped { OnOk result (AllByRecursion IsTopped (of_places dense.now.items)) }
-    ensures memory { IfErr result (λ e. e ≡ Refusal.NoMemory) }
 {
     for place in 0..dense.len() {
         if let Some(top) = dense[place].top() {

@@ -1,5 +1,5 @@
 // The row groups of one key.
-ghost use Rattle.std.specs.Prelude.{◌≡◌, ◌≢◌, ◌∷◌, [], None, Some, true, false, IsTrue, OnOk, OnErr, IfOk, IfErr};
+ghost use Rattle.std.specs.Prelude.{◌≡◌, ◌≢◌, ◌∷◌, [], None, Some, true, false, IsTrue, OnOk, OnErr, IfOk};
 ghost use Rattle.far_types.specs.Effects.{min_max_with};
 ghost use Rattle.far_extrema.specs.Spreads.{at, IsSet, AreSame, IsTopOf};
 ghost use Rattle.far_extrema.specs.Runs.{with_last, min_maxes_of, top_of, is_of, IsApart};
@@ -8,8 +8,7 @@ ghost use Rattle.far_extrema.specs.Holders.{IsCleared};
 use super::min_max::{MinMax, either};
 use super::rows_left::RowsLeft;
 use super::runs::Runs;
-use far_types::Refusal;
-use std::alloc::Global;
+use std::alloc::{AllocError, Global};
 use std::marker::Model;
 
 /// The row groups in which a key occurs, and whether memory for one more of them is reserved. A key that is only reserved occurs in none.
@@ -50,18 +49,17 @@ fn is_at(last: &Option<(u32, MinMax)>, group: u32) -> bool
     }
 }
 
-/// Adds a row group to the others. Refused only with `NoMemory` (1). Then nothing is changed.
+/// Adds a row group to the others. If memory runs out, nothing is changed.
 fn add_to(
     others: &mut Option<Box<Runs>>,
     alloc: Global,
     group: u32,
     min_max: MinMax,
-) -> Result<(), Refusal>
+) -> Result<(), AllocError>
     requires { at (min_maxes_of others.old) group ≡ None }
     ensures ok { OnOk result
         (IsSet (min_maxes_of others.old) group (Some min_max) (min_maxes_of others.new)) }
     ensures err { OnErr result (others.new ≡ others.old) }
-    ensures memory { IfErr result (λ e. e ≡ Refusal.NoMemory) }
 {
     match others {
         Some(runs) => runs.add(alloc, group, min_max),
@@ -74,17 +72,16 @@ fn add_to(
     }
 }
 
-/// Adds the last row group to the others, if there is one. Refused only with `NoMemory` (1). Then nothing is changed.
+/// Adds the last row group to the others, if there is one. If memory runs out, nothing is changed.
 fn settle(
     last: &Option<(u32, MinMax)>,
     others: &mut Option<Box<Runs>>,
     alloc: Global,
-) -> Result<(), Refusal>
+) -> Result<(), AllocError>
     requires { IsApart last.now (min_maxes_of others.old) }
     ensures ok { OnOk result
         (AreSame (with_last last.now (min_maxes_of others.old)) (min_maxes_of others.new)) }
     ensures err { OnErr result (others.new ≡ others.old) }
-    ensures memory { IfErr result (λ e. e ≡ Refusal.NoMemory) }
 {
     if let Some((group, min_max)) = last {
         add_to(others, alloc, *group, *min_max)?;
@@ -206,12 +203,11 @@ impl Holder {
         self.last.is_none() && !self.reserved && self.others.is_none()
     }
 
-    /// Reserves memory for one more row group. Refused only with `NoMemory` (1). Then nothing is changed.
-    pub fn reserve(&mut self, alloc: Global) -> Result<(), Refusal>
+    /// Reserves memory for one more row group. If memory runs out, nothing is changed.
+    pub fn reserve(&mut self, alloc: Global) -> Result<(), AllocError>
         ensures min_maxes { AreSame self.old.min_maxes self.new.min_maxes }
         ensures reserved { OnOk result (self.new.reserved ≡ true) }
         ensures err { OnErr result (self.new ≡ self.old) }
-        ensures memory { IfErr result (λ e. e ≡ Refusal.NoMemory) }
     {
         settle(&self.last, &mut self.others, alloc)?;
         self.last = None;
@@ -219,14 +215,13 @@ impl Holder {
         Ok(())
     }
 
-    /// Adds a row group, and leaves the reserved memory as it is. Refused only with `NoMemory` (1). Then nothing is changed.
-    fn add(&mut self, alloc: Global, group: u32, min_max: MinMax) -> Result<(), Refusal>
+    /// Adds a row group, and leaves the reserved memory as it is. If memory runs out, nothing is changed.
+    fn add(&mut self, alloc: Global, group: u32, min_max: MinMax) -> Result<(), AllocError>
         requires { at self.old.min_maxes group ≡ None }
         ensures ok { OnOk result
             (IsSet self.old.min_maxes group (Some min_max) self.new.min_maxes) }
         ensures reserved { self.new.reserved ≡ self.old.reserved }
         ensures err { OnErr result (self.new ≡ self.old) }
-        ensures memory { IfErr result (λ e. e ≡ Refusal.NoMemory) }
     {
         if self.reserved {
             return add_to(&mut self.others, alloc, group, min_max);
@@ -252,13 +247,13 @@ impl Holder {
     /// Observes a value in a row group, and leaves the reserved memory as it is. Returns the previous min-max there, or `None` if the key
     /// did not occur.
     ///
-    /// Refused only with `NoMemory` (1), and only if the key is new there. Then nothing is changed.
+    /// Fails only if memory runs out for a key that is new there. Then nothing is changed.
     pub fn observe(
         &mut self,
         alloc: Global,
         group: u32,
         value: i64,
-    ) -> Result<Option<MinMax>, Refusal>
+    ) -> Result<Option<MinMax>, AllocError>
         ensures previous { IfOk result (λ previous. previous ≡ at self.old.min_maxes group) }
         ensures ok { OnOk result
             (IsSet self.old.min_maxes group
@@ -266,7 +261,6 @@ impl Holder {
         ensures reserved { self.new.reserved ≡ self.old.reserved }
         ensures err { OnErr result (self.new ≡ self.old) }
         ensures only_new { OnErr result (at self.old.min_maxes group ≡ None) }
-        ensures memory { IfErr result (λ e. e ≡ Refusal.NoMemory) }
     {
         match self.min_max(group) {
             Some(min_max) => {

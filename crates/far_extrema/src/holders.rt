@@ -1,5 +1,5 @@
 // The row groups in which each key occurs, by the kind of key: no key, numbers, and texts.
-ghost use Rattle.std.specs.Prelude.{◌≡◌, ◌≢◌, None, Some, OnOk, IfErr, OnErr, IfOk, Option};
+ghost use Rattle.std.specs.Prelude.{◌≡◌, ◌≢◌, None, Some, OnOk, OnErr, IfOk, Option};
 ghost use Rattle.std.specs.List.{AllByRecursion};
 ghost use Rattle.far_types.specs.declared.key.Key.{Key};
 ghost use Rattle.far_types.specs.Keys.{line_cmp};
@@ -14,8 +14,8 @@ use super::min_maxes::MinMaxes;
 use super::numbers::Numbers;
 use super::rows_left::RowsLeft;
 use super::texts::{self, Texts};
-use far_types::{Key, Refusal};
-use std::alloc::Global;
+use far_types::Key;
+use std::alloc::{AllocError, Global};
 use std::collections::BTreeMap;
 use std::marker::Model;
 
@@ -54,10 +54,9 @@ fn clear_plain(plain: &mut Option<Holder>, group: u32)
 }
 
 /// Adds the line for no key, if there is one.
-fn add_plain_line(lines: &mut Lines, plain: &Option<Holder>) -> Result<(), Refusal>
+fn add_plain_line(lines: &mut Lines, plain: &Option<Holder>) -> Result<(), AllocError>
     ensures ok { OnOk result (Adds lines.old.items (plain_entries plain.now) lines.new.items) }
     ensures topped { AllByRecursion IsTopped (plain_entries plain.now) }
-    ensures memory { IfErr result (λ e. e ≡ Refusal.NoMemory) }
 {
     if let Some(holder) = plain {
         if let Some(top) = holder.top() {
@@ -110,11 +109,10 @@ impl Holders {
         }
     }
 
-    /// Adds or replaces the holder of a key. Clones the key. Refused only with `NoMemory` (1). Then the same keys occur as before.
-    fn insert(&mut self, key: &Option<Key>, holder: Holder) -> Result<(), Refusal>
+    /// Adds or replaces the holder of a key. Clones the key. If memory runs out, the same keys occur as before.
+    fn insert(&mut self, key: &Option<Key>, holder: Holder) -> Result<(), AllocError>
         ensures ok { OnOk result (AreAlike (fin.insert self.old key.now holder) self.new) }
         ensures err { OnErr result (AreAlike self.old self.new) }
-        ensures memory { IfErr result (λ e. e ≡ Refusal.NoMemory) }
     {
         match key {
             None => {
@@ -156,11 +154,10 @@ impl Holders {
 
     /// Makes an answer's lines, ascending by key: each has a key and its joined min-max of all row groups. Clones the keys. A key that is
     /// only reserved has no line.
-    pub fn lines(&self, alloc: Global) -> Result<Lines, Refusal>
+    pub fn lines(&self, alloc: Global) -> Result<Lines, AllocError>
         ensures ok { IfOk result (λ lines. lines.items ≡ lines_of (fin.entries self.now)) }
         ensures ordered { OnOk result (IsStrictlySortedBy line_cmp (fin.keys self.now)) }
         ensures topped { OnOk result (AllByRecursion IsTopped (fin.entries self.now)) }
-        ensures memory { IfErr result (λ e. e ≡ Refusal.NoMemory) }
     {
         let mut lines = Vec::with_capacity(alloc, self.len())?;
         add_plain_line(&mut lines, &self.plain)?;
@@ -183,21 +180,20 @@ pub fn min_max_in(holders: &Holders, group: u32, key: &Option<Key>) -> Option<Mi
 /// Observes a value under a key in a row group, with one look-up if the key is known. Clones the key if it is new. Returns the previous
 /// min-max there, or `None`.
 ///
-/// Refused only with `NoMemory` (1), and only if the key is new in the row group. Then no min-max and no reserved key is changed.
+/// Fails only if memory runs out for a key that is new in the row group. Then no min-max and no reserved key is changed.
 pub fn observe_in(
     holders: &mut Holders,
     alloc: Global,
     group: u32,
     key: &Option<Key>,
     value: i64,
-) -> Result<Option<MinMax>, Refusal>
+) -> Result<Option<MinMax>, AllocError>
     ensures previous { IfOk result
         (λ previous. previous ≡ min_max_at holders.old group key.now) }
     ensures ok { OnOk result (IsObserved holders.old group key.now value holders.new) }
     ensures reserved { OnOk result (HaveSameReserved holders.old holders.new) }
     ensures err { OnErr result (AreAlike holders.old holders.new) }
     ensures only_new { OnErr result (min_max_at holders.old group key.now ≡ None) }
-    ensures memory { IfErr result (λ e. e ≡ Refusal.NoMemory) }
 {
     match holders.find_mut(key) {
         Some(holder) => holder.observe(alloc, group, value),
@@ -268,12 +264,11 @@ pub fn shrink_in<R: RowsLeft>(
     None
 }
 
-/// Reserves memory for one more row group of a key. Refused only with `NoMemory` (1).
-fn reserve_in(holders: &mut Holders, alloc: Global, key: &Option<Key>) -> Result<(), Refusal>
+/// Reserves memory for one more row group of a key.
+fn reserve_in(holders: &mut Holders, alloc: Global, key: &Option<Key>) -> Result<(), AllocError>
     ensures min_maxes { HaveSameMinMaxes holders.old holders.new }
     ensures kept { KeepsReserved holders.old holders.new }
     ensures reserved { OnOk result (reserved_at holders.new key.now ≢ None) }
-    ensures memory { IfErr result (λ e. e ≡ Refusal.NoMemory) }
 {
     match holders.find_mut(key) {
         Some(holder) => holder.reserve(alloc),
@@ -284,15 +279,14 @@ fn reserve_in(holders: &mut Holders, alloc: Global, key: &Option<Key>) -> Result
     }
 }
 
-/// Reserves memory for one more row group of each of these keys. Refused only with `NoMemory` (1). Then some may be reserved.
+/// Reserves memory for one more row group of each of these keys. If memory runs out, some may be reserved.
 pub fn reserve_all(
     holders: &mut Holders,
     alloc: Global,
     min_maxes: &MinMaxes,
-) -> Result<(), Refusal>
+) -> Result<(), AllocError>
     ensures min_maxes { HaveSameMinMaxes holders.old holders.new }
     ensures reserved { OnOk result (AreReservedFor (extrema_of min_maxes.now.entries) holders.new) }
-    ensures memory { IfErr result (λ e. e ≡ Refusal.NoMemory) }
 {
     for (key, _) in min_maxes {
         reserve_in(holders, alloc, key)?;

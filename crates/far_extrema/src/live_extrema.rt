@@ -9,7 +9,7 @@ use super::holders::{
 use super::min_max::MinMax;
 use super::rows_left::RowsLeft;
 use far_types::{Answer, ExtremaLines, Key, Refusal};
-use std::alloc::Global;
+use std::alloc::{AllocError, Global};
 use std::marker::Model;
 
 /// The least and the greatest value under each key, kept up to date row group by row group. It also counts the row groups that are pending:
@@ -46,7 +46,7 @@ impl Model for LiveExtrema {
 
 impl LiveExtrema {
     ghost use Rattle.std.specs.FinMap as fin;
-    ghost use Rattle.far_types.specs.Answers.{extrema_lines};
+    ghost use Rattle.far_types.specs.Answers.{lines_by_key};
     ghost use Rattle.far_types.specs.Effects.{with_observed, min_max_with};
     ghost use Rattle.far_extrema.specs.Live.{after_reserve, group_at, IsReservedFor};
     ghost use Rattle.far_extrema.specs.MinMaxes.{put_min_max};
@@ -81,13 +81,12 @@ impl LiveExtrema {
     /// Reserves as `make_room` does, and reserves memory for each key of these extrema, so that `set_group` or `merge` can take them for
     /// the row group. A key that is only reserved is in no answer.
     ///
-    /// Refused only with `NoMemory` (1). Then no more row groups are reserved, but some of the keys may be.
-    pub fn reserve_for(&mut self, group: u32, extrema: &GroupExtrema) -> Result<(), Refusal>
+    /// If memory runs out, no more row groups are reserved, but some of the keys may be.
+    pub fn reserve_for(&mut self, group: u32, extrema: &GroupExtrema) -> Result<(), AllocError>
         ensures left { self.new.left ≡ self.old.left }
         ensures groups { OnOk result (self.new.groups ≡ after_reserve group self.old.groups) }
         ensures reserved { OnOk result (IsReservedFor extrema.now self.new) }
         ensures err { OnErr result (self.new.groups ≡ self.old.groups) }
-        ensures memory { IfErr result (λ e. e ≡ Refusal.NoMemory) }
     {
         reserve_all(&mut self.holders, self.alloc, extrema.min_maxes())?;
         self.make_room(group);
@@ -97,14 +96,14 @@ impl LiveExtrema {
     /// Observes one folded row in a row group. Returns the previous min-max of its key there, or `None` if the key did not occur.
     /// `put_min_max` with that min-max undoes the row.
     ///
-    /// Costs one look-up, if the key occurs in some row group. Clones the key if it is new. Refused only with `NoMemory` (1), and only if
-    /// the key is new in the row group. Then nothing is changed.
+    /// Costs one look-up, if the key occurs in some row group. Clones the key if it is new. Fails only if memory
+    /// runs out for a key that is new in the row group. Then nothing is changed.
     pub fn observe_under(
         &mut self,
         group: u32,
         key: &Option<Key>,
         value: i64,
-    ) -> Result<Option<MinMax>, Refusal>
+    ) -> Result<Option<MinMax>, AllocError>
         requires { group < length self.old.groups }
         ensures previous { IfOk result
             (λ previous. previous ≡ fin.get (group_at self.old.groups group) key.now) }
@@ -117,7 +116,6 @@ impl LiveExtrema {
         ensures err { OnErr result (self.new ≡ self.old) }
         ensures only_new { OnErr result
             (fin.get (group_at self.old.groups group) key.now ≡ None) }
-        ensures memory { IfErr result (λ e. e ≡ Refusal.NoMemory) }
     {
         observe_in(&mut self.holders, self.alloc, group, key, value)
     }
@@ -224,7 +222,7 @@ impl LiveExtrema {
     /// - else only `NoMemory` (1).
     pub fn answer(&self, alloc: Global) -> Result<Answer, Refusal>
         ensures ok { IfOk result
-            (λ answer. answer ≡ Answer.Extrema (extrema_lines (all_groups self.now.groups))) }
+            (λ answer. answer ≡ Answer.Extrema (lines_by_key (all_groups self.now.groups))) }
         ensures all_scanned { OnOk result (self.now.left ≡ 0) }
         ensures building { self.now.left ≢ 0 → result ≡ Err (Refusal.Building self.now.left) }
         ensures memory { self.now.left ≡ 0 → IfErr result (λ e. e ≡ Refusal.NoMemory) }

@@ -1,5 +1,5 @@
 // The least and the greatest value by key, in a tree map.
-ghost use Rattle.std.specs.Prelude.{◌≡◌, ◌≢◌, None, false, IsTrue, is_some, IfOk, IfErr, OnOk, OnErr, map, ℤ, ◌≤ℤ◌, ◌<ℤ◌, Option};
+ghost use Rattle.std.specs.Prelude.{◌≡◌, ◌≢◌, None, false, IsTrue, is_some, IfOk, OnOk, OnErr, map, ℤ, ◌≤ℤ◌, ◌<ℤ◌, Option};
 ghost use Rattle.std.specs.BTreeMap.{IsOrdered};
 ghost use Rattle.std.specs.FinMap as fin;
 ghost use Rattle.far_types.specs.declared.key.Key.{Key};
@@ -8,8 +8,8 @@ ghost use Rattle.far_types.specs.Effects.{join_min_maxes};
 ghost use Rattle.far_extrema.specs.MinMaxes.{extrema_of, with_min_max, put_min_max};
 
 use super::min_max::MinMax;
-use far_types::{Key, Refusal, clone_key};
-use std::alloc::Global;
+use far_types::{Key, clone_key};
+use std::alloc::{AllocError, Global};
 use std::collections::BTreeMap;
 
 /// The min-maxes by key.
@@ -33,13 +33,12 @@ fn widen(min_maxes: &mut MinMaxes, key: &Option<Key>, more: MinMax) -> bool
 }
 
 /// Joins a min-max to the one under a key, or inserts it. If the key is in already, drops the given key.
-pub fn observe(min_maxes: &mut MinMaxes, key: Option<Key>, more: MinMax) -> Result<(), Refusal>
+pub fn observe(min_maxes: &mut MinMaxes, key: Option<Key>, more: MinMax) -> Result<(), AllocError>
     ensures ok { OnOk result
         (extrema_of min_maxes.new.entries
         ≡ with_min_max (extrema_of min_maxes.old.entries) key more) }
     ensures err { OnErr result (min_maxes.new.entries ≡ min_maxes.old.entries) }
     ensures only_new { OnErr result (fin.get (extrema_of min_maxes.old.entries) key ≡ None) }
-    ensures memory { IfErr result (λ e. e ≡ Refusal.NoMemory) }
 {
     if !widen(min_maxes, &key, more) {
         min_maxes.insert(key, more)?;
@@ -52,13 +51,12 @@ pub fn observe_under(
     min_maxes: &mut MinMaxes,
     key: &Option<Key>,
     more: MinMax,
-) -> Result<(), Refusal>
+) -> Result<(), AllocError>
     ensures ok { OnOk result
         (extrema_of min_maxes.new.entries
         ≡ with_min_max (extrema_of min_maxes.old.entries) key.now more) }
     ensures err { OnErr result (min_maxes.new.entries ≡ min_maxes.old.entries) }
     ensures only_new { OnErr result (fin.get (extrema_of min_maxes.old.entries) key.now ≡ None) }
-    ensures memory { IfErr result (λ e. e ≡ Refusal.NoMemory) }
 {
     if !widen(min_maxes, key, more) {
         min_maxes.insert(clone_key(key)?, more)?;
@@ -91,13 +89,15 @@ pub fn put(min_maxes: &mut MinMaxes, key: &Option<Key>, min_max: Option<MinMax>)
 }
 
 /// Makes an answer's lines, ascending by key. Clones the keys.
-pub fn lines(alloc: Global, min_maxes: &MinMaxes) -> Result<Vec<(Option<Key>, i64, i64)>, Refusal>
+pub fn lines(
+    alloc: Global,
+    min_maxes: &MinMaxes,
+) -> Result<Vec<(Option<Key>, i64, i64)>, AllocError>
     ensures ok { IfOk result
         (λ lines. lines.items
         ≡ map (λ (entry : Option Key × (ℤ × ℤ)). (entry.0, entry.1.0, entry.1.1))
         min_maxes.now.entries) }
     ensures ordered { IsOrdered line_cmp min_maxes.now }
-    ensures memory { IfErr result (λ e. e ≡ Refusal.NoMemory) }
 {
     let mut lines = Vec::with_capacity(alloc, min_maxes.len())?;
     for (key, min_max) in min_maxes {

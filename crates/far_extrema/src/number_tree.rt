@@ -1,5 +1,5 @@
 // The row groups by number, in a tree map of bare numbers. A look-up compares only machine words.
-ghost use Rattle.std.specs.Prelude.{◌≡◌, Some, None, OnOk, OnErr, IfErr};
+ghost use Rattle.std.specs.Prelude.{◌≡◌, Some, None, OnOk, OnErr};
 ghost use Rattle.std.specs.BTreeMap.{IsOrdered};
 ghost use Rattle.std.specs.List.{AllByRecursion};
 ghost use Rattle.std.specs.Ordering.{int_cmp};
@@ -9,18 +9,18 @@ ghost use Rattle.far_extrema.specs.Numbers.{IsSetAt, KeepsOtherNumbers, AreNumbe
 
 use super::holder::{Holder, clear};
 use super::lines::{Lines, add_line};
-use far_types::{Key, Refusal};
+use far_types::Key;
+use std::alloc::AllocError;
 use std::collections::BTreeMap;
 
 /// The row groups by number.
 pub type NumberTree = BTreeMap<i64, Holder>;
 
-/// Adds or replaces the holder of a number. Refused only with `NoMemory` (1). Then nothing is changed.
-pub fn put(tree: &mut NumberTree, number: &i64, holder: Holder) -> Result<(), Refusal>
+/// Adds or replaces the holder of a number. If memory runs out, nothing is changed.
+pub fn put(tree: &mut NumberTree, number: &i64, holder: Holder) -> Result<(), AllocError>
     ensures ok { OnOk result (IsSetAt tree.old.entries number.now (Some holder) tree.new.entries) }
     ensures err { OnErr result (tree.new.entries ≡ tree.old.entries) }
     ensures others { KeepsOtherNumbers tree.old.entries number.now tree.new.entries }
-    ensures memory { IfErr result (λ e. e ≡ Refusal.NoMemory) }
 {
     tree.insert(*number, holder)?;
     Ok(())
@@ -42,11 +42,10 @@ pub fn clear_all(tree: &mut NumberTree, group: u32)
 }
 
 /// Adds the lines of the numbers, ascending. A number that is only reserved has none.
-pub fn add_lines(lines: &mut Lines, tree: &NumberTree) -> Result<(), Refusal>
+pub fn add_lines(lines: &mut Lines, tree: &NumberTree) -> Result<(), AllocError>
     ensures ok { OnOk result (Adds lines.old.items (numbered tree.now.entries) lines.new.items) }
     ensures ordered { IsOrdered int_cmp tree.now }
     ensures topped { OnOk result (AllByRecursion IsTopped (numbered tree.now.entries)) }
-    ensures memory { IfErr result (λ e. e ≡ Refusal.NoMemory) }
 {
     for (number, holder) in tree {
         if let Some(top) = holder.top() {

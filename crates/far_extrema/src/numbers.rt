@@ -1,5 +1,5 @@
 // The row groups by number. The numbers from 0 to a bound are in a list, and the numbers below and above it are in two trees.
-ghost use Rattle.std.specs.Prelude.{◌≡◌, ◌≤◌, ℤ, Some, None, length, OnOk, OnErr, IfErr};
+ghost use Rattle.std.specs.Prelude.{◌≡◌, ◌≤◌, ℤ, Some, None, length, OnOk, OnErr};
 ghost use Rattle.std.specs.Ordering.{int_cmp};
 ghost use Rattle.std.specs.List.{AllByRecursion};
 ghost use Rattle.far_extrema.specs.Parts.{IsPart};
@@ -8,8 +8,7 @@ use super::dense::{self, Dense};
 use super::holder::Holder;
 use super::lines::Lines;
 use super::number_tree::{self, NumberTree};
-use far_types::Refusal;
-use std::alloc::Global;
+use std::alloc::{AllocError, Global};
 use std::collections::BTreeMap;
 use std::marker::Model;
 
@@ -106,11 +105,10 @@ impl Numbers {
         }
     }
 
-    /// Adds or replaces the holder of a number. Refused only with `NoMemory` (1). Then the same numbers occur as before.
-    pub fn insert(&mut self, number: &i64, holder: Holder) -> Result<(), Refusal>
+    /// Adds or replaces the holder of a number. If memory runs out, the same numbers occur as before.
+    pub fn insert(&mut self, number: &i64, holder: Holder) -> Result<(), AllocError>
         ensures ok { OnOk result (IsNumberPut self.old number.now (Some holder) self.new) }
         ensures err { OnErr result (AreNumbersLike self.old self.new) }
-        ensures memory { IfErr result (λ e. e ≡ Refusal.NoMemory) }
     {
         match part_of(number) {
             Part::Below => number_tree::put(&mut self.below, number, holder),
@@ -149,11 +147,10 @@ impl Numbers {
     }
 
     /// Adds the lines of the numbers, ascending. A number that is only reserved has none.
-    pub fn add_lines(&self, lines: &mut Lines) -> Result<(), Refusal>
+    pub fn add_lines(&self, lines: &mut Lines) -> Result<(), AllocError>
         ensures ok { OnOk result (Adds lines.old.items (numbered self.now) lines.new.items) }
         ensures ordered { OnOk result (IsStrictlySortedBy int_cmp (keys_of self.now)) }
         ensures topped { OnOk result (AllByRecursion IsTopped (numbered self.now)) }
-        ensures memory { IfErr result (λ e. e ≡ Refusal.NoMemory) }
     {
         number_tree::add_lines(lines, &self.below)?;
         dense::add_lines(lines, &self.small)?;

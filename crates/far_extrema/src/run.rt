@@ -5,8 +5,7 @@ ghost use Rattle.far_extrema.specs.Spreads.{MinMaxes, at, IsSet, IsTopOf};
 ghost use Rattle.far_extrema.specs.Runs.{paired, RiseFrom, AreInOrder, IsAt, IsGap, IsKept, IsCut, joined_values};
 
 use super::min_max::{MinMax, either};
-use far_types::Refusal;
-use std::alloc::Global;
+use std::alloc::{AllocError, Global};
 use std::marker::Model;
 
 /// The row groups in which a key occurs, ascending, their min-maxes, and their joined min-max.
@@ -137,12 +136,15 @@ impl Run {
     /// Cuts a full run in two, so that a row group can be added. `self` keeps the first part. Returns the least row group that the second
     /// part may have, and the second part. If the new row group is after all others, the run stays full and the second part is empty.
     ///
-    /// Returns `None` if the run is not full. Refused only with `NoMemory` (1). Then nothing is changed.
-    pub fn cut_if_full(&mut self, alloc: Global, group: u32) -> Result<Option<(u32, Run)>, Refusal>
+    /// Returns `None` if the run is not full. If memory runs out, nothing is changed.
+    pub fn cut_if_full(
+        &mut self,
+        alloc: Global,
+        group: u32,
+    ) -> Result<Option<(u32, Run)>, AllocError>
         ensures kept { IfOk result (λ late. late ≡ None → self.new ≡ self.old) }
         ensures cut { IfOk result (IsCut group self.old.min_maxes self.new.min_maxes) }
         ensures err { OnErr result (self.new ≡ self.old) }
-        ensures memory { IfErr result (λ e. e ≡ Refusal.NoMemory) }
     {
         let len = self.groups.len();
         if len < 64 {
@@ -155,12 +157,11 @@ impl Run {
     }
 
     /// Cuts a run in two halves. `self` keeps the first half.
-    fn cut(&mut self, alloc: Global) -> Result<Option<(u32, Run)>, Refusal>
+    fn cut(&mut self, alloc: Global) -> Result<Option<(u32, Run)>, AllocError>
         ensures kept { IfOk result (λ late. late ≡ None → self.new ≡ self.old) }
         ensures cut { (group : ℕ)
             → IfOk result (IsCut group self.old.min_maxes self.new.min_maxes) }
         ensures err { OnErr result (self.new ≡ self.old) }
-        ensures memory { IfErr result (λ e. e ≡ Refusal.NoMemory) }
     {
         let len = self.groups.len();
         if len < 2 {
@@ -209,13 +210,12 @@ impl Run {
         self.groups.is_empty()
     }
 
-    /// Adds a row group. Refused only with `NoMemory` (1). Then nothing is changed.
-    pub fn add(&mut self, group: u32, min_max: MinMax) -> Result<(), Refusal>
+    /// Adds a row group. If memory runs out, nothing is changed.
+    pub fn add(&mut self, group: u32, min_max: MinMax) -> Result<(), AllocError>
         requires { at self.old.min_maxes group ≡ None }
         ensures ok { OnOk result
             (IsSet self.old.min_maxes group (Some min_max) self.new.min_maxes) }
         ensures err { OnErr result (self.new ≡ self.old) }
-        ensures memory { IfErr result (λ e. e ≡ Refusal.NoMemory) }
     {
         self.groups.reserve(1)?;
         self.values.reserve(1)?;

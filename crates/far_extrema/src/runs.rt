@@ -1,5 +1,5 @@
 // The row groups of one key, in runs that follow one another.
-ghost use Rattle.std.specs.Prelude.{◌≡◌, ◌≢◌, ℕ, ◌+◌, ◌<◌, ◌≤◌, [], Option, None, Some, IsTrue, OnOk, OnErr, IfOk, IfErr, IfSome, false, length, suc, vec_len, vec_capacity};
+ghost use Rattle.std.specs.Prelude.{◌≡◌, ◌≢◌, ℕ, ◌+◌, ◌<◌, ◌≤◌, [], Option, None, Some, IsTrue, OnOk, OnErr, IfOk, IfSome, false, length, suc, vec_len, vec_capacity};
 ghost use Rattle.std.specs.List.{insert};
 ghost use Rattle.far_types.specs.Effects.{join_min_maxes, merge_two};
 ghost use Rattle.far_extrema.specs.Spreads.{at, IsSet, IsTopOf};
@@ -7,8 +7,7 @@ ghost use Rattle.far_extrema.specs.Runs.{RiseFrom, IsGap, whole, AreParts, IsPar
 
 use super::min_max::{MinMax, either};
 use super::run::{Run, search};
-use far_types::Refusal;
-use std::alloc::Global;
+use std::alloc::{AllocError, Global};
 use std::marker::Model;
 
 /// The row groups in which a key occurs, in runs of at most 64, and their joined min-max.
@@ -145,14 +144,14 @@ fn put_after(firsts: &mut Vec<u32>, runs: &mut Vec<Run>, place: usize, first: u3
     }
 }
 
-/// Cuts a run if it is full, so that a row group can be added. Refused only with `NoMemory` (1).
+/// Cuts a run if it is full, so that a row group can be added.
 fn make_room(
     firsts: &mut Vec<u32>,
     runs: &mut Vec<Run>,
     alloc: Global,
     place: usize,
     group: u32,
-) -> Result<(), Refusal>
+) -> Result<(), AllocError>
     requires rise { RiseFrom 0 firsts.old.items }
     requires parts { AreParts firsts.old.items runs.old.items }
     requires part { IsPart firsts.old.items group place }
@@ -160,7 +159,6 @@ fn make_room(
     ensures rise { RiseFrom 0 firsts.new.items }
     ensures parts { AreParts firsts.new.items runs.new.items }
     ensures same { whole runs.new.items ≡ whole runs.old.items }
-    ensures memory { IfErr result (λ e. e ≡ Refusal.NoMemory) }
 {
     firsts.reserve(1)?;
     runs.reserve(1)?;
@@ -170,15 +168,14 @@ fn make_room(
     Ok(())
 }
 
-/// Inserts an empty first run, for the row groups from 0 on. Refused only with `NoMemory` (1).
-fn start(firsts: &mut Vec<u32>, runs: &mut Vec<Run>, alloc: Global) -> Result<(), Refusal>
+/// Inserts an empty first run, for the row groups from 0 on.
+fn start(firsts: &mut Vec<u32>, runs: &mut Vec<Run>, alloc: Global) -> Result<(), AllocError>
     requires rise { RiseFrom 1 firsts.old.items }
     requires parts { AreParts firsts.old.items runs.old.items }
     ensures reached { (group : ℕ) → OnOk result (IsReached firsts.new.items group) }
     ensures rise { RiseFrom 0 firsts.new.items }
     ensures parts { AreParts firsts.new.items runs.new.items }
     ensures same { whole runs.new.items ≡ whole runs.old.items }
-    ensures memory { IfErr result (λ e. e ≡ Refusal.NoMemory) }
 {
     // Most keys have one run.
     firsts.reserve_exact(1)?;
@@ -189,20 +186,19 @@ fn start(firsts: &mut Vec<u32>, runs: &mut Vec<Run>, alloc: Global) -> Result<()
     Ok(())
 }
 
-/// Makes room for a row group in its run. Refused only with `NoMemory` (1).
+/// Makes room for a row group in its run.
 fn ready(
     firsts: &mut Vec<u32>,
     runs: &mut Vec<Run>,
     alloc: Global,
     group: u32,
-) -> Result<(), Refusal>
+) -> Result<(), AllocError>
     requires rise { RiseFrom 0 firsts.old.items }
     requires parts { AreParts firsts.old.items runs.old.items }
     ensures reached { OnOk result (IsReached firsts.new.items group) }
     ensures rise { RiseFrom 0 firsts.new.items }
     ensures parts { AreParts firsts.new.items runs.new.items }
     ensures same { whole runs.new.items ≡ whole runs.old.items }
-    ensures memory { IfErr result (λ e. e ≡ Refusal.NoMemory) }
 {
     match part_of(firsts, group) {
         Some(place) => make_room(firsts, runs, alloc, place, group),
@@ -210,20 +206,19 @@ fn ready(
     }
 }
 
-/// Makes room for a new row group, and returns the index of its run. Refused only with `NoMemory` (1).
+/// Makes room for a new row group, and returns the index of its run.
 fn place_for(
     firsts: &mut Vec<u32>,
     runs: &mut Vec<Run>,
     alloc: Global,
     group: u32,
-) -> Result<usize, Refusal>
+) -> Result<usize, AllocError>
     requires rise { RiseFrom 0 firsts.old.items }
     requires parts { AreParts firsts.old.items runs.old.items }
     ensures rise { RiseFrom 0 firsts.new.items }
     ensures parts { AreParts firsts.new.items runs.new.items }
     ensures same { whole runs.new.items ≡ whole runs.old.items }
     ensures part { IfOk result (IsPart firsts.new.items group) }
-    ensures memory { IfErr result (λ e. e ≡ Refusal.NoMemory) }
 {
     ready(firsts, runs, alloc, group)?;
     match part_of(firsts, group) {
@@ -292,13 +287,12 @@ impl Runs {
         }
     }
 
-    /// Adds a row group. Refused only with `NoMemory` (1). Then nothing is changed.
-    pub fn add(&mut self, alloc: Global, group: u32, min_max: MinMax) -> Result<(), Refusal>
+    /// Adds a row group. If memory runs out, nothing is changed.
+    pub fn add(&mut self, alloc: Global, group: u32, min_max: MinMax) -> Result<(), AllocError>
         requires { at self.old.min_maxes group ≡ None }
         ensures ok { OnOk result
             (IsSet self.old.min_maxes group (Some min_max) self.new.min_maxes) }
         ensures err { OnErr result (self.new ≡ self.old) }
-        ensures memory { IfErr result (λ e. e ≡ Refusal.NoMemory) }
     {
         self.apart = None;
         let place = place_for(&mut self.firsts, &mut self.runs, alloc, group)?;

@@ -1,5 +1,5 @@
 // The row groups by text, in a tree map of texts.
-ghost use Rattle.std.specs.Prelude.{◌≡◌, Some, None, OnOk, OnErr, IfErr};
+ghost use Rattle.std.specs.Prelude.{◌≡◌, Some, None, OnOk, OnErr};
 ghost use Rattle.std.specs.BTreeMap.{IsOrdered};
 ghost use Rattle.std.specs.List.{AllByRecursion};
 ghost use Rattle.std.specs.Ordering.{nat_cmp};
@@ -9,17 +9,17 @@ ghost use Rattle.far_extrema.specs.Entries.{texted, Adds, AreEntriesCleared, IsT
 
 use super::holder::{Holder, clear};
 use super::lines::{Lines, add_line};
-use far_types::{Key, Refusal, Text};
+use far_types::{Key, Text};
+use std::alloc::AllocError;
 use std::collections::BTreeMap;
 
 /// The row groups by text.
 pub type Texts = BTreeMap<Text, Holder>;
 
-/// Adds or replaces the holder of a text. Clones the text. Refused only with `NoMemory` (1). Then nothing is changed.
-pub fn put(texts: &mut Texts, text: &Text, holder: Holder) -> Result<(), Refusal>
+/// Adds or replaces the holder of a text. Clones the text. If memory runs out, nothing is changed.
+pub fn put(texts: &mut Texts, text: &Text, holder: Holder) -> Result<(), AllocError>
     ensures ok { OnOk result (IsTextAt texts.old.entries text.now (Some holder) texts.new.entries) }
     ensures err { OnErr result (texts.new.entries ≡ texts.old.entries) }
-    ensures memory { IfErr result (λ e. e ≡ Refusal.NoMemory) }
 {
     texts.insert(text.clone()?, holder)?;
     Ok(())
@@ -40,11 +40,10 @@ pub fn clear_all(texts: &mut Texts, group: u32)
 }
 
 /// Adds the lines of the texts, ascending. A text that is only reserved has none.
-pub fn add_lines(lines: &mut Lines, texts: &Texts) -> Result<(), Refusal>
+pub fn add_lines(lines: &mut Lines, texts: &Texts) -> Result<(), AllocError>
     ensures ok { OnOk result (Adds lines.old.items (texted texts.now.entries) lines.new.items) }
     ensures ordered { IsOrdered (slice_cmp nat_cmp) texts.now }
     ensures topped { OnOk result (AllByRecursion IsTopped (texted texts.now.entries)) }
-    ensures memory { IfErr result (λ e. e ≡ Refusal.NoMemory) }
 {
     for (text, holder) in texts {
         if let Some(top) = holder.top() {

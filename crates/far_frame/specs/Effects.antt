@@ -26,14 +26,7 @@ use Rattle.far_frame.specs.declared.step.Reply.TheVariants as reply
 -- the reply refuses the step for a reason, or serves it
 abbrev pub Replies : (Reply → Type 0) → (Refusal → Type 0) → Reply → Type 0
 Replies serves refuses (reply.Refused given) = refuses given
-Replies serves refuses (reply.Place place) = serves (reply.Place place)
-Replies serves refuses reply.Done = serves reply.Done
-Replies serves refuses (reply.Aggregate a) = serves (reply.Aggregate a)
-Replies serves refuses (reply.Answer answer) = serves (reply.Answer answer)
-Replies serves refuses (reply.Ints pieces) = serves (reply.Ints pieces)
-Replies serves refuses (reply.Texts pieces) = serves (reply.Texts pieces)
-Replies serves refuses (reply.Job n) = serves (reply.Job n)
-Replies serves refuses (reply.Next found) = serves (reply.Next found)
+Replies serves refuses given = serves given
 
 -- the reply of a call that returns nothing when it succeeds
 abbrev pub done_or : Result Unit Refusal → Reply

@@ -58,8 +58,8 @@ edit_tests s e = edit_faults s.table.schema s.table.limits s.table.places e
     ++ (overfills s.table.schema s.table.limits e s.table.places, refusal.ChunkFull) ∷ [])
 
 -- why scanning a row group into an aggregate is refused: there is no such aggregate, or no such row
--- group, or it is not pending, or one of these tests of the columns that the aggregate needs
--- applies
+-- group, or it is not pending, or a test in `columns` applies: for a scan, that a needed chunk is
+-- away; for an offload there is none
 abbrev pub scan_due :
     Table → Option Registered → ℕ → (Spec → List (Bool × Refusal)) → Option Refusal
 scan_due table None g columns = Some refusal.NoAggregate

@@ -1,6 +1,6 @@
 -- The effect of steps on a table, as its user sees it. Left out here, and defined in `Steps`: where
 -- an object is stored, when space runs out, and which job moves which chunk.
-use Rattle.std.specs.Prelude.{◌≡◌, ◌≢◌, ℕ, ◌+◌, ◌-◌, ◌==◌, ◌&&◌, true, false, cond, List, [], ◌∷◌, None, IsSomeAnd, slice_range}
+use Rattle.std.specs.Prelude.{◌≡◌, ◌≢◌, ℕ, ◌+◌, ◌-◌, ◌==◌, ◌&&◌, true, false, cond, List, [], ◌∷◌, map, None, IsSomeAnd, slice_range}
 use Rattle.std.specs.List.{flat_map}
 use Rattle.far_types.specs.Edits.{after_edit}
 use Rattle.far_types.specs.Table.{Table, answer_now, is_pending, part}
@@ -10,7 +10,7 @@ use Rattle.far_frame.specs.declared.step.Step.TheVariants as step
 use Rattle.far_frame.specs.declared.step.Reply.{Reply}
 use Rattle.far_frame.specs.declared.step.Reply.TheVariants as reply
 use Rattle.far_frame.specs.Effects.{Replies, edit_reply}
-use Rattle.far_frame.specs.Lending.{flags_of, pieces_in}
+use Rattle.far_frame.specs.Lending.{pieces_in}
 use Rattle.far_frame.specs.TableRefusals.{TableState, IsReason, due}
 
 -- the pieces in the reply, joined, are this part of the column, with the flags of its places. A
@@ -19,7 +19,8 @@ abbrev pub IsPartOf : Table → ℕ → ℕ → ℕ → Reply → Type 0
 IsPartOf table c from to given =
     let pieces = pieces_in given in
     (flat_map (λ piece. piece.cells) pieces ≡ part c from to table.places)
-    × (flat_map (λ piece. piece.flags) pieces ≡ slice_range (flags_of table.places) from to)
+    × (flat_map (λ piece. piece.flags) pieces
+    ≡ slice_range (map (λ place. place.alive) table.places) from to)
 
 -- the same function, except that one row group of one column has this value
 abbrev pub changed : {A : Type 0} → ℕ → ℕ → A → (ℕ → ℕ → A) → ℕ → ℕ → A

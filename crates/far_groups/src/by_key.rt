@@ -1,9 +1,9 @@
 // Counts and sums by key, in one of four forms. Mostly there is only the one key of an aggregate without key column, or all keys are
 // small numbers.
-ghost use Rattle.std.specs.Prelude.{ℕ, ◌≡◌, ◌+◌, ◌^◌, ◌≤◌, ◌<◌, ◌∷◌, [], pos, None, unwrap_or, IsSome, IfSome, IfNone, IfOk, IfErr, OnOk, OnErr};
+ghost use Rattle.std.specs.Prelude.{ℕ, ◌≡◌, ◌+◌, ◌^◌, ◌≤◌, ◌<◌, ◌∷◌, [], pos, None, unwrap_or, IsSome, IfSome, IfNone, IfOk, OnOk, OnErr};
 ghost use Rattle.std.specs.Option.{option_copied};
 ghost use Rattle.std.specs.FinMap as fin;
-ghost use Rattle.far_types.specs.Answers.{total_lines};
+ghost use Rattle.far_types.specs.Answers.{lines_by_key};
 ghost use Rattle.far_types.specs.Effects.{count_in};
 ghost use Rattle.far_groups.specs.Live.{CanRetract, with_replaced};
 ghost use Rattle.far_groups.specs.CountSums.{totals_of, IsCountSum, AreCountSums, with_count_sum, LeavesCountSum, without_count_sum};
@@ -17,9 +17,9 @@ use super::count_sum::{CountSum, NO_VALUES};
 use super::count_sums::{self, CountSums};
 use super::dense::{self, Dense, dense_of, may_place, numbers_of, place_of, places_for};
 use super::numbers::{self, Numbers, keyed};
-use far_types::{Key, Refusal};
+use far_types::Key;
 pub use joining::join;
-use std::alloc::Global;
+use std::alloc::{AllocError, Global};
 use std::collections::BTreeMap;
 
 /// The form in which counts and sums are kept by key.
@@ -90,9 +90,8 @@ fn place_in(key: &Option<Key>) -> Option<usize>
 }
 
 /// Moves the count and the sum under no key into a tree of keys.
-fn keyed_plain(alloc: Global, count_sum: CountSum) -> Result<CountSums, Refusal>
+fn keyed_plain(alloc: Global, count_sum: CountSum) -> Result<CountSums, AllocError>
     ensures ok { IfOk result (λ keys. totals_of keys.entries ≡ plain_totals count_sum) }
-    ensures memory { IfErr result (λ e. e ≡ Refusal.NoMemory) }
 {
     let mut keys = BTreeMap::new(alloc);
     keys.insert(None, count_sum)?;
@@ -105,7 +104,7 @@ fn plain_with_key(
     count_sum: CountSum,
     key: &Option<Key>,
     more: CountSum,
-) -> Result<CountSums, Refusal>
+) -> Result<CountSums, AllocError>
     requires valid_sums { AreCountSums (plain_totals count_sum) }
     requires more_valid_sums { IsCountSum more }
     requires capacity { count_in (fin.get (plain_totals count_sum) key.now) + more.0 ≤ 2 ^ 26 }
@@ -114,7 +113,6 @@ fn plain_with_key(
         (λ keys. totals_of keys.entries ≡ with_count_sum (plain_totals count_sum) key.now more) }
     ensures valid_sums { IfOk result (λ keys. AreCountSums (totals_of keys.entries)) }
     ensures new { fin.get (plain_totals count_sum) key.now ≡ None }
-    ensures memory { IfErr result (λ e. e ≡ Refusal.NoMemory) }
 {
     let mut keys = keyed_plain(alloc, count_sum)?;
     count_sums::add_under(&mut keys, key, more)?;
@@ -127,7 +125,7 @@ fn with_key(
     numbers: &Numbers,
     key: &Option<Key>,
     more: CountSum,
-) -> Result<Form, Refusal>
+) -> Result<Form, AllocError>
     requires valid_sums { AreCountSums (by_number numbers.now.entries) }
     requires more_valid_sums { IsCountSum more }
     requires capacity { count_in (fin.get (by_number numbers.now.entries) key.now) + more.0
@@ -137,7 +135,6 @@ fn with_key(
         (λ form. in_form form ≡ with_count_sum (by_number numbers.now.entries) key.now more) }
     ensures valid_sums { IfOk result (λ form. AreCountSums (in_form form)) }
     ensures new { fin.get (by_number numbers.now.entries) key.now ≡ None }
-    ensures memory { IfErr result (λ e. e ≡ Refusal.NoMemory) }
 {
     let mut keys = keyed(alloc, numbers)?;
     count_sums::add_under(&mut keys, key, more)?;
@@ -150,14 +147,13 @@ fn in_tree(
     mut numbers: Numbers,
     key: &Option<Key>,
     more: CountSum,
-) -> Result<Form, Refusal>
+) -> Result<Form, AllocError>
     requires valid_sums { AreCountSums (by_number numbers.entries) }
     requires more_valid_sums { IsCountSum more }
     requires capacity { count_in (fin.get (by_number numbers.entries) key.now) + more.0 ≤ 2 ^ 26 }
     ensures ok { IfOk result
         (λ form. in_form form ≡ with_count_sum (by_number numbers.entries) key.now more) }
     ensures valid_sums { IfOk result (λ form. AreCountSums (in_form form)) }
-    ensures memory { IfErr result (λ e. e ≡ Refusal.NoMemory) }
 {
     match number_of(key) {
         Some(number) => {
@@ -175,14 +171,13 @@ fn with_new_key(
     dense: &Dense,
     key: &Option<Key>,
     more: CountSum,
-) -> Result<Form, Refusal>
+) -> Result<Form, AllocError>
     requires valid_sums { AreCountSums (by_place dense.now.items) }
     requires more_valid_sums { IsCountSum more }
     requires new { fin.get (by_place dense.now.items) key.now ≡ None }
     ensures ok { IfOk result
         (λ form. in_form form ≡ with_count_sum (by_place dense.now.items) key.now more) }
     ensures valid_sums { IfOk result (λ form. AreCountSums (in_form form)) }
-    ensures memory { IfErr result (λ e. e ≡ Refusal.NoMemory) }
 {
     if dense.is_empty() && key.is_none() {
         return Ok(Form::Plain(more));
@@ -208,7 +203,7 @@ fn place_for(dense: &Dense, key: &Option<Key>) -> Option<usize>
 }
 
 /// Adds a count and a sum under a key. If the key is in already, drops the given key.
-pub fn add(by_key: &mut ByKey, key: Option<Key>, more: CountSum) -> Result<(), Refusal>
+pub fn add(by_key: &mut ByKey, key: Option<Key>, more: CountSum) -> Result<(), AllocError>
     requires valid_sums { AreCountSums (totals_in by_key.old) }
     requires more_valid_sums { IsCountSum more }
     requires capacity { count_in (fin.get (totals_in by_key.old) key) + more.0 ≤ 2 ^ 26 }
@@ -217,7 +212,6 @@ pub fn add(by_key: &mut ByKey, key: Option<Key>, more: CountSum) -> Result<(), R
         (totals_in by_key.new ≡ with_count_sum (totals_in by_key.old) key more) }
     ensures err { OnErr result (totals_in by_key.new ≡ totals_in by_key.old) }
     ensures only_new { OnErr result (fin.get (totals_in by_key.old) key ≡ None) }
-    ensures memory { IfErr result (λ e. e ≡ Refusal.NoMemory) }
 {
     match &mut by_key.form {
         Form::Keyed(keys) => count_sums::add(keys, key, more),
@@ -227,7 +221,7 @@ pub fn add(by_key: &mut ByKey, key: Option<Key>, more: CountSum) -> Result<(), R
 
 /// Adds a count and a sum under a key. Clones the key if it is new.
 #[inline(always)]
-pub fn add_under(by_key: &mut ByKey, key: &Option<Key>, more: CountSum) -> Result<(), Refusal>
+pub fn add_under(by_key: &mut ByKey, key: &Option<Key>, more: CountSum) -> Result<(), AllocError>
     requires valid_sums { AreCountSums (totals_in by_key.old) }
     requires more_valid_sums { IsCountSum more }
     requires capacity { count_in (fin.get (totals_in by_key.old) key.now) + more.0 ≤ 2 ^ 26 }
@@ -236,7 +230,6 @@ pub fn add_under(by_key: &mut ByKey, key: &Option<Key>, more: CountSum) -> Resul
         (totals_in by_key.new ≡ with_count_sum (totals_in by_key.old) key.now more) }
     ensures err { OnErr result (totals_in by_key.new ≡ totals_in by_key.old) }
     ensures only_new { OnErr result (fin.get (totals_in by_key.old) key.now ≡ None) }
-    ensures memory { IfErr result (λ e. e ≡ Refusal.NoMemory) }
 {
     match &mut by_key.form {
         Form::Plain(count_sum) => match key {
@@ -268,7 +261,7 @@ fn add_elsewhere(
     key: &Option<Key>,
     count: u64,
     sum: i128,
-) -> Result<(), Refusal>
+) -> Result<(), AllocError>
     requires valid_sums { AreCountSums (totals_in by_key.old) }
     requires more_valid_sums { IsCountSum (count, sum) }
     requires capacity { count_in (fin.get (totals_in by_key.old) key.now) + count ≤ 2 ^ 26 }
@@ -278,7 +271,6 @@ fn add_elsewhere(
         (totals_in by_key.new ≡ with_count_sum (totals_in by_key.old) key.now (count, sum)) }
     ensures err { OnErr result (totals_in by_key.new ≡ totals_in by_key.old) }
     ensures only_new { OnErr result (fin.get (totals_in by_key.old) key.now ≡ None) }
-    ensures memory { IfErr result (λ e. e ≡ Refusal.NoMemory) }
 {
     let more = CountSum { count, sum };
     match &mut by_key.form {
@@ -397,9 +389,11 @@ pub fn replace(by_key: &mut ByKey, key: &Option<Key>, from: i64, to: i64)
 }
 
 /// Makes the one line of the count and the sum under no key.
-fn plain_line(alloc: Global, count_sum: CountSum) -> Result<Vec<(Option<Key>, u64, i128)>, Refusal>
+fn plain_line(
+    alloc: Global,
+    count_sum: CountSum,
+) -> Result<Vec<(Option<Key>, u64, i128)>, AllocError>
     ensures ok { IfOk result (λ lines. lines.items ≡ (None, count_sum.0, count_sum.1) ∷ []) }
-    ensures memory { IfErr result (λ e. e ≡ Refusal.NoMemory) }
 {
     let mut lines = Vec::with_capacity(alloc, 1)?;
     lines.push((None, count_sum.count, count_sum.sum))?;
@@ -407,9 +401,8 @@ fn plain_line(alloc: Global, count_sum: CountSum) -> Result<Vec<(Option<Key>, u6
 }
 
 /// Makes an answer's lines, one for each key, ascending.
-pub fn lines(alloc: Global, by_key: &ByKey) -> Result<Vec<(Option<Key>, u64, i128)>, Refusal>
-    ensures ok { IfOk result (λ lines. lines.items ≡ total_lines (totals_in by_key.now)) }
-    ensures memory { IfErr result (λ e. e ≡ Refusal.NoMemory) }
+pub fn lines(alloc: Global, by_key: &ByKey) -> Result<Vec<(Option<Key>, u64, i128)>, AllocError>
+    ensures ok { IfOk result (λ lines. lines.items ≡ lines_by_key (totals_in by_key.now)) }
 {
     match &by_key.form {
         Form::Plain(count_sum) => plain_line(alloc, *count_sum),

@@ -1,5 +1,5 @@
 // Counts and sums by key, in a tree map.
-ghost use Rattle.std.specs.Prelude.{◌≡◌, ◌+◌, ◌-◌, ◌-ℤ◌, None, Some, ◌^◌, ◌≤◌, false, IsTrue, is_some, IfOk, IfErr, OnOk, OnErr, map, take, ℕ, ℤ, Option};
+ghost use Rattle.std.specs.Prelude.{◌≡◌, ◌+◌, ◌-◌, ◌-ℤ◌, None, Some, ◌^◌, ◌≤◌, false, IsTrue, is_some, IfOk, OnOk, OnErr, map, take, ℕ, ℤ, Option};
 ghost use Rattle.std.specs.BTreeMap.{IsOrdered};
 ghost use Rattle.std.specs.FinMap as fin;
 ghost use Rattle.far_types.specs.declared.key.Key.{Key};
@@ -9,8 +9,8 @@ ghost use Rattle.far_groups.specs.Live.{CanRetract, CanJoin, with_replaced};
 ghost use Rattle.far_groups.specs.CountSums.{totals_of, IsCountSum, AreCountSums, with_count_sum, LeavesCountSum, without_count_sum, CanRetractAll, without_all};
 
 use super::count_sum::CountSum;
-use far_types::{Key, Refusal, clone_key};
-use std::alloc::Global;
+use far_types::{Key, clone_key};
+use std::alloc::{AllocError, Global};
 use std::collections::BTreeMap;
 
 /// Counts and sums by key. No key has a count of 0.
@@ -39,7 +39,7 @@ pub fn add_existing(count_sums: &mut CountSums, key: &Option<Key>, more: CountSu
 }
 
 /// Adds a count and a sum under a key. If the key is in already, drops the given key.
-pub fn add(count_sums: &mut CountSums, key: Option<Key>, more: CountSum) -> Result<(), Refusal>
+pub fn add(count_sums: &mut CountSums, key: Option<Key>, more: CountSum) -> Result<(), AllocError>
     requires valid_sums { AreCountSums (totals_of count_sums.old.entries) }
     requires more_valid_sums { IsCountSum more }
     requires capacity { count_in (fin.get (totals_of count_sums.old.entries) key) + more.0
@@ -50,7 +50,6 @@ pub fn add(count_sums: &mut CountSums, key: Option<Key>, more: CountSum) -> Resu
         ≡ with_count_sum (totals_of count_sums.old.entries) key more) }
     ensures err { OnErr result (count_sums.new.entries ≡ count_sums.old.entries) }
     ensures only_new { OnErr result (fin.get (totals_of count_sums.old.entries) key ≡ None) }
-    ensures memory { IfErr result (λ e. e ≡ Refusal.NoMemory) }
 {
     if !add_existing(count_sums, &key, more) {
         count_sums.insert(key, more)?;
@@ -63,7 +62,7 @@ pub fn add_under(
     count_sums: &mut CountSums,
     key: &Option<Key>,
     more: CountSum,
-) -> Result<(), Refusal>
+) -> Result<(), AllocError>
     requires valid_sums { AreCountSums (totals_of count_sums.old.entries) }
     requires more_valid_sums { IsCountSum more }
     requires capacity { count_in (fin.get (totals_of count_sums.old.entries) key.now) + more.0
@@ -74,7 +73,6 @@ pub fn add_under(
         ≡ with_count_sum (totals_of count_sums.old.entries) key.now more) }
     ensures err { OnErr result (count_sums.new.entries ≡ count_sums.old.entries) }
     ensures only_new { OnErr result (fin.get (totals_of count_sums.old.entries) key.now ≡ None) }
-    ensures memory { IfErr result (λ e. e ≡ Refusal.NoMemory) }
 {
     if !add_existing(count_sums, key, more) {
         count_sums.insert(clone_key(key)?, more)?;
@@ -138,7 +136,7 @@ fn retract_first(count_sums: &mut CountSums, other: &CountSums, count: usize)
 }
 
 /// Joins the counts and sums of another map to these. If memory runs out, it undoes what it did.
-pub fn join(count_sums: &mut CountSums, other: &CountSums) -> Result<(), Refusal>
+pub fn join(count_sums: &mut CountSums, other: &CountSums) -> Result<(), AllocError>
     requires valid_sums { AreCountSums (totals_of count_sums.old.entries) }
     requires other_valid_sums { AreCountSums (totals_of other.now.entries) }
     requires can_join { CanJoin (totals_of count_sums.old.entries) (totals_of other.now.entries) }
@@ -148,15 +146,14 @@ pub fn join(count_sums: &mut CountSums, other: &CountSums) -> Result<(), Refusal
         ≡ joined_totals (totals_of count_sums.old.entries) (totals_of other.now.entries)) }
     ensures err { OnErr result
         (totals_of count_sums.new.entries ≡ totals_of count_sums.old.entries) }
-    ensures memory { IfErr result (λ e. e ≡ Refusal.NoMemory) }
 {
     let mut done = 0;
     for (key, count_sum) in other {
         match add_under(count_sums, key, *count_sum) {
             Ok(()) => done += 1,
-            Err(refusal) => {
+            Err(no_memory) => {
                 retract_first(count_sums, other, done);
-                return Err(refusal);
+                return Err(no_memory);
             }
         }
     }
@@ -167,13 +164,12 @@ pub fn join(count_sums: &mut CountSums, other: &CountSums) -> Result<(), Refusal
 pub fn lines(
     alloc: Global,
     count_sums: &CountSums,
-) -> Result<Vec<(Option<Key>, u64, i128)>, Refusal>
+) -> Result<Vec<(Option<Key>, u64, i128)>, AllocError>
     ensures ok { IfOk result
         (λ lines. lines.items
         ≡ map (λ (entry : Option Key × (ℕ × ℤ)). (entry.0, entry.1.0, entry.1.1))
         count_sums.now.entries) }
     ensures ordered { IsOrdered line_cmp count_sums.now }
-    ensures memory { IfErr result (λ e. e ≡ Refusal.NoMemory) }
 {
     let mut lines = Vec::with_capacity(alloc, count_sums.len())?;
     for (key, count_sum) in count_sums {

@@ -1,6 +1,6 @@
 // Counts and sums by number, in a list with a place for each number, from 0 outwards. A look-up is an index. The numbers are small, or so
 // many that the list takes little more memory than a tree.
-ghost use Rattle.std.specs.Prelude.{◌≡◌, ◌+◌, ◌*◌, ◌^◌, ◌≤◌, ◌<◌, None, false, true, IsTrue, IfSome, IfOk, IfErr, OnOk, OnErr, length};
+ghost use Rattle.std.specs.Prelude.{◌≡◌, ◌+◌, ◌*◌, ◌^◌, ◌≤◌, ◌<◌, None, false, true, IsTrue, IfSome, IfOk, OnOk, OnErr, length};
 ghost use Rattle.std.specs.Option.{option_map_or};
 ghost use Rattle.std.specs.FinMap as fin;
 ghost use Rattle.far_types.specs.Effects.{add_count_sums, count_in, joined_totals};
@@ -11,8 +11,8 @@ ghost use Rattle.far_groups.specs.Dense.{place_number, place_key, standing, by_p
 
 use super::count_sum::{CountSum, NO_VALUES};
 use super::numbers::{self, Numbers};
-use far_types::{Key, Refusal};
-use std::alloc::Global;
+use far_types::Key;
+use std::alloc::{AllocError, Global};
 use std::collections::BTreeMap;
 
 /// Counts and sums of the numbers 0, -1, 1, -2, and so on. A count of 0 says that the number does not occur.
@@ -96,10 +96,9 @@ pub fn add_existing(dense: &mut Dense, place: usize, more: CountSum) -> bool
 }
 
 /// Extends a list to at least `len` places. The new ones have count 0.
-fn grow(dense: &mut Dense, len: usize) -> Result<(), Refusal>
+fn grow(dense: &mut Dense, len: usize) -> Result<(), AllocError>
     ensures same { by_place dense.new.items ≡ by_place dense.old.items }
     ensures len { OnOk result (len ≤ length dense.new.items) }
-    ensures memory { IfErr result (λ e. e ≡ Refusal.NoMemory) }
 {
     for _place in dense.len()..len {
         dense.push(NO_VALUES)?;
@@ -108,7 +107,7 @@ fn grow(dense: &mut Dense, len: usize) -> Result<(), Refusal>
 }
 
 /// Adds a count and a sum at a place. Extends the list if the place is new.
-pub fn add(dense: &mut Dense, place: usize, more: CountSum) -> Result<(), Refusal>
+pub fn add(dense: &mut Dense, place: usize, more: CountSum) -> Result<(), AllocError>
     requires valid_sums { AreCountSums (by_place dense.old.items) }
     requires more_valid_sums { IsCountSum more }
     requires capacity { count_in (fin.get (by_place dense.old.items) (place_key place)) + more.0
@@ -121,7 +120,6 @@ pub fn add(dense: &mut Dense, place: usize, more: CountSum) -> Result<(), Refusa
     ensures err { OnErr result (by_place dense.new.items ≡ by_place dense.old.items) }
     ensures only_new { OnErr result
         (fin.get (by_place dense.old.items) (place_key place) ≡ None) }
-    ensures memory { IfErr result (λ e. e ≡ Refusal.NoMemory) }
 {
     if !add_existing(dense, place, more) {
         grow(dense, place + 1)?;
@@ -172,8 +170,8 @@ pub fn get(dense: &Dense, place: usize) -> Option<CountSum>
     Some(found)
 }
 
-/// Joins another list to this one. Extends this one first: only this step can be refused.
-pub fn join(dense: &mut Dense, other: &Dense) -> Result<(), Refusal>
+/// Joins another list to this one. Extends this one first: only this step can fail.
+pub fn join(dense: &mut Dense, other: &Dense) -> Result<(), AllocError>
     requires valid_sums { AreCountSums (by_place dense.old.items) }
     requires other_valid_sums { AreCountSums (by_place other.now.items) }
     requires can_join { CanJoin (by_place dense.old.items) (by_place other.now.items) }
@@ -182,7 +180,6 @@ pub fn join(dense: &mut Dense, other: &Dense) -> Result<(), Refusal>
         (by_place dense.new.items
         ≡ joined_totals (by_place dense.old.items) (by_place other.now.items)) }
     ensures err { OnErr result (by_place dense.new.items ≡ by_place dense.old.items) }
-    ensures memory { IfErr result (λ e. e ≡ Refusal.NoMemory) }
 {
     grow(dense, other.len())?;
     for place in 0..other.len() {
@@ -195,10 +192,9 @@ pub fn join(dense: &mut Dense, other: &Dense) -> Result<(), Refusal>
 }
 
 /// Copies the list into a tree of numbers.
-pub fn numbers_of(alloc: Global, dense: &Dense) -> Result<Numbers, Refusal>
+pub fn numbers_of(alloc: Global, dense: &Dense) -> Result<Numbers, AllocError>
     requires { AreCountSums (by_place dense.now.items) }
     ensures ok { IfOk result (λ numbers. by_number numbers.entries ≡ by_place dense.now.items) }
-    ensures memory { IfErr result (λ e. e ≡ Refusal.NoMemory) }
 {
     let mut numbers = BTreeMap::new(alloc);
     for place in 0..dense.len() {
@@ -232,12 +228,15 @@ pub fn places_for(numbers: &Numbers) -> Option<usize>
 }
 
 /// Copies a tree of numbers into a list with capacity for `places` places. Returns `None` if a number's place is not one of them.
-pub fn dense_of(alloc: Global, numbers: &Numbers, places: usize) -> Result<Option<Dense>, Refusal>
+pub fn dense_of(
+    alloc: Global,
+    numbers: &Numbers,
+    places: usize,
+) -> Result<Option<Dense>, AllocError>
     requires valid_sums { AreCountSums (by_number numbers.now.entries) }
     requires fits { places ≤ 2 ^ 28 }
     ensures same { IfOk result
         (λ made. IfSome made (λ dense. by_place dense.items ≡ by_number numbers.now.entries)) }
-    ensures memory { IfErr result (λ e. e ≡ Refusal.NoMemory) }
 {
     let mut dense = Vec::with_capacity(alloc, places)?;
     for (number, count_sum) in numbers {
@@ -290,9 +289,8 @@ fn place_of_rank(below: usize, rank: usize) -> usize
 }
 
 /// Makes an answer's lines for the places with a count above 0, ascending by number.
-pub fn lines(alloc: Global, dense: &Dense) -> Result<Vec<(Option<Key>, u64, i128)>, Refusal>
+pub fn lines(alloc: Global, dense: &Dense) -> Result<Vec<(Option<Key>, u64, i128)>, AllocError>
     ensures ok { IfOk result (λ lines. lines.items ≡ number_lines (in_order dense.now.items)) }
-    ensures memory { IfErr result (λ e. e ≡ Refusal.NoMemory) }
 {
     let mut lines = Vec::with_capacity(alloc, count_of(dense))?;
     let below = dense.len() / 2;

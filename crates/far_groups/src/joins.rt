@@ -1,5 +1,5 @@
 // Joins one map of counts and sums to another, by walks along both: a merge join.
-ghost use Rattle.std.specs.Prelude.{◌≡◌, IfOk, IfErr, OnOk, OnErr, Option};
+ghost use Rattle.std.specs.Prelude.{◌≡◌, IfOk, OnOk, OnErr, Option};
 ghost use Rattle.std.specs.BTreeMap.{IsOrdered, IsFromIterResult};
 ghost use Rattle.std.specs.declared.cmp.Ordering.TheVariants.{Less};
 ghost use Rattle.far_types.specs.declared.key.Key.{Key};
@@ -11,8 +11,8 @@ ghost use Rattle.far_groups.specs.Walks.{count_sum_at, new_lines, added_to};
 
 use super::count_sum::{CountSum, NO_VALUES};
 use super::count_sums::{CountSums, join};
-use far_types::{Key, Refusal, clone_key};
-use std::alloc::Global;
+use far_types::{Key, clone_key};
+use std::alloc::{AllocError, Global};
 use std::cmp::Ordering;
 use std::collections::btree_map::Iter;
 use std::marker::Model;
@@ -77,11 +77,10 @@ fn new_lines(
     alloc: Global,
     count_sums: &CountSums,
     other: &CountSums,
-) -> Result<Vec<(Option<Key>, CountSum)>, Refusal>
+) -> Result<Vec<(Option<Key>, CountSum)>, AllocError>
     ensures ok { IfOk result
         (λ lines. lines.items ≡ new_lines count_sums.now.entries other.now.entries) }
     ensures ordered { IsOrdered line_cmp other.now }
-    ensures memory { IfErr result (λ e. e ≡ Refusal.NoMemory) }
 {
     let mut lines = Vec::new(alloc);
     let mut walk = Walk::new(count_sums);
@@ -94,16 +93,19 @@ fn new_lines(
 }
 
 /// Makes a map from lines whose keys ascend.
-pub fn map_of(alloc: Global, lines: Vec<(Option<Key>, CountSum)>) -> Result<CountSums, Refusal>
+pub fn map_of(alloc: Global, lines: Vec<(Option<Key>, CountSum)>) -> Result<CountSums, AllocError>
     ensures ok { IfOk result (IsFromIterResult line_cmp lines.items) }
-    ensures memory { IfErr result (λ e. e ≡ Refusal.NoMemory) }
 {
     let all = lines.into_iter();
     Ok(all.collect(alloc)?)
 }
 
 /// Inserts the keys that are only in the other map, each with a count of 0. If memory runs out, it removes all keys of count 0.
-fn reserve_keys(alloc: Global, count_sums: &mut CountSums, other: &CountSums) -> Result<(), Refusal>
+fn reserve_keys(
+    alloc: Global,
+    count_sums: &mut CountSums,
+    other: &CountSums,
+) -> Result<(), AllocError>
     requires valid_sums { AreCountSums (totals_of count_sums.old.entries) }
     ensures ok { OnOk result
         (totals_of count_sums.new.entries
@@ -111,7 +113,6 @@ fn reserve_keys(alloc: Global, count_sums: &mut CountSums, other: &CountSums) ->
         (totals_of (new_lines count_sums.old.entries other.now.entries))) }
     ensures err { OnErr result
         (totals_of count_sums.new.entries ≡ totals_of count_sums.old.entries) }
-    ensures memory { IfErr result (λ e. e ≡ Refusal.NoMemory) }
 {
     let lines = new_lines(alloc, count_sums, other)?;
     let mut fresh = map_of(alloc, lines)?;
@@ -119,7 +120,7 @@ fn reserve_keys(alloc: Global, count_sums: &mut CountSums, other: &CountSums) ->
         Ok(()) => Ok(()),
         Err(_) => {
             count_sums.retain(|_, count_sum| count_sum.count != 0);
-            Err(Refusal::NoMemory)
+            Err(AllocError)
         }
     }
 }
@@ -153,8 +154,12 @@ fn add_all_existing(count_sums: &mut CountSums, other: &CountSums)
     });
 }
 
-/// Joins the counts and sums of another map to these, by walks along both. Inserts the new keys first: only this step can be refused.
-fn join_walking(alloc: Global, count_sums: &mut CountSums, other: &CountSums) -> Result<(), Refusal>
+/// Joins the counts and sums of another map to these, by walks along both. Inserts the new keys first: only this step can fail.
+fn join_walking(
+    alloc: Global,
+    count_sums: &mut CountSums,
+    other: &CountSums,
+) -> Result<(), AllocError>
     requires valid_sums { AreCountSums (totals_of count_sums.old.entries) }
     requires other_valid_sums { AreCountSums (totals_of other.now.entries) }
     requires can_join { CanJoin (totals_of count_sums.old.entries) (totals_of other.now.entries) }
@@ -164,7 +169,6 @@ fn join_walking(alloc: Global, count_sums: &mut CountSums, other: &CountSums) ->
         ≡ joined_totals (totals_of count_sums.old.entries) (totals_of other.now.entries)) }
     ensures err { OnErr result
         (totals_of count_sums.new.entries ≡ totals_of count_sums.old.entries) }
-    ensures memory { IfErr result (λ e. e ≡ Refusal.NoMemory) }
 {
     reserve_keys(alloc, count_sums, other)?;
     add_all_existing(count_sums, other);
@@ -172,7 +176,11 @@ fn join_walking(alloc: Global, count_sums: &mut CountSums, other: &CountSums) ->
 }
 
 /// Joins the counts and sums of another map to these: by walks along both, or by look-ups if the other map has few keys.
-pub fn join_all(alloc: Global, count_sums: &mut CountSums, other: &CountSums) -> Result<(), Refusal>
+pub fn join_all(
+    alloc: Global,
+    count_sums: &mut CountSums,
+    other: &CountSums,
+) -> Result<(), AllocError>
     requires valid_sums { AreCountSums (totals_of count_sums.old.entries) }
     requires other_valid_sums { AreCountSums (totals_of other.now.entries) }
     requires can_join { CanJoin (totals_of count_sums.old.entries) (totals_of other.now.entries) }
@@ -182,7 +190,6 @@ pub fn join_all(alloc: Global, count_sums: &mut CountSums, other: &CountSums) ->
         ≡ joined_totals (totals_of count_sums.old.entries) (totals_of other.now.entries)) }
     ensures err { OnErr result
         (totals_of count_sums.new.entries ≡ totals_of count_sums.old.entries) }
-    ensures memory { IfErr result (λ e. e ≡ Refusal.NoMemory) }
 {
     if other.len() < count_sums.len() / WALKED {
         return join(count_sums, other);

@@ -5,7 +5,7 @@ use super::by_key::{ByKey, add, add_under, get, join, lines, nothing, plain, rep
 use super::count_sum::CountSum;
 use super::folds::{Pair, fold_all};
 use far_types::{Answer, Key, Refusal, TotalLines};
-use std::alloc::Global;
+use std::alloc::{AllocError, Global};
 use std::marker::Model;
 
 /// The count and the sum of the rows under each key, kept up to date row by row. It also counts the row groups that are still pending.
@@ -35,7 +35,7 @@ impl Model for LiveTotals {
 
 impl LiveTotals {
     ghost use Rattle.std.specs.FinMap as fin;
-    ghost use Rattle.far_types.specs.Answers.{total_lines, totals};
+    ghost use Rattle.far_types.specs.Answers.{lines_by_key, totals};
     ghost use Rattle.far_types.specs.Pairs.{PairsFit};
     ghost use Rattle.far_types.specs.Effects.{count_in, with_pair, without_pair, joined_totals};
     ghost use Rattle.far_groups.specs.Live.{CanRetract, CanJoin, with_replaced};
@@ -70,25 +70,25 @@ impl LiveTotals {
         ensures only_new { OnErr result (fin.get self.old.totals key ≡ None) }
         ensures memory { IfErr result (λ e. e ≡ Refusal.NoMemory) }
     {
-        add(&mut self.count_sums, key, CountSum::of(value))
+        add(&mut self.count_sums, key, CountSum::of(value))?;
+        Ok(())
     }
 
     /// Adds a folded row, as `add` does, for a caller that keeps the key. Clones the key if it is new.
     #[inline(always)]
-    pub fn add_under(&mut self, key: &Option<Key>, value: i64) -> Result<(), Refusal>
+    pub fn add_under(&mut self, key: &Option<Key>, value: i64) -> Result<(), AllocError>
         requires { count_in (fin.get self.old.totals key.now) < 2 ^ 26 }
         ensures ok { OnOk result
             (self.new ≡ record self.old { totals = with_pair self.old.totals (key.now, value) }) }
         ensures err { OnErr result (self.new ≡ self.old) }
         ensures only_new { OnErr result (fin.get self.old.totals key.now ≡ None) }
-        ensures memory { IfErr result (λ e. e ≡ Refusal.NoMemory) }
     {
         add_under(&mut self.count_sums, key, CountSum::of(value))
     }
 
-    /// Adds one or more folded rows, all under one key, by their count and their sum, which the caller computed. Refused only with
-    /// `NoMemory` (1), and only if the key is new. Then nothing is changed.
-    pub fn add_rows(&mut self, key: Option<Key>, count_sum: CountSum) -> Result<(), Refusal>
+    /// Adds one or more folded rows, all under one key, by their count and their sum, which the caller computed. Fails only if
+    /// memory runs out for a new key. Then nothing is changed.
+    pub fn add_rows(&mut self, key: Option<Key>, count_sum: CountSum) -> Result<(), AllocError>
         requires valid_sums { IsCountSum count_sum }
         requires capacity { count_in (fin.get self.old.totals key) + count_sum.0 ≤ 2 ^ 26 }
         ensures ok { OnOk result
@@ -98,7 +98,6 @@ impl LiveTotals {
             }) }
         ensures err { OnErr result (self.new ≡ self.old) }
         ensures only_new { OnErr result (fin.get self.old.totals key ≡ None) }
-        ensures memory { IfErr result (λ e. e ≡ Refusal.NoMemory) }
     {
         add(&mut self.count_sums, key, count_sum)
     }
@@ -149,10 +148,10 @@ impl LiveTotals {
         Ok(())
     }
 
-    /// Adds the folded rows of a row group. One row group less is pending. Refused only with `NoMemory` (1). Then nothing is changed.
+    /// Adds the folded rows of a row group. One row group less is pending. If memory runs out, nothing is changed.
     ///
     /// Costs a look-up for each row. `merge` costs a look-up for each key, once the rows are folded into totals of their own.
-    pub fn fold_in(&mut self, pairs: &[Pair]) -> Result<(), Refusal>
+    pub fn fold_in(&mut self, pairs: &[Pair]) -> Result<(), AllocError>
         requires left { self.old.left ≢ 0 }
         requires fits { PairsFit pairs.now }
         requires can_join { CanJoin self.old.totals (totals pairs.now) }
@@ -163,7 +162,6 @@ impl LiveTotals {
               totals = joined_totals self.old.totals (totals pairs.now);
             }) }
         ensures err { OnErr result (self.new ≡ self.old) }
-        ensures memory { IfErr result (λ e. e ≡ Refusal.NoMemory) }
     {
         fold_all(&mut self.count_sums, pairs)?;
         self.left -= 1;
@@ -177,7 +175,7 @@ impl LiveTotals {
     /// - else only `NoMemory` (1).
     pub fn answer(&self, alloc: Global) -> Result<Answer, Refusal>
         ensures ok { IfOk result
-            (λ answer. answer ≡ Answer.Totals (total_lines self.now.totals)) }
+            (λ answer. answer ≡ Answer.Totals (lines_by_key self.now.totals)) }
         ensures all_scanned { OnOk result (self.now.left ≡ 0) }
         ensures building { self.now.left ≢ 0 → result ≡ Err (Refusal.Building self.now.left) }
         ensures memory { self.now.left ≡ 0 → IfErr result (λ e. e ≡ Refusal.NoMemory) }

@@ -1,5 +1,5 @@
 // Counts and sums by number, in a tree map of bare numbers. A look-up compares only machine words.
-ghost use Rattle.std.specs.Prelude.{◌≡◌, ◌+◌, ◌^◌, ◌≤◌, None, false, IsTrue, is_some, IfOk, IfErr, OnOk, OnErr, take};
+ghost use Rattle.std.specs.Prelude.{◌≡◌, ◌+◌, ◌^◌, ◌≤◌, None, false, IsTrue, is_some, IfOk, OnOk, OnErr, take};
 ghost use Rattle.std.specs.BTreeMap.{IsOrdered};
 ghost use Rattle.std.specs.Ordering.{int_cmp};
 ghost use Rattle.std.specs.FinMap as fin;
@@ -11,8 +11,8 @@ ghost use Rattle.far_groups.specs.Numbers.{number_key, numbered, by_number, numb
 use super::count_sum::CountSum;
 use super::count_sums::CountSums;
 use super::joins::map_of;
-use far_types::{Key, Refusal};
-use std::alloc::Global;
+use far_types::Key;
+use std::alloc::{AllocError, Global};
 use std::collections::BTreeMap;
 
 /// Counts and sums by number. No number has a count of 0.
@@ -42,7 +42,7 @@ fn add_existing(numbers: &mut Numbers, number: &i64, more: CountSum) -> bool
 }
 
 /// Adds a count and a sum under a number.
-pub fn add(numbers: &mut Numbers, number: &i64, more: CountSum) -> Result<(), Refusal>
+pub fn add(numbers: &mut Numbers, number: &i64, more: CountSum) -> Result<(), AllocError>
     requires valid_sums { AreCountSums (by_number numbers.old.entries) }
     requires more_valid_sums { IsCountSum more }
     requires capacity { count_in (fin.get (by_number numbers.old.entries) (number_key number.now))
@@ -54,7 +54,6 @@ pub fn add(numbers: &mut Numbers, number: &i64, more: CountSum) -> Result<(), Re
     ensures err { OnErr result (numbers.new.entries ≡ numbers.old.entries) }
     ensures only_new { OnErr result
         (fin.get (by_number numbers.old.entries) (number_key number.now) ≡ None) }
-    ensures memory { IfErr result (λ e. e ≡ Refusal.NoMemory) }
 {
     if !add_existing(numbers, number, more) {
         numbers.insert(*number, more)?;
@@ -120,7 +119,7 @@ fn retract_first(numbers: &mut Numbers, other: &Numbers, count: usize)
 }
 
 /// Joins the counts and sums of another map to these. If memory runs out, it undoes what it did.
-pub fn join(numbers: &mut Numbers, other: &Numbers) -> Result<(), Refusal>
+pub fn join(numbers: &mut Numbers, other: &Numbers) -> Result<(), AllocError>
     requires valid_sums { AreCountSums (by_number numbers.old.entries) }
     requires other_valid_sums { AreCountSums (by_number other.now.entries) }
     requires can_join { CanJoin (by_number numbers.old.entries) (by_number other.now.entries) }
@@ -129,15 +128,14 @@ pub fn join(numbers: &mut Numbers, other: &Numbers) -> Result<(), Refusal>
         (by_number numbers.new.entries
         ≡ joined_totals (by_number numbers.old.entries) (by_number other.now.entries)) }
     ensures err { OnErr result (by_number numbers.new.entries ≡ by_number numbers.old.entries) }
-    ensures memory { IfErr result (λ e. e ≡ Refusal.NoMemory) }
 {
     let mut done = 0;
     for (number, count_sum) in other {
         match add(numbers, number, *count_sum) {
             Ok(()) => done += 1,
-            Err(refusal) => {
+            Err(no_memory) => {
                 retract_first(numbers, other, done);
-                return Err(refusal);
+                return Err(no_memory);
             }
         }
     }
@@ -145,10 +143,9 @@ pub fn join(numbers: &mut Numbers, other: &Numbers) -> Result<(), Refusal>
 }
 
 /// Lists the entries, with the numbers as keys.
-fn keyed_lines(alloc: Global, numbers: &Numbers) -> Result<Vec<(Option<Key>, CountSum)>, Refusal>
+fn keyed_lines(alloc: Global, numbers: &Numbers) -> Result<Vec<(Option<Key>, CountSum)>, AllocError>
     ensures ok { IfOk result (λ lines. lines.items ≡ numbered numbers.now.entries) }
     ensures ordered { IsOrdered int_cmp numbers.now }
-    ensures memory { IfErr result (λ e. e ≡ Refusal.NoMemory) }
 {
     let mut lines = Vec::with_capacity(alloc, numbers.len())?;
     for (number, count_sum) in numbers {
@@ -158,9 +155,8 @@ fn keyed_lines(alloc: Global, numbers: &Numbers) -> Result<Vec<(Option<Key>, Cou
 }
 
 /// Copies the counts and sums into a tree map of keys.
-pub fn keyed(alloc: Global, numbers: &Numbers) -> Result<CountSums, Refusal>
+pub fn keyed(alloc: Global, numbers: &Numbers) -> Result<CountSums, AllocError>
     ensures ok { IfOk result (λ keys. keys.entries ≡ numbered numbers.now.entries) }
-    ensures memory { IfErr result (λ e. e ≡ Refusal.NoMemory) }
 {
     let lines = keyed_lines(alloc, numbers)?;
     map_of(alloc, lines)
@@ -174,10 +170,9 @@ fn line(number: &i64, count_sum: &CountSum) -> (Option<Key>, u64, i128)
 }
 
 /// Makes an answer's lines, ascending by number.
-pub fn lines(alloc: Global, numbers: &Numbers) -> Result<Vec<(Option<Key>, u64, i128)>, Refusal>
+pub fn lines(alloc: Global, numbers: &Numbers) -> Result<Vec<(Option<Key>, u64, i128)>, AllocError>
     ensures ok { IfOk result (λ lines. lines.items ≡ number_lines numbers.now.entries) }
     ensures ordered { IsOrdered int_cmp numbers.now }
-    ensures memory { IfErr result (λ e. e ≡ Refusal.NoMemory) }
 {
     let mut lines = Vec::with_capacity(alloc, numbers.len())?;
     for (number, count_sum) in numbers {

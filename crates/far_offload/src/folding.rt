@@ -1,5 +1,5 @@
 // The fold of a row group, for any aggregate.
-ghost use Rattle.std.specs.Prelude.{◌≡◌, ◌≤◌, ◌^◌, Some, None, length, IfOk, IfErr};
+ghost use Rattle.std.specs.Prelude.{◌≡◌, ◌≤◌, ◌^◌, Some, None, length, IfOk};
 ghost use Rattle.far_types.specs.declared.spec.Fold.TheVariants as folds;
 ghost use Rattle.far_types.specs.Answers.{totals, extrema};
 ghost use Rattle.far_offload.specs.Partials.{partial_of, pairs_over};
@@ -12,8 +12,8 @@ use crate::partial::PartialDone;
 use crate::plain::count_sum_of;
 use far_extrema::GroupExtrema;
 use far_groups::LiveTotals;
-use far_types::{Fold, Refusal, Spec};
-use std::alloc::Global;
+use far_types::{Fold, Spec};
+use std::alloc::{AllocError, Global};
 
 /// Folds totals without a key column.
 fn plain_totals(
@@ -21,13 +21,12 @@ fn plain_totals(
     spec: &Spec,
     columns: &[Column<'_>],
     alive: &[bool],
-) -> Result<LiveTotals, Refusal>
+) -> Result<LiveTotals, AllocError>
     requires few { length alive.now ≤ 2 ^ 26 }
     requires plain { spec.now.key ≡ None }
     ensures totals { IfOk result
         (λ live. live
         ≡ record { left = 0; totals = totals (pairs_over spec.now columns.now alive.now) }) }
-    ensures memory { IfErr result (λ e. e ≡ Refusal.NoMemory) }
 {
     let mut live = LiveTotals::new(alloc, 0);
     let count_sum = count_sum_of(spec, columns, alive);
@@ -44,13 +43,12 @@ fn keyed_totals(
     column: u32,
     columns: &[Column<'_>],
     alive: &[bool],
-) -> Result<LiveTotals, Refusal>
+) -> Result<LiveTotals, AllocError>
     requires few { length alive.now ≤ 2 ^ 26 }
     requires keyed { spec.now.key ≡ Some column }
     ensures totals { IfOk result
         (λ live. live
         ≡ record { left = 0; totals = totals (pairs_over spec.now columns.now alive.now) }) }
-    ensures memory { IfErr result (λ e. e ≡ Refusal.NoMemory) }
 {
     let values = find(columns, spec.value);
     let keys = find(columns, column);
@@ -73,12 +71,11 @@ fn totals_of(
     spec: &Spec,
     columns: &[Column<'_>],
     alive: &[bool],
-) -> Result<LiveTotals, Refusal>
+) -> Result<LiveTotals, AllocError>
     requires few { length alive.now ≤ 2 ^ 26 }
     ensures totals { IfOk result
         (λ live. live
         ≡ record { left = 0; totals = totals (pairs_over spec.now columns.now alive.now) }) }
-    ensures memory { IfErr result (λ e. e ≡ Refusal.NoMemory) }
 {
     match spec.key {
         Some(column) => keyed_totals(alloc, spec, column, columns, alive),
@@ -92,10 +89,9 @@ fn extrema_of(
     spec: &Spec,
     columns: &[Column<'_>],
     alive: &[bool],
-) -> Result<GroupExtrema, Refusal>
+) -> Result<GroupExtrema, AllocError>
     ensures extrema { IfOk result
         (λ observed. observed ≡ extrema (pairs_over spec.now columns.now alive.now)) }
-    ensures memory { IfErr result (λ e. e ≡ Refusal.NoMemory) }
 {
     let mut observed = GroupExtrema::new(alloc);
     observe_into(alloc, &mut observed, spec, columns, alive)?;
@@ -104,18 +100,15 @@ fn extrema_of(
 
 /// Folds the live places of available columns. `alive` has one flag per place, at most 2^26. A missing column, and a place past
 /// the end of a column, have no value. If several columns have one number, the first of them is used.
-///
-/// Refused only with `NoMemory` (1).
 pub fn fold(
     alloc: Global,
     spec: &Spec,
     columns: &[Column<'_>],
     alive: &[bool],
-) -> Result<PartialDone, Refusal>
+) -> Result<PartialDone, AllocError>
     requires few { length alive.now ≤ 2 ^ 26 }
     ensures partial { IfOk result
         (λ done. done ≡ partial_of spec.now.fold (pairs_over spec.now columns.now alive.now)) }
-    ensures memory { IfErr result (λ e. e ≡ Refusal.NoMemory) }
 {
     match spec.fold {
         Fold::Totals => Ok(PartialDone::Totals(totals_of(alloc, spec, columns, alive)?)),

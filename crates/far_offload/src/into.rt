@@ -46,7 +46,8 @@ pub fn fold_into(
     if let Some(column) = spec.key {
         if have_numbers(columns, column) {
             let pairs = keyed_pairs(alloc, spec, column, columns, alive)?;
-            return live.fold_in(pairs.as_slice());
+            live.fold_in(pairs.as_slice())?;
+            return Ok(());
         }
     }
     match fold(alloc, spec, columns, alive)? {

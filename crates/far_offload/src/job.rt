@@ -125,6 +125,6 @@ impl<S: FarRead> OffloadJob<S> {
     {
         let contents = contents_under(alloc, store, meter, &self.tickets)?;
         let columns = lend_all(alloc, &contents)?;
-        fold(alloc, &self.spec, &columns, &self.alive)
+        Ok(fold(alloc, &self.spec, &columns, &self.alive)?)
     }
 }

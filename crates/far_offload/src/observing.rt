@@ -1,5 +1,5 @@
 // Observes the rows of a row group in existing extrema.
-ghost use Rattle.std.specs.Prelude.{◌≡◌, None, Some, OnOk, IfErr};
+ghost use Rattle.std.specs.Prelude.{◌≡◌, None, Some, OnOk};
 ghost use Rattle.far_types.specs.Answers.{extrema};
 ghost use Rattle.far_types.specs.Effects.{joined_extrema};
 ghost use Rattle.far_offload.specs.Partials.{pairs_over};
@@ -9,8 +9,8 @@ use crate::filtering::value_at;
 use crate::keys::key_at;
 use crate::plain::min_max_of;
 use far_extrema::GroupExtrema;
-use far_types::{Refusal, Spec};
-use std::alloc::Global;
+use far_types::Spec;
+use std::alloc::{AllocError, Global};
 
 /// Observes rows without a key column.
 fn observe_plain(
@@ -18,12 +18,11 @@ fn observe_plain(
     spec: &Spec,
     columns: &[Column<'_>],
     alive: &[bool],
-) -> Result<(), Refusal>
+) -> Result<(), AllocError>
     requires { spec.now.key ≡ None }
     ensures ok { OnOk result
         (observed.new
         ≡ joined_extrema observed.old (extrema (pairs_over spec.now columns.now alive.now))) }
-    ensures memory { IfErr result (λ e. e ≡ Refusal.NoMemory) }
 {
     match min_max_of(spec, columns, alive) {
         Some(min_max) => observed.observe_rows(None, min_max),
@@ -39,12 +38,11 @@ fn observe_keyed(
     column: u32,
     columns: &[Column<'_>],
     alive: &[bool],
-) -> Result<(), Refusal>
+) -> Result<(), AllocError>
     requires { spec.now.key ≡ Some column }
     ensures ok { OnOk result
         (observed.new
         ≡ joined_extrema observed.old (extrema (pairs_over spec.now columns.now alive.now))) }
-    ensures memory { IfErr result (λ e. e ≡ Refusal.NoMemory) }
 {
     let values = find(columns, spec.value);
     let keys = find(columns, column);
@@ -63,18 +61,17 @@ fn observe_keyed(
 /// Observes the live places of a row group in extrema, which may already include rows of other row groups. `alive` has one flag
 /// per place. Each place contributes the same pair as in `fold`.
 ///
-/// Refused only with `NoMemory` (1). A refused call may have observed some of the places.
+/// If memory runs out, it may have observed some of the places.
 pub fn observe_into(
     alloc: Global,
     observed: &mut GroupExtrema,
     spec: &Spec,
     columns: &[Column<'_>],
     alive: &[bool],
-) -> Result<(), Refusal>
+) -> Result<(), AllocError>
     ensures ok { OnOk result
         (observed.new
         ≡ joined_extrema observed.old (extrema (pairs_over spec.now columns.now alive.now))) }
-    ensures memory { IfErr result (λ e. e ≡ Refusal.NoMemory) }
 {
     match spec.key {
         Some(column) => observe_keyed(alloc, observed, spec, column, columns, alive),

@@ -1,5 +1,5 @@
 // The pairs of a row group, for an aggregate with a key column.
-ghost use Rattle.std.specs.Prelude.{◌≡◌, Some, IfOk, IfErr};
+ghost use Rattle.std.specs.Prelude.{◌≡◌, Some, IfOk};
 ghost use Rattle.far_types.specs.Pairs.{PairsFit};
 ghost use Rattle.far_offload.specs.Partials.{pairs_over};
 
@@ -7,8 +7,8 @@ use crate::column::{Column, find};
 use crate::filtering::value_at;
 use crate::keys::key_at;
 use far_groups::Pair;
-use far_types::{Refusal, Spec};
-use std::alloc::Global;
+use far_types::Spec;
+use std::alloc::{AllocError, Global};
 
 /// Returns the pairs that the live places contribute to the aggregate, in order.
 pub(crate) fn keyed_pairs(
@@ -17,12 +17,11 @@ pub(crate) fn keyed_pairs(
     column: u32,
     columns: &[Column<'_>],
     alive: &[bool],
-) -> Result<Vec<Pair>, Refusal>
+) -> Result<Vec<Pair>, AllocError>
     requires { spec.now.key ≡ Some column }
     ensures pairs { IfOk result
         (λ pairs. pairs.items ≡ pairs_over spec.now columns.now alive.now) }
     ensures fits { IfOk result (λ pairs. PairsFit pairs.items) }
-    ensures memory { IfErr result (λ e. e ≡ Refusal.NoMemory) }
 {
     let values = find(columns, spec.value);
     let keys = find(columns, column);

@@ -12,7 +12,7 @@ use Rattle.far_types.specs.declared.edit.Edit.TheVariants as edit
 use Rattle.far_types.specs.declared.limits.Limits.{Limits}
 use Rattle.far_types.specs.Bounds.{is_text}
 use Rattle.far_types.specs.Cells.{cell_at, text_in}
-use Rattle.far_types.specs.Edits.{is_over, overfills, text_object_length, places_after}
+use Rattle.far_types.specs.Edits.{overfills, text_object_length, places_after}
 use Rattle.far_types.specs.FormLengths.{texts_length}
 use Rattle.far_types.specs.Table.{Place, column, in_group}
 use Rattle.far_codec.proofs.FarFormLaws.{texts_form_length}
@@ -30,6 +30,10 @@ use Rattle.far_rows.specs.ColumnIndexes.{IsColumnIn, Values, kind_of, cell_in, r
 use Rattle.far_rows.specs.Rows.{Rows, AreRows, all_numbers, all_texts, all_cells}
 use Rattle.far_rows.specs.Places.{places_in, AreOf, text_parts}
 use Rattle.far_rows.proofs.Places.{length-places, places-column, set-column, group-round_trip}
+
+-- whether the text object of a column and a row group would be longer than a text segment
+abbrev pub is_over : Limits → ℕ → ℕ → List Place → Bool
+is_over limits c g places = nat_lt limits.text_size (text_object_length limits c g places)
 
 -- two tests that imply each other are equal
 pub both-ways : (a b : Bool) → (a ≡ true → b ≡ true) → (b ≡ true → a ≡ true) → a ≡ b

@@ -14,7 +14,7 @@ use Rattle.far_types.specs.declared.refusal.Refusal.{Refusal}
 use Rattle.far_types.specs.declared.refusal.Refusal.TheVariants as refusal
 use Rattle.far_types.specs.Bounds.{is_text}
 use Rattle.far_types.specs.Cells.{is_too_long}
-use Rattle.far_types.specs.Edits.{is_over, places_after}
+use Rattle.far_types.specs.Edits.{places_after}
 use Rattle.far_types.specs.FormLengths.{texts_length}
 use Rattle.far_types.specs.FirstOf.{first_of}
 use Rattle.far_log.specs.RegionState.{fits_in}
@@ -37,7 +37,7 @@ use Rattle.far_rows.specs.Moving.{object_in, object_at}
 use Rattle.far_rows.specs.Refusing.{absents}
 use Rattle.far_rows.specs.Places.{places_in, AreOf}
 use Rattle.far_rows.specs.Plain.{is_too_full, no_space_alone, writes_used, cell_set_refusal}
-use Rattle.far_rows.proofs.PlacesTextSize.{found-at, set-long, set-full}
+use Rattle.far_rows.proofs.PlacesTextSize.{found-at, is_over, set-long, set-full}
 use Rattle.far_scopes.proofs.FirstOfCases.{first-append}
 use Rattle.far_rows.proofs.PlainLaws.{skip, none-away}
 

@@ -6,7 +6,7 @@ use Rattle.far_types.specs.declared.name.Name.{Name}
 use Rattle.far_codec.specs.Reading.{ints_meaning}
 use Rattle.far_scopes.specs.declared.object_record.ObjectRecord.{ObjectRecord}
 use Rattle.far_scopes.specs.Movement.{Movement, AreClean}
-use Rattle.far_scopes.specs.Renewal.{renewed_record, after_renew}
+use Rattle.far_scopes.specs.Renewal.{Renews, renewed_record, after_renew}
 use Rattle.far_columns.proofs.VectorsLaws.{vectors-stay, elements-stay}
 use Rattle.far_columns.specs.Vector.{Vector}
 use Rattle.far_texts.specs.Texts.{Texts, lists_of, texts_in}
@@ -14,6 +14,7 @@ use Rattle.far_columns.specs.Numbers.{number_lists, numbers_in}
 use Rattle.far_texts.proofs.ColumnsLaws.{columns-stay, texts-stay}
 use Rattle.far_rows.specs.ColumnIndexes.{columns_of}
 use Rattle.far_rows.specs.Naming.{names_of, AreNamed, AreOwned}
+use Rattle.far_rows.specs.Renewal.{RenewsRows}
 use Rattle.far_rows.specs.Rows.{Rows, AreRows, all_cells}
 use Rattle.far_rows.proofs.MovingCells.{same-map}
 use Rattle.far_rows.proofs.NamingLaws.{as-many}
@@ -23,6 +24,13 @@ module _ {K L : Type 0} where
   records-named [] tickets same_length = refl
   records-named (e ∷ records) [] same_length = absurd (omega (arith, same_length))
   records-named (e ∷ records) (ticket ∷ tickets) same_length = ap (λ (names : List Name). e.name ∷ names) (records-named records tickets (omega (arith, same_length)))
+
+  -- tickets that renew the objects of both kinds renew the rows
+  pub both-renew : (content : K → List ℕ) (new_content : L → List ℕ) (numbers texts : List (Option L)) (r now : Rows K) → r ≡ now → Renews content new_content r.number_objects numbers → Renews content new_content r.text_objects texts → RenewsRows content new_content now record { numbers = numbers; texts = texts }
+  both-renew content new_content numbers texts r now same number_objects text_objects = record {
+    numbers = subst (λ (rows : Rows K). Renews content new_content rows.number_objects numbers) same number_objects;
+    texts = subst (λ (rows : Rows K). Renews content new_content rows.text_objects texts) same text_objects;
+  }
 
   pub renewed-named : {X : Type 0} (m : Movement X K) (tickets : List (Option L)) → length tickets ≡ length m.records → names_of (after_renew m tickets) ≡ names_of m
   renewed-named m tickets same_length = records-named m.records tickets same_length

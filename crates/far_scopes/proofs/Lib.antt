@@ -6,6 +6,7 @@ pub mod MemoryRelocation
 pub mod CompactionOrder
 pub mod CompactionMemory
 pub mod MemoryWordPlaces
+pub mod MemoryLengths
 pub mod MemoryLaws
 pub mod CoolLaws
 pub mod RecencyKeys

@@ -7,7 +7,7 @@ use Rattle.std.proofs.lemmas.Option.{slice_get_within}
 use Rattle.far_pointer.specs.declared.pointer.Pointer.{Pointer}
 use Rattle.far_scopes.specs.declared.object_record.ObjectRecord.{ObjectRecord}
 use Rattle.far_scopes.specs.Memory.{Memory}
-use Rattle.far_scopes.specs.Placing.{with_word}
+use Rattle.far_scopes.specs.Placing.{with_word, replaced}
 use Rattle.far_scopes.specs.declared.replacement.Replacement.{Replacement}
 use Rattle.far_scopes.specs.Effects.{with_record, with_lens, after_pin, after_unpin, after_write, after_write_all, after_overwrite, after_replace}
 use Rattle.far_scopes.specs.Entering.{after_pin_all, after_close}
@@ -58,6 +58,14 @@ module _ {X K : Type 0} (m : Movement X K) (o : ℕ) where
 
   pub others-after_overwrite : (i : ℕ) (ws : List X) → ChangesObject m (after_overwrite (after_write m o) o i ws) o
   others-after_overwrite i ws = record { words = others-after_write.words; records = others-after_write.records }
+
+  pub others-after_replace : (list : List X) → ChangesObject m (after_replace m o list) o
+  others-after_replace list =
+      let mid : Movement X K = record m { memory = replaced m.memory o list; records = with_record m.records o (λ object_record. record object_record { len = length list }) } in
+      record {
+        words = λ p ne. word-with_other mid.memory o _ p ne ∙ word-with_other m.memory o _ p ne;
+        records = λ p ne. object_record-with_other mid.records o _ p ne ∙ object_record-with_other m.records o _ p ne;
+      }
 
   module _ (is_of : K → List ℕ → Type 0) (id : List ℕ) (here : AreHere is_of id m) where
     pub here-recorded : (change : ObjectRecord K → ObjectRecord K) → ((e : ObjectRecord K) → (change e).ticket ≡ e.ticket) → AreHere is_of id record m { records = with_record m.records o change }

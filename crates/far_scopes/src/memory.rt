@@ -77,6 +77,15 @@ impl<T: Elem> LocalMemory<T> {
         let _region = &self.region;
     }
 
+    /// Does nothing at run time. Tells the prover that the list of a local object has fewer than 2^32 elements.
+    #[inline(always)]
+    pub fn lists_are_short(&self)
+        ensures { (o : ℕ) → (list : List T) → list_in self.now o ≡ Some list
+            → length list < 2 ^ 32 }
+    {
+        let _size = self.region.size();
+    }
+
     /// Returns how many objects are local and not hot.
     pub fn cool(&self) -> usize
         ensures { result ≡ cool_in self.now.words }

@@ -134,6 +134,10 @@ range-length xs from n low h =
     rw k (length-take-le n (drop from xs) (omega (arith, h, dropped xs from low)))
 
 module _ {R : Type 0} (read : Ghosts R) where
+  -- nothing was taken, and memory was given back
+  pub reads-kept : (old new : Input R read) → new.source ≡ old.source → unread read new ≡ unread read old → Reads read old [] new
+  reads-kept old new source same = reads read old new [] source (sym same)
+
   -- nothing was taken, and the end of a line was looked for
   pub reads-looked : (old mid new : Input R read) → Reads read old [] mid → new.source ≡ mid.source → new.held ≡ mid.held → new.start ≡ mid.start → Reads read old [] new
   reads-looked old mid new p source held start = reads-then read old mid new [] [] p (reads read mid new [] source (rw (held, start) refl))

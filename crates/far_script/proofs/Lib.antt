@@ -2,6 +2,7 @@ pub mod FieldsLaws
 pub mod NumbersLaws
 pub mod NumbersFirst
 pub mod NumbersFields
+pub mod PageLaws
 pub mod PartLaws
 pub mod OneRecordPlainTexts
 pub mod WordsLaws

@@ -59,7 +59,7 @@ module _ {R : Type 0} (read : Ghosts R) where
 
   -- a read into an input, and whether bytes came
   pub record ReadsMore (old : Input R read) (more : Bool) (new : Input R read) : Type 0 where
-    -- nothing was taken, and what came is behind the bytes that were held
+    -- nothing was taken, and what came follows the bytes that were held
     pub reads : Reads read old [] new
     -- a read that brought bytes is counted
     pub counted : more ≡ true → new.source.reads < old.source.reads

@@ -55,6 +55,18 @@ impl Page {
         self.bytes.is_empty()
     }
 
+    /// Returns how many bytes fit into the memory of the page.
+    pub(crate) fn capacity(&self) -> usize {
+        self.bytes.capacity()
+    }
+
+    /// Gives back the memory that the bytes do not need.
+    pub(crate) fn shrink(&mut self)
+        ensures { self.new ≡ self.old }
+    {
+        self.bytes.shrink_to_fit();
+    }
+
     /// Keeps only the first `len` bytes.
     pub fn truncate(&mut self, len: usize)
         ensures { self.new ≡ take len self.old }
@@ -96,6 +108,18 @@ impl Page {
         Ok(())
     }
 
+    /// Adds bytes before the others. Refused only with `NoMemory` (1).
+    pub(crate) fn bytes_before(&mut self, bytes: &[u8]) -> Result<(), Refusal>
+        ensures ok { OnOk result (self.new ≡ bytes.now ++ self.old) }
+        ensures err { OnErr result (self.new ≡ self.old) }
+        ensures memory { IfErr result (λ e. e ≡ Refusal.NoMemory) }
+    {
+        let len = self.bytes.len();
+        self.bytes.extend_from_slice(bytes)?;
+        put_first(self.bytes.as_mut_slice(), bytes, len);
+        Ok(())
+    }
+
     /// Adds a text. Refused only with `NoMemory` (1).
     pub fn text(&mut self, text: &str) -> Result<(), Refusal>
         ensures ok { OnOk result (self.new ≡ self.old ++ text.now) }
@@ -114,6 +138,15 @@ impl Page {
         self.bytes.push(byte)?;
         Ok(())
     }
+}
+
+/// Moves the first `len` bytes to the end, and writes these bytes before them.
+fn put_first(all: &mut [u8], bytes: &[u8], len: usize)
+    requires { length all.old ≡ len + length bytes.now }
+    ensures { all.new ≡ bytes.now ++ take len all.old }
+{
+    all.copy_within(0..len, bytes.len());
+    all[..bytes.len()].copy_from_slice(bytes);
 }
 
 fn needs_quotes(field: &[u8]) -> bool

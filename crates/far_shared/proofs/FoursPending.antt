@@ -1,15 +1,22 @@
 -- The number of row groups that are pending in the aggregates of a table.
 use Rattle.std.proofs.Common.{◌≡◌, ℕ, zero, suc, ◌+◌, ◌*◌, ◌/◌, ◌-◌, ◌<◌, ◌≤◌, ◌^◌, true, false, List, [], ◌∷◌, length, Option, None, Some, refl, sym, subst, arith, mul-le-mul_left}
 use Rattle.std.proofs.Math.Nat.{div-lt_iff_lt-mul, mul-one}
-use Rattle.std.specs.Prelude.{replicate, slice_get, slice_set}
+use Rattle.std.specs.Prelude.{option_map, replicate, slice_get, slice_set}
 use Rattle.far_types.specs.declared.spec.Spec.{Spec}
 use Rattle.far_types.specs.Table.{Table, Registered, groups}
-use Rattle.far_aggregates.specs.Aggregates.{is_pending_in, flattened}
-use Rattle.far_aggregates.specs.Scans.{entry_after_scan}
+use Rattle.far_aggregates.specs.Aggregates.{is_pending_in, flattened, after_scan}
 use Rattle.far_aggregates.proofs.AccumulatorsRegistry.{count-replicate}
 use Rattle.far_aggregates.proofs.ScansLaws.{left-cleared}
-use Rattle.far_table.specs.Watching.{registered_now}
+use Rattle.far_table.specs.Watching.{group_count}
 use Rattle.far_shared.specs.Fours.{pending_in}
+
+-- an aggregate as it is when it is registered: all row groups that hold a place are pending
+abbrev pub registered_now : Spec → Table → Registered
+registered_now spec table = record {
+  spec = spec;
+  registration = table.registrations;
+  pending = replicate (group_count table) true;
+}
 
 pub zero-least : (n : ℕ) → 0 ≤ n
 zero-least n = omega arith
@@ -76,6 +83,6 @@ set-fewer (y ∷ ys) (suc a) zero x less = no-more _ _ refl
 set-fewer (y ∷ ys) (suc a) (suc b) x less = set-fewer ys a b x less
 
 -- scanning a row group leaves at most as many pending
-pub scanned-fewer : (aggregate : Option Registered) (g : ℕ) → is_pending_in aggregate g ≡ true → pending_in (entry_after_scan g aggregate) ≤ pending_in aggregate
+pub scanned-fewer : (aggregate : Option Registered) (g : ℕ) → is_pending_in aggregate g ≡ true → pending_in (option_map (after_scan g) aggregate) ≤ pending_in aggregate
 scanned-fewer None g left = absurd (let off : false ≡ true = left in cc)
 scanned-fewer (Some r) g left = one-less _ _ (left-cleared r.pending g left)

@@ -15,8 +15,9 @@ use Rattle.far_types.specs.declared.spec.Fold.TheVariants as fold
 use Rattle.far_types.specs.declared.spec.Spec.{Spec}
 use Rattle.far_types.specs.Cells.{cells_of}
 use Rattle.far_types.specs.Filters.{keeps}
-use Rattle.far_types.specs.Pairs.{Pair, pair_in, kept, pairs_of}
-use Rattle.far_types.specs.Answers.{ByKey, values_of, count_sum, totals, extrema, total_lines, extrema_lines, or_zero, answer_of, answer_over}
+use Rattle.far_types.specs.Pairs.{Pair, pair_in, pairs_of}
+use Rattle.far_types.proofs.TablePairs.{kept}
+use Rattle.far_types.specs.Answers.{ByKey, values_of, count_sum, totals, extrema, lines_by_key, or_zero, answer_of, answer_over}
 use Rattle.far_types.specs.Table.{Place, Registered, rows_of}
 use Rattle.far_aggregates.specs.Aggregates.{Answers}
 use Rattle.far_types.specs.Effects.{add_count_sums, join_min_maxes, joined}
@@ -55,10 +56,10 @@ without_zero None (line ∷ lines) = refl
 without_zero (Some column) lines = refl
 
 -- adding the lines of an answer to the totals of some pairs makes the totals of all
-pub with_totals : (key : Option ℕ) (some others : List Pair) (m : ByKey (ℕ × ℤ)) (lines : List (Option Key × ℕ × ℤ)) → m ≡ totals some → lines ≡ or_zero key (total_lines (totals others)) → with_all add_count_sums m (count_sums_in lines) ≡ totals (some ++ others)
+pub with_totals : (key : Option ℕ) (some others : List Pair) (m : ByKey (ℕ × ℤ)) (lines : List (Option Key × ℕ × ℤ)) → m ≡ totals some → lines ≡ or_zero key (lines_by_key (totals others)) → with_all add_count_sums m (count_sums_in lines) ≡ totals (some ++ others)
 with_totals key some others m lines e h =
     (λ i. with_all add_count_sums (e i) (count_sums_in (h i)))
-    ∙ ap (with_all add_count_sums (totals some)) (without_zero key (total_lines (totals others)) ∙ counted others (fin.entries (totals others)) (entries-folded count_sum others))
+    ∙ ap (with_all add_count_sums (totals some)) (without_zero key (lines_by_key (totals others)) ∙ counted others (fin.entries (totals others)) (entries-folded count_sum others))
     ∙ with_map add_count_sums (totals some) (totals others)
     ∙ sym (totals-append some others)
 
@@ -67,7 +68,7 @@ lines_round_trip [] = refl
 lines_round_trip (e ∷ es) = ap (λ rest. e ∷ rest) (lines_round_trip es)
 
 -- adding the lines of an answer to the extrema of some pairs makes the extrema of all
-pub with_extrema : (some others : List Pair) (m : ByKey (ℤ × ℤ)) (lines : List (Option Key × ℤ × ℤ)) → m ≡ extrema some → lines ≡ extrema_lines (extrema others) → with_all join_min_maxes m (min_maxes_in lines) ≡ extrema (some ++ others)
+pub with_extrema : (some others : List Pair) (m : ByKey (ℤ × ℤ)) (lines : List (Option Key × ℤ × ℤ)) → m ≡ extrema some → lines ≡ lines_by_key (extrema others) → with_all join_min_maxes m (min_maxes_in lines) ≡ extrema (some ++ others)
 with_extrema some others m lines e h =
     (λ i. with_all join_min_maxes (e i) (min_maxes_in (h i)))
     ∙ ap (with_all join_min_maxes (extrema some)) (lines_round_trip (fin.entries (extrema others)))
@@ -110,11 +111,11 @@ extrema_lines_in : Answer → List (Option Key × ℤ × ℤ)
 extrema_lines_in (answer.Totals lines) = []
 extrema_lines_in (answer.Extrema lines) = lines
 
-pub totals_given : (spec : Spec) (rows : List (List Cell)) (given : Answer) (lines : List (Option Key × ℕ × ℤ)) → spec.fold ≡ fold.Totals → given ≡ answer.Totals lines → given ≡ answer_over spec rows → lines ≡ or_zero spec.key (total_lines (totals (pairs_of spec rows)))
+pub totals_given : (spec : Spec) (rows : List (List Cell)) (given : Answer) (lines : List (Option Key × ℕ × ℤ)) → spec.fold ≡ fold.Totals → given ≡ answer.Totals lines → given ≡ answer_over spec rows → lines ≡ or_zero spec.key (lines_by_key (totals (pairs_of spec rows)))
 unfolding total_lines_in
 totals_given spec rows given lines f e returned = ap total_lines_in (sym e ∙ returned ∙ ap (λ g. answer_of g spec.key (pairs_of spec rows)) f)
 
-pub extrema_given : (spec : Spec) (rows : List (List Cell)) (given : Answer) (lines : List (Option Key × ℤ × ℤ)) → spec.fold ≡ fold.Extrema → given ≡ answer.Extrema lines → given ≡ answer_over spec rows → lines ≡ extrema_lines (extrema (pairs_of spec rows))
+pub extrema_given : (spec : Spec) (rows : List (List Cell)) (given : Answer) (lines : List (Option Key × ℤ × ℤ)) → spec.fold ≡ fold.Extrema → given ≡ answer.Extrema lines → given ≡ answer_over spec rows → lines ≡ lines_by_key (extrema (pairs_of spec rows))
 unfolding extrema_lines_in
 extrema_given spec rows given lines f e returned = ap extrema_lines_in (sym e ∙ returned ∙ ap (λ g. answer_of g spec.key (pairs_of spec rows)) f)
 

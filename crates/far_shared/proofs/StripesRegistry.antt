@@ -18,7 +18,7 @@ use Rattle.far_types.specs.Table.{Table, Registered, empty_table, groups}
 use Rattle.far_aggregates.specs.Aggregates.{flattened, free_from}
 use Rattle.far_rows.specs.Jobs.{AreAt}
 use Rattle.far_table.specs.State.{LiveState}
-use Rattle.far_table.specs.Watching.{lowest_free, watch_refusal, with_aggregate, after_register_at, registered_now}
+use Rattle.far_table.specs.Watching.{lowest_free, watch_refusal, with_aggregate, after_register_at}
 use Rattle.far_frame.specs.Effects.{Accepts, Refuses}
 use Rattle.far_frame.specs.State.{State, empty_state}
 use Rattle.far_frame.specs.declared.step.Reply.{Reply}
@@ -32,7 +32,7 @@ use Rattle.far_shared.specs.Plans.{IsPlan}
 use Rattle.far_shared.specs.Stripes.{AreRowsOf, IsStripe, first_registered}
 use Rattle.far_shared.specs.Watching.{WatchRefusal}
 use Rattle.far_shared.proofs.StripesColumns.{empty-of}
-use Rattle.far_shared.proofs.FoursPending.{at-most, empty-few, left-registered, set-few, zero-least}
+use Rattle.far_shared.proofs.FoursPending.{at-most, empty-few, left-registered, registered_now, set-few, zero-least}
 use Rattle.far_shared.proofs.StripesLaws.{places-few, plan-checked}
 
 first-unchanged : {X : Type 0} (xs : List X) (a : ℕ) (x : X) → a ≢ 0 → slice_get (slice_set xs a x) 0 ≡ slice_get xs 0

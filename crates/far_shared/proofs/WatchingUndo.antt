@@ -8,7 +8,7 @@ use Rattle.far_types.specs.declared.spec.Spec.{Spec}
 use Rattle.far_types.specs.MayRefuse.{MayRefuse}
 use Rattle.far_types.specs.Table.{Table, Registered}
 use Rattle.far_aggregates.specs.Aggregates.{free_from, flattened}
-use Rattle.far_table.specs.Watching.{lowest_free, after_register_at, registered_now, unwatch_refusal, with_aggregate}
+use Rattle.far_table.specs.Watching.{lowest_free, after_register_at, unwatch_refusal, with_aggregate}
 use Rattle.far_frame.specs.Effects.{Accepts, Refuses}
 use Rattle.far_frame.specs.State.{State}
 use Rattle.far_frame.specs.declared.step.Reply.TheVariants as reply
@@ -17,6 +17,7 @@ use Rattle.far_sessions.specs.Histories.{Planned}
 use Rattle.far_sessions.specs.declared.view.Entry.{Entry}
 use Rattle.far_shared.specs.Stripes.{StripeState, IsStripe}
 use Rattle.far_shared.specs.Watching.{IsAsBefore, after_register, after_unregister, uncounted}
+use Rattle.far_shared.proofs.FoursPending.{registered_now}
 use Rattle.far_shared.proofs.StripesRegistry.{free-within, number-free}
 
 -- a reader finds nothing exactly if the number is free

@@ -1,9 +1,8 @@
 -- Scanning row groups changes no row, and the codes with which it is refused.
-use Rattle.std.proofs.Common.{◌≡◌, ◌≢◌, ℕ, zero, suc, ◌+◌, Bool, true, false, not, List, [], ◌∷◌, length, ap, sym, ◌∙◌, subst, refl, Option, None, Some, IsSomeAnd, Result, IfOk, IfErr, OnOk}
+use Rattle.std.proofs.Common.{◌≡◌, ◌≢◌, ℕ, zero, suc, ◌+◌, Bool, true, false, not, List, [], ◌∷◌, length, ap, sym, ◌∙◌, subst, refl, Option, None, Some, option_map, IsSomeAnd, Result, IfOk, IfErr, OnOk, arith}
 use Rattle.std.specs.declared.result.Result.TheVariants.{Ok, Err}
 use Rattle.std.specs.Prelude.{◌<◌, ◌≤◌, IsErrOf, is_none, slice_get, slice_set, nat_lt}
 use Rattle.std.specs.Option.{option_or}
-use Rattle.std.proofs.Common.{arith}
 use Rattle.std.specs.List.{AllByRecursion}
 use Rattle.std.proofs.lemmas.List.{length-set}
 use Rattle.far_types.specs.declared.refusal.Refusal.{Refusal}
@@ -13,8 +12,7 @@ use Rattle.far_types.specs.FirstOf.{first_of}
 use Rattle.far_scopes.specs.Refusing.{refusal_in}
 use Rattle.far_types.specs.MayRefuse.{MayRefuse}
 use Rattle.far_types.specs.Table.{Table, Registered, is_pending}
-use Rattle.far_aggregates.specs.Aggregates.{is_pending_in, flattened}
-use Rattle.far_aggregates.specs.Scans.{entry_after_scan}
+use Rattle.far_aggregates.specs.Aggregates.{is_pending_in, flattened, after_scan}
 use Rattle.far_aggregates.proofs.AccumulatorsTotals.{none_left}
 use Rattle.far_rows.specs.declared.column_index.ColumnIndex.{ColumnIndex}
 use Rattle.far_rows.specs.Rows.{Rows}
@@ -70,7 +68,7 @@ scanned-keeps t b g h = record {
   edits = refl;
   aggregates = length-set t.aggregates b _;
   scanned = λ a none. ap flattened (get-set_other t.aggregates b a _ (λ e. some-left (aggregate_at t b) g h (ap (λ n. pending_in (aggregate_at t n)) (sym e) ∙ none)));
-  fewer = λ a. set-fewer t.aggregates b a (entry_after_scan g (aggregate_at t b)) (scanned-fewer (aggregate_at t b) g h);
+  fewer = λ a. set-fewer t.aggregates b a (option_map (after_scan g) (aggregate_at t b)) (scanned-fewer (aggregate_at t b) g h);
 }
 
 -- the row group of an accepted build was pending

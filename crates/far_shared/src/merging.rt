@@ -7,14 +7,14 @@ ghost use Rattle.far_types.specs.declared.key.Key.{Key};
 ghost use Rattle.far_types.specs.declared.spec.Fold.TheVariants as fold;
 ghost use Rattle.far_types.specs.Keys.{line_cmp};
 ghost use Rattle.far_types.specs.Pairs.{Pair};
-ghost use Rattle.far_types.specs.Answers.{answer_of, totals, extrema, total_lines, extrema_lines, or_zero};
+ghost use Rattle.far_types.specs.Answers.{answer_of, totals, extrema, lines_by_key, or_zero};
 ghost use Rattle.far_types.specs.Effects.{add_count_sums, join_min_maxes};
 ghost use Rattle.far_groups.specs.CountSums.{totals_of};
 
 use far_extrema::{GroupExtrema, MinMax};
 use far_groups::{CountSum, CountSums};
 use far_types::{Answer, ExtremaLines, Key, Refusal, TotalLines, clone_key};
-use std::alloc::Global;
+use std::alloc::{AllocError, Global};
 use std::collections::BTreeMap;
 
 /// Returns the count and the sum of a key with another count and sum added. Refused with `NoMemory` (1) if one of them does not
@@ -53,7 +53,7 @@ fn add(count_sums: &mut CountSums, key: Option<Key>, more: CountSum) -> Result<(
 fn add_totals(count_sums: &mut CountSums, lines: TotalLines) -> Result<(), Refusal>
     ensures ok { OnOk result ((key : Option ℕ) → (some : List Pair) → (others : List Pair)
         → totals_of count_sums.old.entries ≡ totals some
-        → lines ≡ or_zero key (total_lines (totals others))
+        → lines ≡ or_zero key (lines_by_key (totals others))
         → totals_of count_sums.new.entries ≡ totals (some ++ others)) }
     ensures memory { IfErr result (λ e. e ≡ Refusal.NoMemory) }
 {
@@ -92,10 +92,10 @@ pub(crate) fn merge_totals(
 ) -> Result<Answer, Refusal>
     ensures ok { IfOk result (λ answer. (a : List Pair) → (b : List Pair) → (c : List Pair)
         → (d : List Pair)
-        → one ≡ or_zero key (total_lines (totals a))
-        → two ≡ or_zero key (total_lines (totals b))
-        → three ≡ or_zero key (total_lines (totals c))
-        → four ≡ or_zero key (total_lines (totals d))
+        → one ≡ or_zero key (lines_by_key (totals a))
+        → two ≡ or_zero key (lines_by_key (totals b))
+        → three ≡ or_zero key (lines_by_key (totals c))
+        → four ≡ or_zero key (lines_by_key (totals d))
         → answer ≡ answer_of fold.Totals key (a ++ (b ++ (c ++ d)))) }
     ensures memory { IfErr result (λ e. e ≡ Refusal.NoMemory) }
 {
@@ -108,13 +108,16 @@ pub(crate) fn merge_totals(
     Ok(Answer::Totals(lines))
 }
 
-/// Joins a min-max to the min-max of a key. Refused only with `NoMemory` (1).
-fn observe(min_maxes: &mut GroupExtrema, key: Option<Key>, min_max: MinMax) -> Result<(), Refusal>
+/// Joins a min-max to the min-max of a key.
+fn observe(
+    min_maxes: &mut GroupExtrema,
+    key: Option<Key>,
+    min_max: MinMax,
+) -> Result<(), AllocError>
     ensures ok { OnOk result (min_maxes.new
         ≡ fin.insert min_maxes.old key
         (option_map_or (λ there. join_min_maxes there min_max)
         (fin.get min_maxes.old key) min_max)) }
-    ensures memory { IfErr result (λ e. e ≡ Refusal.NoMemory) }
 {
     min_maxes.observe_rows(key, min_max)
 }
@@ -122,7 +125,7 @@ fn observe(min_maxes: &mut GroupExtrema, key: Option<Key>, min_max: MinMax) -> R
 /// Adds the rows of one answer. Refused only with `NoMemory` (1).
 fn add_extrema(min_maxes: &mut GroupExtrema, lines: ExtremaLines) -> Result<(), Refusal>
     ensures ok { OnOk result ((some : List Pair) → (others : List Pair)
-        → min_maxes.old ≡ extrema some → lines ≡ extrema_lines (extrema others)
+        → min_maxes.old ≡ extrema some → lines ≡ lines_by_key (extrema others)
         → min_maxes.new ≡ extrema (some ++ others)) }
     ensures memory { IfErr result (λ e. e ≡ Refusal.NoMemory) }
 {
@@ -142,10 +145,10 @@ pub(crate) fn merge_extrema(
 ) -> Result<Answer, Refusal>
     ensures ok { IfOk result (λ answer. (key : Option ℕ) → (a : List Pair) → (b : List Pair)
         → (c : List Pair) → (d : List Pair)
-        → one ≡ extrema_lines (extrema a)
-        → two ≡ extrema_lines (extrema b)
-        → three ≡ extrema_lines (extrema c)
-        → four ≡ extrema_lines (extrema d)
+        → one ≡ lines_by_key (extrema a)
+        → two ≡ lines_by_key (extrema b)
+        → three ≡ lines_by_key (extrema c)
+        → four ≡ lines_by_key (extrema d)
         → answer ≡ answer_of fold.Extrema key (a ++ (b ++ (c ++ d)))) }
     ensures memory { IfErr result (λ e. e ≡ Refusal.NoMemory) }
 {

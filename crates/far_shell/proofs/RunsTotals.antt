@@ -8,7 +8,7 @@ use Rattle.std.proofs.lemmas.List.{replicate-append-replicate}
 use Rattle.far_types.specs.declared.answer.Answer.TheVariants as answer
 use Rattle.far_types.specs.declared.cell.Cell.{Cell}
 use Rattle.far_types.specs.declared.key.Key.{Key}
-use Rattle.far_types.specs.Answers.{answer_over, or_zero, count_sum, total_lines, totals, values_of}
+use Rattle.far_types.specs.Answers.{answer_over, or_zero, count_sum, lines_by_key, totals, values_of}
 use Rattle.far_types.specs.KeyOrder.{line_total}
 use Rattle.far_types.specs.Keys.{line_cmp}
 use Rattle.far_types.specs.Pairs.{Pair, pairs_of}
@@ -113,7 +113,7 @@ one-entry (suc m) v = fin.entries-insert line_total (fin.from_entries {R = line_
 abbrev line_of : Option Key × (ℕ × ℤ) → Option Key × ℕ × ℤ
 line_of entry = (entry.0, entry.1.0, entry.1.1)
 
-lines-of-ones : (m : ℕ) → or_zero None (total_lines (totals (replicate m one_pair))) ≡ (None, m, pos m) ∷ []
+lines-of-ones : (m : ℕ) → or_zero None (lines_by_key (totals (replicate m one_pair))) ≡ (None, m, pos m) ∷ []
 lines-of-ones zero = ap (λ entries. or_zero None (map line_of entries)) (no-entry (ℕ × ℤ))
 lines-of-ones (suc m) =
     let pairs : List Pair = replicate (suc m) one_pair in
@@ -122,7 +122,7 @@ lines-of-ones (suc m) =
     ∙ ap (λ (returned : ℕ × ℤ). (None, returned.0, returned.1) ∷ []) (ap count_sum (values-of-ones (suc m)) ∙ count_sum-of-ones (suc m))
 
 answer-of-ones : (m : ℕ) → answer_over sum_of_rows (replicate m row_of_one) ≡ total_of m
-answer-of-ones m = ap (λ (pairs : List Pair). answer.Totals (or_zero None (total_lines (totals pairs)))) (pairs-of-ones m) ∙ ap answer.Totals (lines-of-ones m)
+answer-of-ones m = ap (λ (pairs : List Pair). answer.Totals (or_zero None (lines_by_key (totals pairs)))) (pairs-of-ones m) ∙ ap answer.Totals (lines-of-ones m)
 
 -- the gauge counts exactly the rows of all sessions
 pub total-is : (p : Planned) (n : ℕ) (zeroth first second third : List Entry) → p.sessions ≤ 4 → p.gauge ≡ sum_of_rows

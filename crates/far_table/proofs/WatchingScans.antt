@@ -16,9 +16,8 @@ use Rattle.far_rows.specs.declared.column_index.ColumnIndex.{ColumnIndex}
 use Rattle.far_rows.specs.ColumnIndexes.{kind_of}
 use Rattle.far_rows.specs.Rows.{Rows, AreRows}
 use Rattle.far_rows.specs.Refusing.{away_at}
-use Rattle.far_aggregates.specs.Aggregates.{flattened}
+use Rattle.far_aggregates.specs.Aggregates.{flattened, after_scan}
 use Rattle.far_aggregates.specs.Lending.{IsServed}
-use Rattle.far_aggregates.specs.Scans.{entry_after_scan}
 use Rattle.far_table.specs.State.{IsChecked, AreChecked}
 use Rattle.far_table.specs.Groups.{has_column}
 use Rattle.far_table.specs.Watching.{needed_from}
@@ -94,13 +93,13 @@ checked-at schema [] a checked = tt
 checked-at schema (other ∷ rest) zero checked = checked.0
 checked-at schema (other ∷ rest) (suc a) checked = checked-at schema rest a checked.1
 
-checked-scanned : (schema : List Kind) (g : ℕ) (found : Option Registered) → IsChecked schema found → IsChecked schema (entry_after_scan g found)
+checked-scanned : (schema : List Kind) (g : ℕ) (found : Option Registered) → IsChecked schema found → IsChecked schema (option_map (after_scan g) found)
 checked-scanned schema g None checked = tt
 checked-scanned schema g (Some r) checked = checked
 
 -- the registrations stay valid, whether a row group is scanned or not
 pub scanned-checked : {A : Type 0} (schema : List Kind) (aggregates after : List (Option Registered)) (a g : ℕ) (r : Result A Refusal)
-    → OnOk r (after ≡ slice_set aggregates a (entry_after_scan g (flattened (slice_get aggregates a)))) → OnErr r (after ≡ aggregates) → AreChecked schema aggregates → AreChecked schema after
+    → OnOk r (after ≡ slice_set aggregates a (option_map (after_scan g) (flattened (slice_get aggregates a)))) → OnErr r (after ≡ aggregates) → AreChecked schema aggregates → AreChecked schema after
 scanned-checked schema aggregates after a g (Ok x) scanned same checked = subst (AreChecked schema) (sym scanned) (checked-put schema aggregates a _ checked (checked-scanned schema g (flattened (slice_get aggregates a)) (checked-at schema aggregates a checked)))
 scanned-checked schema aggregates after a g (Err e) scanned same checked = subst (AreChecked schema) (sym same) checked
 

@@ -1,14 +1,13 @@
 -- The aggregates of a table over objects: which are registered, forgotten, scanned and asked, and why that is refused.
-use Rattle.std.specs.Prelude.{◌≡◌, ℕ, ◌+◌, ◌^◌, ◌==◌, ◌&&◌, not, Bool, nat_lt, List, [], ◌∷◌, length, Option, None, Some, is_none, slice_get, slice_set}
+use Rattle.std.specs.Prelude.{◌≡◌, ℕ, ◌+◌, ◌^◌, ◌==◌, ◌&&◌, not, Bool, nat_lt, List, [], ◌∷◌, length, Option, None, Some, is_none, option_map, replicate, slice_get, slice_set, true}
 use Rattle.std.specs.Option.{option_or}
 use Rattle.far_types.specs.declared.spec.Spec.{Spec}
 use Rattle.far_types.specs.declared.refusal.Refusal.{Refusal}
 use Rattle.far_types.specs.declared.refusal.Refusal.TheVariants as refusal
 use Rattle.far_types.specs.Bounds.{needs, spec_refusal}
 use Rattle.far_types.specs.FirstOf.{first_of}
-use Rattle.far_types.specs.Table.{Table, Registered, groups, all_pending, is_pending}
-use Rattle.far_aggregates.specs.Aggregates.{flattened, free_from}
-use Rattle.far_aggregates.specs.Scans.{entry_after_scan}
+use Rattle.far_types.specs.Table.{Table, Registered, groups, is_pending}
+use Rattle.far_aggregates.specs.Aggregates.{flattened, free_from, after_scan}
 use Rattle.far_rows.specs.declared.column_index.ColumnIndex.{ColumnIndex}
 use Rattle.far_rows.specs.Rows.{Rows}
 use Rattle.far_rows.specs.Refusing.{away_at}
@@ -61,22 +60,20 @@ abbrev pub with_aggregate : ℕ → Option Registered → Table → Table
 with_aggregate a aggregate table = record table
     { aggregates = slice_set table.aggregates a aggregate }
 
--- an aggregate that is registered now
-abbrev pub registered_now : Spec → Table → Registered
-registered_now spec table = record {
-  spec = spec;
-  registration = table.registrations;
-  pending = all_pending table.limits.group table.places;
-}
-
--- the table after an aggregate is registered under this number
+-- the table after an aggregate is registered under this number. All row groups that hold a place are
+-- pending; one that gets its first place later never is
 abbrev pub after_register_at : ℕ → Spec → Table → Table
-after_register_at a spec table = record (with_aggregate a (Some (registered_now spec table)) table)
+after_register_at a spec table = record
+    (with_aggregate a (Some record {
+      spec = spec;
+      registration = table.registrations;
+      pending = replicate (group_count table) true;
+    }) table)
     { registrations = table.registrations + 1 }
 
 -- the table after row group g is scanned into aggregate a: it is no longer pending there
 abbrev pub after_scan_at : ℕ → ℕ → Table → Table
-after_scan_at a g table = with_aggregate a (entry_after_scan g (aggregate_at table a)) table
+after_scan_at a g table = with_aggregate a (option_map (after_scan g) (aggregate_at table a)) table
 
 module _ {K : Type 0} (old new : LiveState K) where
   -- an aggregate is registered under the lowest free number

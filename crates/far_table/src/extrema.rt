@@ -47,7 +47,8 @@ fn observe_at<S: FarRead>(
         observed,
         spec,
         &MixedGroup::new(rows, group, spec, &contents),
-    )
+    )?;
+    Ok(())
 }
 
 /// Returns the extrema of a run of row groups.

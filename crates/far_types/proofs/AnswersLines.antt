@@ -1,7 +1,7 @@
 -- Laws of the lines of an answer.
 use Rattle.std.proofs.Common.{◌≡◌, ℕ, suc, ◌-◌, ◌*◌, ◌^◌, ◌≤◌, Bool, true, false, cond, ◌||◌, ◌&&◌, List, [], ◌∷◌, length, map, refl, sym, ap, ◌∙◌, subst, arith, Option, Some, All}
 use Rattle.std.specs.Prelude.{ℤ, pos, neg_ℤ, ◌≤ℤ◌, is_some, T, FitsSigned}
-use Rattle.std.specs.Int.{w64}
+use Rattle.std.specs.Int.{w64, int_min, int_max}
 use Rattle.std.specs.List.{AllByRecursion, list_any}
 use Rattle.std.specs.List.Sorted.{IsStrictlySortedBy}
 use Rattle.std.specs.Ordering.{is_lt, is_eq, eq_by_cmp, ordering_reverse}
@@ -15,7 +15,7 @@ use Rattle.far_types.specs.declared.key.Key.{Key}
 use Rattle.far_types.specs.Keys.{line_cmp}
 use Rattle.far_types.specs.KeyOrder.{line_total}
 use Rattle.far_types.specs.Pairs.{Pair, PairsFit}
-use Rattle.far_types.specs.Answers.{ByKey, is_under, values_of, grouped, count_sum, int_sum, min_max, least, greatest, totals, total_lines, extrema, extrema_lines}
+use Rattle.far_types.specs.Answers.{ByKey, is_under, values_of, grouped, count_sum, int_sum, min_max, picked, totals, lines_by_key, extrema}
 use Rattle.far_types.proofs.AnswersGrouping.{own_key, if_any, get-grouped, values_of-cons}
 
 both : (a b : Bool) → T (a && b) → T a × T b
@@ -92,22 +92,22 @@ keys-lines (e ∷ es) = ap (λ ks. e.0 ∷ ks) (keys-lines es)
 lines-all : {A B : Type 0} (P : Option Key × (A × B) → Type 0) (Q : Option Key × A × B → Type 0) → ((e : Option Key × (A × B)) → P e → Q (e.0, e.1.0, e.1.1)) → (es : List (Option Key × (A × B))) → AllByRecursion P es → All Q (map (λ (entry : Option Key × (A × B)). (entry.0, entry.1.0, entry.1.1)) es)
 lines-all P Q f es h = All-map Q _ es (to_all _ es (each P _ f es h))
 
-pub total_lines-ascend : (ps : List Pair) → IsStrictlySortedBy line_cmp (map (λ (line : Option Key × ℕ × ℤ). line.0) (total_lines (totals ps)))
+pub total_lines-ascend : (ps : List Pair) → IsStrictlySortedBy line_cmp (map (λ (line : Option Key × ℕ × ℤ). line.0) (lines_by_key (totals ps)))
 total_lines-ascend ps = subst (IsStrictlySortedBy line_cmp) (sym (keys-lines (fin.entries (totals ps)))) (keys-ascend (totals ps))
 
-pub total_lines-occur : (ps : List Pair) (q : Option Key) → list_any (eq_by_cmp line_cmp q) (map (λ (line : Option Key × ℕ × ℤ). line.0) (total_lines (totals ps))) ≡ list_any (is_under q) ps
+pub total_lines-occur : (ps : List Pair) (q : Option Key) → list_any (eq_by_cmp line_cmp q) (map (λ (line : Option Key × ℕ × ℤ). line.0) (lines_by_key (totals ps))) ≡ list_any (is_under q) ps
 total_lines-occur ps q = ap (list_any (eq_by_cmp line_cmp q)) (keys-lines (fin.entries (totals ps))) ∙ keys-occur count_sum ps q
 
-total_lines-all : (ps : List Pair) (Q : Option Key × ℕ × ℤ → Type 0) → ((e : Option Key × (ℕ × ℤ)) → (e.1 ≡ count_sum (values_of e.0 ps)) × (1 ≤ length (values_of e.0 ps)) → Q (e.0, e.1.0, e.1.1)) → All Q (total_lines (totals ps))
+total_lines-all : (ps : List Pair) (Q : Option Key × ℕ × ℤ → Type 0) → ((e : Option Key × (ℕ × ℤ)) → (e.1 ≡ count_sum (values_of e.0 ps)) × (1 ≤ length (values_of e.0 ps)) → Q (e.0, e.1.0, e.1.1)) → All Q (lines_by_key (totals ps))
 total_lines-all ps Q f = lines-all _ Q f (fin.entries (totals ps)) (entries-folded count_sum ps)
 
-pub total_lines-count : (ps : List Pair) → All (λ (line : Option Key × ℕ × ℤ). line.1 ≡ length (values_of line.0 ps)) (total_lines (totals ps))
+pub total_lines-count : (ps : List Pair) → All (λ (line : Option Key × ℕ × ℤ). line.1 ≡ length (values_of line.0 ps)) (lines_by_key (totals ps))
 total_lines-count ps = total_lines-all ps (λ (line : Option Key × ℕ × ℤ). line.1 ≡ length (values_of line.0 ps)) (λ e is. ap (λ t. t.0) is.0)
 
-pub total_lines-sum : (ps : List Pair) → All (λ (line : Option Key × ℕ × ℤ). line.2 ≡ int_sum (values_of line.0 ps)) (total_lines (totals ps))
+pub total_lines-sum : (ps : List Pair) → All (λ (line : Option Key × ℕ × ℤ). line.2 ≡ int_sum (values_of line.0 ps)) (lines_by_key (totals ps))
 total_lines-sum ps = total_lines-all ps (λ (line : Option Key × ℕ × ℤ). line.2 ≡ int_sum (values_of line.0 ps)) (λ e is. ap (λ t. t.1) is.0)
 
-pub total_lines-counted : (ps : List Pair) → All (λ (line : Option Key × ℕ × ℤ). 1 ≤ line.1) (total_lines (totals ps))
+pub total_lines-counted : (ps : List Pair) → All (λ (line : Option Key × ℕ × ℤ). 1 ≤ line.1) (lines_by_key (totals ps))
 total_lines-counted ps = total_lines-all ps (λ (line : Option Key × ℕ × ℤ). 1 ≤ line.1) (λ e is. let P : ℕ → Type 0 = λ n. 1 ≤ n in subst P (sym (ap (λ t. t.0) is.0)) is.1)
 
 abbrev ValuesFit : List ℤ → Type 0
@@ -135,21 +135,21 @@ int_sum-high (v ∷ vs) h = let rest = int_sum-high vs h.1 in let fits = h.0 in 
 within : (n : ℕ) (s : ℤ) → n ≤ 2 ^ 26 → neg_ℤ (pos (n * 2 ^ 63)) ≤ℤ s → s ≤ℤ pos (n * (2 ^ 63 - 1)) → (neg_ℤ (pos (2 ^ 89)) ≤ℤ s) × (s ≤ℤ pos (2 ^ 89))
 within n s few low high = (omega (arith, ints), omega (arith, ints))
 
-pub total_lines-bounded : (ps : List Pair) → PairsFit ps → length ps ≤ 2 ^ 26 → All (λ (line : Option Key × ℕ × ℤ). (neg_ℤ (pos (2 ^ 89)) ≤ℤ line.2) × (line.2 ≤ℤ pos (2 ^ 89))) (total_lines (totals ps))
+pub total_lines-bounded : (ps : List Pair) → PairsFit ps → length ps ≤ 2 ^ 26 → All (λ (line : Option Key × ℕ × ℤ). (neg_ℤ (pos (2 ^ 89)) ≤ℤ line.2) × (line.2 ≤ℤ pos (2 ^ 89))) (lines_by_key (totals ps))
 total_lines-bounded ps fit few = total_lines-all ps (λ (line : Option Key × ℕ × ℤ). (neg_ℤ (pos (2 ^ 89)) ≤ℤ line.2) × (line.2 ≤ℤ pos (2 ^ 89))) (λ e is.
     let vs = values_of e.0 ps in
     let fits = values_of-fit e.0 ps fit in
     let shorter = length-values_of e.0 ps in
     subst (λ (s : ℤ). (neg_ℤ (pos (2 ^ 89)) ≤ℤ s) × (s ≤ℤ pos (2 ^ 89))) (sym (ap (λ t. t.1) is.0)) (within (length vs) (int_sum vs) (omega arith) (int_sum-low vs fits) (int_sum-high vs fits)))
 
-pub extrema_lines-ascend : (ps : List Pair) → IsStrictlySortedBy line_cmp (map (λ (line : Option Key × ℤ × ℤ). line.0) (extrema_lines (extrema ps)))
+pub extrema_lines-ascend : (ps : List Pair) → IsStrictlySortedBy line_cmp (map (λ (line : Option Key × ℤ × ℤ). line.0) (lines_by_key (extrema ps)))
 extrema_lines-ascend ps = subst (IsStrictlySortedBy line_cmp) (sym (keys-lines (fin.entries (extrema ps)))) (keys-ascend (extrema ps))
 
-pub extrema_lines-occur : (ps : List Pair) (q : Option Key) → list_any (eq_by_cmp line_cmp q) (map (λ (line : Option Key × ℤ × ℤ). line.0) (extrema_lines (extrema ps))) ≡ list_any (is_under q) ps
+pub extrema_lines-occur : (ps : List Pair) (q : Option Key) → list_any (eq_by_cmp line_cmp q) (map (λ (line : Option Key × ℤ × ℤ). line.0) (lines_by_key (extrema ps))) ≡ list_any (is_under q) ps
 extrema_lines-occur ps q = ap (list_any (eq_by_cmp line_cmp q)) (keys-lines (fin.entries (extrema ps))) ∙ keys-occur min_max ps q
 
-pub extrema_lines-least : (ps : List Pair) → All (λ (line : Option Key × ℤ × ℤ). line.1 ≡ least (values_of line.0 ps)) (extrema_lines (extrema ps))
-extrema_lines-least ps = lines-all _ (λ (line : Option Key × ℤ × ℤ). line.1 ≡ least (values_of line.0 ps)) (λ e is. ap (λ t. t.0) is.0) (fin.entries (extrema ps)) (entries-folded min_max ps)
+pub extrema_lines-least : (ps : List Pair) → All (λ (line : Option Key × ℤ × ℤ). line.1 ≡ picked int_min (values_of line.0 ps)) (lines_by_key (extrema ps))
+extrema_lines-least ps = lines-all _ (λ (line : Option Key × ℤ × ℤ). line.1 ≡ picked int_min (values_of line.0 ps)) (λ e is. ap (λ t. t.0) is.0) (fin.entries (extrema ps)) (entries-folded min_max ps)
 
-pub extrema_lines-greatest : (ps : List Pair) → All (λ (line : Option Key × ℤ × ℤ). line.2 ≡ greatest (values_of line.0 ps)) (extrema_lines (extrema ps))
-extrema_lines-greatest ps = lines-all _ (λ (line : Option Key × ℤ × ℤ). line.2 ≡ greatest (values_of line.0 ps)) (λ e is. ap (λ t. t.1) is.0) (fin.entries (extrema ps)) (entries-folded min_max ps)
+pub extrema_lines-greatest : (ps : List Pair) → All (λ (line : Option Key × ℤ × ℤ). line.2 ≡ picked int_max (values_of line.0 ps)) (lines_by_key (extrema ps))
+extrema_lines-greatest ps = lines-all _ (λ (line : Option Key × ℤ × ℤ). line.2 ≡ picked int_max (values_of line.0 ps)) (λ e is. ap (λ t. t.1) is.0) (fin.entries (extrema ps)) (entries-folded min_max ps)

@@ -5,8 +5,12 @@ use Rattle.far_types.specs.declared.cell.Cell.{Cell}
 use Rattle.far_types.specs.declared.spec.Spec.{Spec}
 use Rattle.far_types.specs.Cells.{cells_of}
 use Rattle.far_types.specs.Filters.{keeps}
-use Rattle.far_types.specs.Pairs.{pair_in, pair_of, pairs_of, kept}
+use Rattle.far_types.specs.Pairs.{pair_in, pair_of, pairs_of}
 use Rattle.far_types.specs.Table.{Place, rows_of, place_pair}
+
+-- the rows that a filter keeps, in order
+abbrev pub kept : Spec → List (List Cell) → List (List Cell)
+kept spec rows = filter (λ row. keeps spec.filter (cells_of row)) rows
 
 pairs_of-cons : (spec : Spec) (row : List Cell) (rows : List (List Cell)) → pairs_of spec (row ∷ rows) ≡ cons_option (pair_of spec (cells_of row)) (pairs_of spec rows)
 pairs_of-cons spec row rows =

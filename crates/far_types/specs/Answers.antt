@@ -32,14 +32,6 @@ picked pick [] = pos 0
 picked pick (value ∷ []) = value
 picked pick (value ∷ next ∷ values) = pick value (picked pick (next ∷ values))
 
--- the least of one or more values
-abbrev pub least : List ℤ → ℤ
-least values = picked int_min values
-
--- the greatest of one or more values
-abbrev pub greatest : List ℤ → ℤ
-greatest values = picked int_max values
-
 -- values by key, in ascending order of keys: only keys that occur, each once
 abbrev pub ByKey : Type 0 → Type 0
 ByKey V = fin.FinMap line_cmp V
@@ -55,7 +47,7 @@ count_sum values = (length values, int_sum values)
 
 -- the least and the greatest value
 abbrev pub min_max : List ℤ → ℤ × ℤ
-min_max values = (least values, greatest values)
+min_max values = (picked int_min values, picked int_max values)
 
 -- the count and the sum of the values, by key
 abbrev pub Totals : Type 0
@@ -73,35 +65,22 @@ Extrema = ByKey (ℤ × ℤ)
 abbrev pub extrema : List Pair → Extrema
 extrema pairs = grouped min_max pairs
 
--- the lines of totals: each has a key, a count and a sum
-abbrev pub TotalLines : Type 0
-TotalLines = List (Option Key × ℕ × ℤ)
-
--- the lines of totals, in the order of their keys
-abbrev pub total_lines : Totals → TotalLines
-total_lines totals = map (λ (entry : Option Key × (ℕ × ℤ)). (entry.0, entry.1.0, entry.1.1))
-    (fin.entries totals)
-
--- the lines of extrema: each has a key, a least and a greatest value
-abbrev pub ExtremaLines : Type 0
-ExtremaLines = List (Option Key × ℤ × ℤ)
-
--- the lines of extrema, in the order of their keys
-abbrev pub extrema_lines : Extrema → ExtremaLines
-extrema_lines extrema = map
-    (λ (entry : Option Key × (ℤ × ℤ)). (entry.0, entry.1.0, entry.1.1))
-    (fin.entries extrema)
+-- the lines of an answer, in the order of their keys: a key and the two numbers computed under it
+abbrev pub lines_by_key : {V W : Type 0} → ByKey (V × W) → List (Option Key × V × W)
+lines_by_key {V} {W} by_key =
+    map (λ (entry : Option Key × (V × W)). (entry.0, entry.1.0, entry.1.1)) (fin.entries by_key)
 
 -- the lines of totals, or the line of zeros if there are none and the aggregate has no key column
-abbrev pub or_zero : Option ℕ → TotalLines → TotalLines
+abbrev pub or_zero : Option ℕ → List (Option Key × ℕ × ℤ) → List (Option Key × ℕ × ℤ)
 or_zero None [] = (None, 0, pos 0) ∷ []
 or_zero None (line ∷ lines) = line ∷ lines
 or_zero (Some column) lines = lines
 
 -- the answer over pairs, for an aggregate with this fold and this key column
 abbrev pub answer_of : Fold → Option ℕ → List Pair → Answer
-answer_of fold.Totals key pairs = answer.Totals (or_zero key (total_lines (totals pairs)))
-answer_of fold.Extrema key pairs = answer.Extrema (extrema_lines (extrema pairs))
+answer_of fold.Totals key pairs =
+    answer.Totals (or_zero key (lines_by_key (grouped count_sum pairs)))
+answer_of fold.Extrema key pairs = answer.Extrema (lines_by_key (grouped min_max pairs))
 
 -- the answer of an aggregate over rows
 abbrev pub answer_over : Spec → List (List Cell) → Answer

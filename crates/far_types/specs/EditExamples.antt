@@ -6,7 +6,7 @@ use Rattle.far_types.specs.declared.cell.Kind.TheVariants as kind
 use Rattle.far_types.specs.declared.edit.Edit.{Edit}
 use Rattle.far_types.specs.declared.edit.Edit.TheVariants as edit
 use Rattle.far_types.specs.declared.refusal.Refusal.TheVariants as refusal
-use Rattle.far_types.specs.Table.{Table, empty_table, rows_of, part, in_group, groups, all_pending, is_pending, left}
+use Rattle.far_types.specs.Table.{Table, empty_table, rows_of, part, in_group, groups, is_pending, left}
 use Rattle.far_types.specs.Edits.{after_edit, edit_refusal}
 use Rattle.far_types.specs.Examples.{row, a, b}
 
@@ -123,7 +123,6 @@ RowGroups =
     (map (groups 4) (0 ∷ 1 ∷ 4 ∷ 5 ∷ []) ≡ 0 ∷ 1 ∷ 1 ∷ 2 ∷ [])
     × (map (λ g. in_group 4 g (codes "abcde")) (0 ∷ 1 ∷ 2 ∷ [])
     ≡ codes "abcd" ∷ codes "e" ∷ [] ∷ [])
-    × (all_pending 2 three.places ≡ true ∷ true ∷ [])
     × (map (is_pending (true ∷ false ∷ true ∷ [])) (0 ∷ 1 ∷ 2 ∷ 3 ∷ [])
     ≡ true ∷ false ∷ true ∷ false ∷ [])
     × (left (true ∷ false ∷ true ∷ []) ≡ 2)

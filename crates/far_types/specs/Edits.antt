@@ -33,10 +33,6 @@ abbrev pub text_object_length : Limits → ℕ → ℕ → List Place → ℕ
 text_object_length limits c g places = texts_length
     (map text_in (in_group limits.group g (column c places)))
 
--- whether the text object would be longer than a text segment
-abbrev pub is_over : Limits → ℕ → ℕ → List Place → Bool
-is_over limits c g places = nat_lt limits.text_size (text_object_length limits c g places)
-
 -- a place with another cell in one column
 abbrev pub with_cell : ℕ → Cell → Place → Place
 with_cell c cell place = record place { cells = slice_set place.cells c cell }
@@ -66,12 +62,13 @@ abbrev pub overfills : List Kind → Limits → Edit → List Place → Bool
 overfills schema limits (edit.Insert row) places =
     list_any
     (λ (at : ℕ × Kind). is_text (Some at.1)
-    && is_over limits at.0 (length places / limits.group)
-    (places_after (edit.Insert row) places))
+    && nat_lt limits.text_size (text_object_length limits at.0 (length places / limits.group)
+    (places_after (edit.Insert row) places)))
     (enumerate_from 0 schema)
 overfills schema limits (edit.Set p c cell) places =
     is_text (slice_get schema c)
-    && is_over limits c (p / limits.group) (places_after (edit.Set p c cell) places)
+    && nat_lt limits.text_size
+    (text_object_length limits c (p / limits.group) (places_after (edit.Set p c cell) places))
 overfills schema limits (edit.Remove p) places = false
 
 -- the refusals of the edit itself, 4 to 10, whichever objects are local. A table whose objects move checks next that its objects are

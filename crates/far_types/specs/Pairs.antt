@@ -39,13 +39,10 @@ pair_in spec cells = paired (key_under spec.key cells) (number_in (cells spec.va
 abbrev pub pair_of : Spec → Cells → Option Pair
 pair_of spec cells = cond (keeps spec.filter cells) (pair_in spec cells) None
 
--- the rows that a filter keeps, in order
-abbrev pub kept : Spec → List (List Cell) → List (List Cell)
-kept spec rows = filter (λ row. keeps spec.filter (cells_of row)) rows
-
--- the pairs of the folded rows, in order
+-- the pairs of the folded rows, in order: those of the rows that the filter keeps
 abbrev pub pairs_of : Spec → List (List Cell) → List Pair
-pairs_of spec rows = filter_map (λ row. pair_in spec (cells_of row)) (kept spec rows)
+pairs_of spec rows = filter_map (λ row. pair_in spec (cells_of row))
+    (filter (λ row. keeps spec.filter (cells_of row)) rows)
 
 -- the values of pairs are numbers of 64 bits
 abbrev pub PairsFit : List Pair → Type 0

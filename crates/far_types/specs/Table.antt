@@ -6,8 +6,8 @@ use Rattle.far_types.specs.declared.limits.Limits.{Limits}
 use Rattle.far_types.specs.declared.spec.Spec.{Spec}
 use Rattle.far_types.specs.declared.answer.Answer.{Answer}
 use Rattle.far_types.specs.Cells.{cell_at, cells_of}
-use Rattle.far_types.specs.Pairs.{Pair, pair_of}
-use Rattle.far_types.specs.Answers.{answer_over}
+use Rattle.far_types.specs.Pairs.{Pair, pair_of, pairs_of}
+use Rattle.far_types.specs.Answers.{answer_of}
 
 -- a row of cells, and whether it is alive: a removal clears the flag and keeps the cells
 pub record Place : Type 0 where
@@ -65,11 +65,6 @@ in_group size g places = take size (drop (g * size) places)
 abbrev pub groups : ℕ → ℕ → ℕ
 groups size places = (places + size - 1) / size
 
--- all row groups that hold a place are pending in an aggregate that is registered now. A row group that gets its first place later is never
--- pending, and one that gets another place keeps its flag
-abbrev pub all_pending : ℕ → List Place → List Bool
-all_pending size places = replicate (groups size (length places)) true
-
 -- whether a row group is still pending
 abbrev pub is_pending : List Bool → ℕ → Bool
 is_pending pending g = slice_index_or pending g false
@@ -80,4 +75,4 @@ left pending = count_by (λ flag. flag) pending
 
 -- the answer of an aggregate over the table's rows as they are now
 abbrev pub answer_now : Spec → Table → Answer
-answer_now spec table = answer_over spec (rows_of table.places)
+answer_now spec table = answer_of spec.fold spec.key (pairs_of spec (rows_of table.places))

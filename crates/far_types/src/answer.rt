@@ -1,9 +1,9 @@
 // The answers of aggregates.
-ghost use Rattle.std.specs.Prelude.{◌≡◌, IfOk, IfErr, OnErr, [], None};
+ghost use Rattle.std.specs.Prelude.{◌≡◌, IfOk, OnErr, [], None};
 ghost use Rattle.std.specs.Slice.Iter.{iter_rest};
 
 use super::key::Key;
-use super::refusal::Refusal;
+use std::alloc::AllocError;
 use std::marker::Model;
 use std::slice;
 
@@ -77,10 +77,9 @@ impl TotalLines {
 
     /// Adds the line of count 0 and sum 0 if there are no lines and the aggregate has no key column. Otherwise returns the lines unchanged.
     ///
-    /// Refused with `NoMemory` (1) alone, and only if that line is added.
-    pub fn or_zero(self, key: Option<u32>) -> Result<TotalLines, Refusal>
+    /// Allocates only that line.
+    pub fn or_zero(self, key: Option<u32>) -> Result<TotalLines, AllocError>
         ensures lines { IfOk result (λ lines. lines ≡ or_zero key self) }
-        ensures memory { IfErr result (λ e. e ≡ Refusal.NoMemory) }
         ensures growth { OnErr result ((key ≡ None) × (self ≡ [])) }
     {
         let mut lines = self.lines;

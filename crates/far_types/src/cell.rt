@@ -3,7 +3,7 @@ ghost use Rattle.std.specs.Prelude.{◌≡◌, IfOk, IfErr};
 
 use super::refusal::Refusal;
 use super::text::Text;
-use std::alloc::Global;
+use std::alloc::{AllocError, Global};
 
 /// The kind of a column: what its cells hold, if they have a value.
 #[derive(Clone, Copy, Debug, PartialEq, Eq)]
@@ -32,10 +32,9 @@ pub enum Cell {
 }
 
 impl Cell {
-    /// Copies these characters into a cell. Refused with `NoMemory` (1) alone.
-    pub fn of_text(alloc: Global, text: &str) -> Result<Cell, Refusal>
+    /// Copies these characters into a cell.
+    pub fn of_text(alloc: Global, text: &str) -> Result<Cell, AllocError>
         ensures text { IfOk result (λ cell. cell ≡ Cell.Text text.now) }
-        ensures memory { IfErr result (λ e. e ≡ Refusal.NoMemory) }
     {
         Ok(Cell::Text(Text::from_str(alloc, text)?))
     }

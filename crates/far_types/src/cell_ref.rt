@@ -1,5 +1,5 @@
 // Cells borrowed in place.
-ghost use Rattle.std.specs.Prelude.{◌≡◌, ◌↔◌, IsTrue, Some, IfOk, IfErr, IfSome, IsSome, OnErr, FitsSigned};
+ghost use Rattle.std.specs.Prelude.{◌≡◌, ◌↔◌, IsTrue, Some, IfOk, IfSome, IsSome, OnErr, FitsSigned};
 ghost use Rattle.std.specs.Int.{w64};
 ghost use Rattle.std.specs.Option.{option_copied};
 ghost use Rattle.far_types.specs.declared.key.Key.TheVariants as keys;
@@ -8,9 +8,8 @@ ghost use Rattle.far_types.specs.Lent.{lent_cell, int_cell, text_cell};
 
 use super::cell::Cell;
 use super::key::Key;
-use super::refusal::Refusal;
 use super::text::Text;
-use std::alloc::Global;
+use std::alloc::{AllocError, Global};
 
 /// A cell that is borrowed in place. `lent_cell` in `specs/Lent.antt` says which cell of the plain table it is.
 #[derive(Clone, Copy, Debug)]
@@ -86,14 +85,13 @@ impl<'a> CellRef<'a> {
 
     /// Returns the cell's value as a key, or `None` if it has no value.
     ///
-    /// Copies a text into the memory of `earlier` if `earlier` is a text key, and otherwise into new memory. Refused with `NoMemory` (1)
-    /// alone, and only if the cell is a text.
+    /// Copies a text into the memory of `earlier` if `earlier` is a text key, and otherwise into new memory. Allocates only
+    /// for a text.
     ///
     /// The branch for a number is inlined into the caller's loop, so only a text costs a call.
     #[inline(always)]
-    pub fn key(self, alloc: Global, earlier: Option<Key>) -> Result<Option<Key>, Refusal>
+    pub fn key(self, alloc: Global, earlier: Option<Key>) -> Result<Option<Key>, AllocError>
         ensures key { IfOk result (λ key. key ≡ key_in (Some (lent_cell self.entry))) }
-        ensures memory { IfErr result (λ e. e ≡ Refusal.NoMemory) }
         ensures text { OnErr result (IsSome (text_in (lent_cell self.entry))) }
     {
         match self {
@@ -106,9 +104,8 @@ impl<'a> CellRef<'a> {
 
 /// Returns the key of a text. Reuses the memory of an earlier text key.
 #[inline(never)]
-fn text_key(alloc: Global, earlier: Option<Key>, text: &str) -> Result<Key, Refusal>
+fn text_key(alloc: Global, earlier: Option<Key>, text: &str) -> Result<Key, AllocError>
     ensures key { IfOk result (λ key. key ≡ keys.Text text.now) }
-    ensures memory { IfErr result (λ e. e ≡ Refusal.NoMemory) }
 {
     match earlier {
         Some(Key::Text(earlier)) => {

@@ -1,13 +1,12 @@
 // Tests of rows.
-ghost use Rattle.std.specs.Prelude.{◌≡◌, ◌↔◌, IsTrue, IfOk, IfErr, length, take};
+ghost use Rattle.std.specs.Prelude.{◌≡◌, ◌↔◌, IsTrue, IfOk, length, take};
 ghost use Rattle.std.specs.Slice.Iter.{iter_rest};
 
 use super::cell_ref::CellRef;
 use super::lend_cells::LendCells;
-use super::refusal::Refusal;
 use super::row::Row;
 use super::text::Text;
-use std::alloc::Global;
+use std::alloc::{AllocError, Global};
 use std::marker::Model;
 use std::slice;
 
@@ -58,19 +57,17 @@ impl Test {
     ghost use Rattle.far_types.specs.Filters.{passes};
     ghost use Rattle.far_types.specs.Bounds.{column_of, has_long_constant};
 
-    /// Makes the test that the text in a column equals this one. Refused with `NoMemory` (1) alone.
-    pub fn text_is(alloc: Global, column: u32, text: &str) -> Result<Test, Refusal>
+    /// Makes the test that the text in a column equals this one.
+    pub fn text_is(alloc: Global, column: u32, text: &str) -> Result<Test, AllocError>
         ensures test { IfOk result (λ test. test ≡ Test.TextIs column text.now) }
-        ensures memory { IfErr result (λ e. e ≡ Refusal.NoMemory) }
     {
         let text = Text::from_str(alloc, text)?;
         Ok(Test::TextIs { column, text })
     }
 
-    /// Makes the test that the text in a column begins with this one. Refused with `NoMemory` (1) alone.
-    pub fn text_begins(alloc: Global, column: u32, text: &str) -> Result<Test, Refusal>
+    /// Makes the test that the text in a column begins with this one.
+    pub fn text_begins(alloc: Global, column: u32, text: &str) -> Result<Test, AllocError>
         ensures test { IfOk result (λ test. test ≡ Test.TextBegins column text.now) }
-        ensures memory { IfErr result (λ e. e ≡ Refusal.NoMemory) }
     {
         let text = Text::from_str(alloc, text)?;
         Ok(Test::TextBegins { column, text })
@@ -150,10 +147,9 @@ impl Test {
         }
     }
 
-    /// Returns an equal test. Refused with `NoMemory` (1) alone.
-    pub fn clone(&self) -> Result<Test, Refusal>
+    /// Returns an equal test.
+    pub fn clone(&self) -> Result<Test, AllocError>
         ensures equal { IfOk result (λ test. test ≡ self.now) }
-        ensures memory { IfErr result (λ e. e ≡ Refusal.NoMemory) }
     {
         match self {
             Test::Int { column, op, value } => Ok(Test::Int {
@@ -268,10 +264,9 @@ impl Filter {
         true
     }
 
-    /// Returns an equal filter. Refused with `NoMemory` (1) alone.
-    pub fn clone(&self) -> Result<Filter, Refusal>
+    /// Returns an equal filter.
+    pub fn clone(&self) -> Result<Filter, AllocError>
         ensures equal { IfOk result (λ filter. filter ≡ self.now) }
-        ensures memory { IfErr result (λ e. e ≡ Refusal.NoMemory) }
     {
         let mut tests = Vec::with_capacity(*self.tests.allocator(), self.tests.len())?;
         for test in &self.tests {

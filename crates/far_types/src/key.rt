@@ -1,9 +1,8 @@
 // The keys of an aggregate's lines, and their order.
-ghost use Rattle.std.specs.Prelude.{◌≡◌, IfOk, IfErr};
+ghost use Rattle.std.specs.Prelude.{◌≡◌, IfOk};
 
-use super::refusal::Refusal;
 use super::text::Text;
-use std::alloc::Global;
+use std::alloc::{AllocError, Global};
 use std::cmp::Ordering;
 
 /// A key of an aggregate: the value of a row's cell in the key column.
@@ -24,18 +23,16 @@ pub enum Key {
 }
 
 impl Key {
-    /// Copies these characters into a key. Refused with `NoMemory` (1) alone.
-    pub fn of_text(alloc: Global, text: &str) -> Result<Key, Refusal>
+    /// Copies these characters into a key.
+    pub fn of_text(alloc: Global, text: &str) -> Result<Key, AllocError>
         ensures text { IfOk result (λ key. key ≡ Key.Text text.now) }
-        ensures memory { IfErr result (λ e. e ≡ Refusal.NoMemory) }
     {
         Ok(Key::Text(Text::from_str(alloc, text)?))
     }
 
-    /// Returns an equal key. Refused with `NoMemory` (1) alone.
-    pub fn clone(&self) -> Result<Key, Refusal>
+    /// Returns an equal key.
+    pub fn clone(&self) -> Result<Key, AllocError>
         ensures equal { IfOk result (λ key. key ≡ self.now) }
-        ensures memory { IfErr result (λ e. e ≡ Refusal.NoMemory) }
     {
         match self {
             Key::Int(number) => Ok(Key::Int(*number)),
@@ -44,10 +41,9 @@ impl Key {
     }
 }
 
-/// Clones a key, if there is one. Refused with `NoMemory` (1) alone.
-pub fn clone_key(key: &Option<Key>) -> Result<Option<Key>, Refusal>
+/// Clones a key, if there is one.
+pub fn clone_key(key: &Option<Key>) -> Result<Option<Key>, AllocError>
     ensures equal { IfOk result (λ clone. clone ≡ key.now) }
-    ensures memory { IfErr result (λ e. e ≡ Refusal.NoMemory) }
 {
     match key {
         None => Ok(None),

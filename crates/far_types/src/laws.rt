@@ -1,5 +1,6 @@
 // Laws of the answers, which follow from the definitions in `specs` alone.
 ghost use Rattle.std.specs.Prelude.{◌≡◌, ◌≤◌, ◌^◌, ℕ, ℤ, pos, neg_ℤ, ◌≤ℤ◌, List, ◌∷◌, ◌++◌, length, map, All, Option};
+ghost use Rattle.std.specs.Int.{int_min, int_max};
 ghost use Rattle.std.specs.List.{list_any, filter_map};
 ghost use Rattle.std.specs.List.Sorted.{IsStrictlySortedBy};
 ghost use Rattle.std.specs.Ordering.{eq_by_cmp};
@@ -8,7 +9,7 @@ ghost use Rattle.far_types.specs.Keys.{line_cmp};
 ghost use Rattle.far_types.specs.declared.spec.Spec.{Spec};
 ghost use Rattle.far_types.specs.Pairs.{Pair, PairsFit, pairs_of};
 ghost use Rattle.far_types.specs.Table.{Place, rows_of, place_pair};
-ghost use Rattle.far_types.specs.Answers.{totals, extrema, total_lines, extrema_lines, values_of, is_under, int_sum, least, greatest};
+ghost use Rattle.far_types.specs.Answers.{totals, extrema, lines_by_key, values_of, is_under, int_sum, picked};
 ghost use Rattle.far_types.specs.Effects.{with_pair, without_pair, with_observed, joined_totals, joined_extrema};
 ghost use Rattle.far_types.specs.Examples.{OverNoRows, TotalsByKey, ExactSum, LeastAndGreatest, Filtered, WithMissing};
 ghost use Rattle.far_types.specs.RefusalExamples.{UsedUp, FirstRefusal, OverLength};
@@ -58,20 +59,20 @@ pub fn extrema_follow_the_pairs()
 /// - The sum of at most 2^26 values is at most 2^89 in absolute value.
 pub fn total_lines_are_by_key()
     ensures ascending { (pairs : List Pair)
-        → IsStrictlySortedBy line_cmp (map (λ line. line.0) (total_lines (totals pairs))) }
+        → IsStrictlySortedBy line_cmp (map (λ line. line.0) (lines_by_key (totals pairs))) }
     ensures occurring { (pairs : List Pair) → (key : Option Key)
-        → list_any (eq_by_cmp line_cmp key) (map (λ line. line.0) (total_lines (totals pairs)))
+        → list_any (eq_by_cmp line_cmp key) (map (λ line. line.0) (lines_by_key (totals pairs)))
         ≡ list_any (is_under key) pairs }
     ensures counts { (pairs : List Pair)
-        → All (λ line. line.1 ≡ length (values_of line.0 pairs)) (total_lines (totals pairs)) }
+        → All (λ line. line.1 ≡ length (values_of line.0 pairs)) (lines_by_key (totals pairs)) }
     ensures sums { (pairs : List Pair)
         → All (λ line. line.2 ≡ int_sum (values_of line.0 pairs))
-        (total_lines (totals pairs)) }
+        (lines_by_key (totals pairs)) }
     ensures counted { (pairs : List Pair)
-        → All (λ line. 1 ≤ line.1) (total_lines (totals pairs)) }
+        → All (λ line. 1 ≤ line.1) (lines_by_key (totals pairs)) }
     ensures bounded { (pairs : List Pair) → PairsFit pairs → length pairs ≤ 2 ^ 26
         → All (λ line. (neg_ℤ (pos (2 ^ 89)) ≤ℤ line.2) × (line.2 ≤ℤ pos (2 ^ 89)))
-        (total_lines (totals pairs)) }
+        (lines_by_key (totals pairs)) }
 {}
 
 /// Shows which lines extrema have:
@@ -79,17 +80,17 @@ pub fn total_lines_are_by_key()
 /// - A key has a line exactly if a folded row has that key. The line has the least and the greatest value of these rows.
 pub fn extrema_lines_are_by_key()
     ensures ascending { (pairs : List Pair)
-        → IsStrictlySortedBy line_cmp (map (λ line. line.0) (extrema_lines (extrema pairs))) }
+        → IsStrictlySortedBy line_cmp (map (λ line. line.0) (lines_by_key (extrema pairs))) }
     ensures occurring { (pairs : List Pair) → (key : Option Key)
         → list_any (eq_by_cmp line_cmp key)
-        (map (λ line. line.0) (extrema_lines (extrema pairs)))
+        (map (λ line. line.0) (lines_by_key (extrema pairs)))
         ≡ list_any (is_under key) pairs }
     ensures minima { (pairs : List Pair)
-        → All (λ line. line.1 ≡ least (values_of line.0 pairs))
-        (extrema_lines (extrema pairs)) }
+        → All (λ line. line.1 ≡ picked int_min (values_of line.0 pairs))
+        (lines_by_key (extrema pairs)) }
     ensures maxima { (pairs : List Pair)
-        → All (λ line. line.2 ≡ greatest (values_of line.0 pairs))
-        (extrema_lines (extrema pairs)) }
+        → All (λ line. line.2 ≡ picked int_max (values_of line.0 pairs))
+        (lines_by_key (extrema pairs)) }
 {}
 
 /// Computes the definitions for small tables. A wrong definition fails here.

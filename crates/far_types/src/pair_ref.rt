@@ -1,12 +1,11 @@
 // The pair that a row contributes to an aggregate, borrowed in place.
-ghost use Rattle.std.specs.Prelude.{◌≡◌, IfOk, IfErr, IsSome, OnErr};
+ghost use Rattle.std.specs.Prelude.{◌≡◌, IfOk, IsSome, OnErr};
 ghost use Rattle.far_types.specs.Lent.{key_by, lent_pair};
 ghost use Rattle.far_types.specs.Pairs.{text_under};
 
 use super::cell_ref::CellRef;
 use super::key::Key;
-use super::refusal::Refusal;
-use std::alloc::Global;
+use std::alloc::{AllocError, Global};
 
 /// The pair that a row contributes to an aggregate, or nothing if the row is not kept or not folded. A text key is borrowed in place.
 /// `lent_pair` in `specs/Lent.antt` says which pair of the plain table it is.
@@ -34,15 +33,14 @@ pub fn number_key(number: Option<i64>) -> Option<Key>
 impl<'a> PairRef<'a> {
     /// Returns the pair with an owned key, or `None` if there is no pair.
     ///
-    /// Copies a text into the memory of `earlier` if `earlier` is a text key, and otherwise into new memory. Refused with `NoMemory` (1)
-    /// alone, and only if the key is a text.
+    /// Copies a text into the memory of `earlier` if `earlier` is a text key, and otherwise into new memory. Allocates only
+    /// for a text.
     pub fn pair(
         self,
         alloc: Global,
         earlier: Option<Key>,
-    ) -> Result<Option<(Option<Key>, i64)>, Refusal>
+    ) -> Result<Option<(Option<Key>, i64)>, AllocError>
         ensures pair { IfOk result (λ pair. pair ≡ lent_pair self.entry) }
-        ensures memory { IfErr result (λ e. e ≡ Refusal.NoMemory) }
         ensures text { OnErr result (IsSome (text_under (lent_pair self.entry))) }
     {
         match self {

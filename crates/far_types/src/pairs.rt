@@ -1,5 +1,5 @@
 // The pair that a row contributes to an aggregate.
-ghost use Rattle.std.specs.Prelude.{◌≡◌, IfOk, IfErr, IfSome, IsSome, OnErr, FitsSigned};
+ghost use Rattle.std.specs.Prelude.{◌≡◌, IfOk, IfSome, IsSome, OnErr, FitsSigned};
 ghost use Rattle.std.specs.Int.{w64};
 ghost use Rattle.far_types.specs.Cells.{number_in};
 ghost use Rattle.far_types.specs.Lent.{lent_pair};
@@ -9,9 +9,8 @@ use super::cell_ref::CellRef;
 use super::key::Key;
 use super::lend_cells::LendCells;
 use super::pair_ref::PairRef;
-use super::refusal::Refusal;
 use super::spec::Spec;
-use std::alloc::Global;
+use std::alloc::{AllocError, Global};
 
 impl Spec {
     /// Returns the row's number in the value column, or `None` if there is none. Allocates nothing.
@@ -56,17 +55,15 @@ impl Spec {
         }
     }
 
-    /// Returns the pair of a row, its key and its value, if the row is kept and folded. Clones only the key.
-    ///
-    /// Refused with `NoMemory` (1) alone, and only if the key is a text.
+    /// Returns the pair of a row, its key and its value, if the row is kept and folded. Clones only the key, and allocates only if that is a
+    /// text.
     pub fn pair_of<R: LendCells>(
         &self,
         alloc: Global,
         row: &R,
-    ) -> Result<Option<(Option<Key>, i64)>, Refusal>
+    ) -> Result<Option<(Option<Key>, i64)>, AllocError>
         ensures pair { IfOk result (λ pair. pair ≡ pair_of self.now (R.cells row.now)) }
         ensures fits { IfOk result (λ pair. IfSome pair (λ p. FitsSigned w64 p.1)) }
-        ensures memory { IfErr result (λ e. e ≡ Refusal.NoMemory) }
         ensures text { OnErr result (IsSome (text_under (pair_of self.now (R.cells row.now)))) }
     {
         let lent = self.lend_pair(row);

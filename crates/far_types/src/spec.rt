@@ -7,7 +7,7 @@ use super::cell::Kind;
 use super::filter::{Filter, Test};
 use super::refusal::Refusal;
 use super::schema::Schema;
-use std::alloc::Global;
+use std::alloc::{AllocError, Global};
 
 /// The aggregate function: what an aggregate computes from the values under each key.
 #[derive(Clone, Copy, Debug, PartialEq, Eq)]
@@ -23,7 +23,7 @@ pub enum Fold {
 /// The totals of column 1 by column 0, over the rows whose text in column 0 begins with an r:
 ///
 /// ```
-/// fn sold_by_bread(alloc: Global) -> Result<Spec, Refusal> {
+/// fn sold_by_bread(alloc: Global) -> Result<Spec, AllocError> {
 ///     let begins_with_r = Test::text_begins(alloc, 0, "r")?;
 ///     Spec::totals(alloc, 1).by(0).only(begins_with_r)
 /// }
@@ -134,11 +134,10 @@ impl Spec {
         }
     }
 
-    /// Returns the same aggregate over only those rows that also pass this test. Refused with `NoMemory` (1) alone.
-    pub fn only(self, test: Test) -> Result<Spec, Refusal>
+    /// Returns the same aggregate over only those rows that also pass this test.
+    pub fn only(self, test: Test) -> Result<Spec, AllocError>
         ensures test { IfOk result
             (λ spec. spec ≡ record self { filter = self.filter ++ test ∷ [] }) }
-        ensures memory { IfErr result (λ e. e ≡ Refusal.NoMemory) }
     {
         let Spec {
             fold,

@@ -1,5 +1,5 @@
 // A text, which contracts see as the list of its bytes. It also keeps its first bytes as a number, so that most comparisons take one step.
-ghost use Rattle.std.specs.Prelude.{◌≡◌, ◌↔◌, IsTrue, [], ◌==◌, IfOk, IfErr, length};
+ghost use Rattle.std.specs.Prelude.{◌≡◌, ◌↔◌, IsTrue, [], ◌==◌, IfOk, length};
 ghost use Rattle.std.specs.String.{string_bytes};
 ghost use Rattle.std.proofs.Common.{rules};
 ghost use Rattle.std.specs.Cmp.{partial_order_from_own_ties};
@@ -8,8 +8,7 @@ ghost use Rattle.std.specs.Ordering.{nat_cmp, as_partial_cmp};
 ghost use Rattle.std.specs.Cmp.Lexicographic.{slice_cmp, pointwise};
 
 use super::prefix::prefix_of;
-use super::refusal::Refusal;
-use std::alloc::Global;
+use std::alloc::{AllocError, Global};
 use std::cmp::Ordering;
 use std::fmt;
 use std::marker::Model;
@@ -44,10 +43,9 @@ impl Text {
         Text { string, prefix }
     }
 
-    /// Copies these characters into a text. Refused with `NoMemory` (1) alone.
-    pub fn from_str(alloc: Global, text: &str) -> Result<Text, Refusal>
+    /// Copies these characters into a text.
+    pub fn from_str(alloc: Global, text: &str) -> Result<Text, AllocError>
         ensures equal { IfOk result (λ made. made ≡ text.now) }
-        ensures memory { IfErr result (λ e. e ≡ Refusal.NoMemory) }
     {
         Ok(Text::new(String::from_str(alloc, text)?))
     }
@@ -87,10 +85,9 @@ impl Text {
         self.string.is_empty()
     }
 
-    /// Returns an equal text. Refused with `NoMemory` (1) alone.
-    pub fn clone(&self) -> Result<Text, Refusal>
+    /// Returns an equal text.
+    pub fn clone(&self) -> Result<Text, AllocError>
         ensures equal { IfOk result (λ text. text ≡ self.now) }
-        ensures memory { IfErr result (λ e. e ≡ Refusal.NoMemory) }
     {
         Ok(Text {
             string: self.string.clone()?,

@@ -1,5 +1,5 @@
 // Edits of the rows: an edit applies its deltas first, and retracts the pairs of the old row once the rows are changed.
-ghost use Rattle.std.specs.Prelude.{◌≡◌, ◌<◌, ◌≤◌, ◌/◌, ◌^◌, List, false, length, IsSome, IfOk, IfErr, OnOk, OnErr};
+ghost use Rattle.std.specs.Prelude.{◌≡◌, ◌<◌, ◌≤◌, ◌/◌, ◌^◌, List, false, length, IsSome, IfOk, OnOk, OnErr};
 ghost use Rattle.far_types.specs.declared.cell.Cell.{Cell};
 ghost use Rattle.far_types.specs.declared.edit.Edit.TheVariants as edit;
 ghost use Rattle.far_types.specs.Cells.{cells_of};
@@ -22,14 +22,12 @@ use crate::pairs::row_pairs;
 use crate::pending::Pending;
 use crate::reserve::reserve_all;
 use crate::retract::{needs_rows, retract_all, retract_totals};
-use far_types::{CellRef, LendCells, Refusal};
-use std::alloc::Global;
+use far_types::{CellRef, LendCells};
+use std::alloc::{AllocError, Global};
 
 impl Aggregates {
     /// Applies the deltas of a row that the table is about to append at a place, the first past the end. Once the row is stored,
-    /// `end` ends the edit. If the table refuses the row, `undo` undoes the deltas.
-    ///
-    /// Refused only with `NoMemory` (1). A refusal changes no answer.
+    /// `end` ends the edit. If the table refuses the row, `undo` undoes the deltas. If memory runs out, no answer is changed.
     ///
     /// The method is inlined, like `end`, so that an insert moves no lists through memory.
     #[inline(always)]
@@ -39,7 +37,7 @@ impl Aggregates {
         row: &R,
         size: u32,
         place: usize,
-    ) -> Result<Pending, Refusal>
+    ) -> Result<Pending, AllocError>
         requires size { 0 < size }
         requires few { place ≤ 2 ^ 24 }
         requires kept { (places : List Place) × AreUpToDate size places self.old }
@@ -51,7 +49,6 @@ impl Aggregates {
         ensures undo { IfOk result (UndoesAll self.old self.new) }
         ensures unchanged { OnErr result (KeepsAsBefore self.old self.new) }
         ensures registered { registered_of self.new ≡ registered_of self.old }
-        ensures memory { IfErr result (λ e. e ≡ Refusal.NoMemory) }
     {
         // A table without aggregates need not look at its rows.
         if self.registry.is_empty() {
@@ -80,9 +77,7 @@ impl Aggregates {
 
     /// Applies the deltas of a place's row as it will be with another cell in one of its columns. Also notes the pairs of the row
     /// as it is. Once the cell is stored, `retract` retracts those pairs. If the table refuses the cell, `undo` undoes the
-    /// deltas.
-    ///
-    /// Refused only with `NoMemory` (1). A refusal changes no answer.
+    /// deltas. If memory runs out, no answer is changed.
     #[inline(always)]
     pub fn change_in<R: LendCells>(
         &mut self,
@@ -92,7 +87,7 @@ impl Aggregates {
         cell: CellRef<'_>,
         size: u32,
         place: usize,
-    ) -> Result<Pending, Refusal>
+    ) -> Result<Pending, AllocError>
         requires size { 0 < size }
         requires few { place ≤ 2 ^ 24 }
         requires column { IsSome (R.cells row.now column) }
@@ -103,7 +98,6 @@ impl Aggregates {
         ensures undo { IfOk result (UndoesAll self.old self.new) }
         ensures unchanged { OnErr result (KeepsAsBefore self.old self.new) }
         ensures registered { registered_of self.new ≡ registered_of self.old }
-        ensures memory { IfErr result (λ e. e ≡ Refusal.NoMemory) }
     {
         let group = self.group_of(place, size);
         let pairs = self.spare_lists.take_pairs(alloc);
@@ -123,7 +117,7 @@ impl Aggregates {
     }
 
     /// Notes the pairs of a place's row that the table is about to remove. Once the place is dead, `retract` retracts the pairs.
-    /// If the place stays alive, there is nothing to undo. Refused only with `NoMemory` (1). The call changes no answer.
+    /// If the place stays alive, there is nothing to undo. The call changes no answer.
     #[inline(always)]
     pub fn leave<R: LendCells>(
         &mut self,
@@ -131,7 +125,7 @@ impl Aggregates {
         row: &R,
         size: u32,
         place: usize,
-    ) -> Result<Pending, Refusal>
+    ) -> Result<Pending, AllocError>
         requires size { 0 < size }
         requires few { place ≤ 2 ^ 24 }
         ensures retracts { IfOk result
@@ -141,7 +135,6 @@ impl Aggregates {
             pending) }
         ensures unchanged { KeepsAsBefore self.old self.new }
         ensures registered { registered_of self.new ≡ registered_of self.old }
-        ensures memory { IfErr result (λ e. e ≡ Refusal.NoMemory) }
     {
         let group = self.group_of(place, size);
         let list = self.spare_lists.take_pairs(alloc);

@@ -1,5 +1,5 @@
 // Edits that replace a number in a column, and change no key of an aggregate.
-ghost use Rattle.std.specs.Prelude.{◌≡◌, ◌<◌, ◌≤◌, ◌^◌, ℕ, List, Some, false, true, IfOk, IfErr};
+ghost use Rattle.std.specs.Prelude.{◌≡◌, ◌<◌, ◌≤◌, ◌^◌, ℕ, List, Some, false, true, IfOk};
 ghost use Rattle.far_types.specs.declared.cell.Cell.{Cell};
 ghost use Rattle.far_types.specs.declared.cell.Cell.TheVariants as cell;
 ghost use Rattle.far_types.specs.declared.edit.Edit.TheVariants as edit;
@@ -14,8 +14,8 @@ use crate::changed::Changed;
 use crate::pairs::value_pairs;
 use crate::pending::Pending;
 use crate::replacing::{keep_keys, one_looks_at, replace_all};
-use far_types::{CellRef, LendCells, Refusal};
-use std::alloc::Global;
+use far_types::{CellRef, LendCells};
+use std::alloc::{AllocError, Global};
 
 impl Aggregates {
     /// Returns whether some aggregate uses a column, for a test, its key or its value. If none does, the table may change cells
@@ -41,8 +41,6 @@ impl Aggregates {
     /// Notes the pairs that a place's row contributes to the aggregates whose values are in a column, where the row has the
     /// number `from`. Once another number is stored there, `replace` replaces these values by it. If the row keeps `from`, `end`
     /// ends the edit: there is nothing to undo.
-    ///
-    /// Refused only with `NoMemory` (1).
     #[inline(always)]
     pub fn note_values<R: LendCells>(
         &mut self,
@@ -52,7 +50,7 @@ impl Aggregates {
         from: i64,
         size: u32,
         place: usize,
-    ) -> Result<Pending, Refusal>
+    ) -> Result<Pending, AllocError>
         requires size { 0 < size }
         requires few { place ≤ 2 ^ 24 }
         requires number { R.cells row.now column ≡ Some (cell.Int from) }
@@ -62,7 +60,6 @@ impl Aggregates {
             → AreUpToDate size places self.old
             → ReplacesAll size place column places self.new pending) }
         ensures same { self.new ≡ self.old }
-        ensures memory { IfErr result (λ e. e ≡ Refusal.NoMemory) }
     {
         let group = self.group_of(place, size);
         let list = self.spare_lists.take_pairs(alloc);

@@ -8,10 +8,10 @@ use std::alloc::Global;
 /// Observes a row, again if the first call runs out of memory.
 fn observe(alloc: Global, group: &mut GroupExtrema, name: Name, value: i64) -> Result<(), Refusal> {
     let key = key_of(alloc, name)?;
-    match group.observe_under(&key, value) {
-        Err(Refusal::NoMemory) => group.observe_under(&key, value),
-        reply => reply,
+    if group.observe_under(&key, value).is_err() {
+        group.observe_under(&key, value)?;
     }
+    Ok(())
 }
 
 /// Observes these rows.

@@ -7,7 +7,7 @@ use crate::cases::{Case, all_are_right, must_be};
 use crate::lines::{Lines, Name, Row, key_of};
 use far_extrema::{GroupExtrema, LiveExtrema, MinMax, RowsLeft};
 use far_types::{Answer, Key, Refusal};
-use std::alloc::Global;
+use std::alloc::{AllocError, Global};
 
 /// Returns the answer, from a second call if the first runs out of memory.
 fn answer(alloc: Global, live: &LiveExtrema) -> Result<Answer, Refusal> {
@@ -28,13 +28,13 @@ fn extrema_are_refused_while_a_row_group_is_pending(rt: HostRuntime) {
 }
 
 /// Reserves for a row group and its keys, again if the first call runs out of memory.
-fn reserve_for(live: &mut LiveExtrema, group: u32, extrema: &GroupExtrema) -> Result<(), Refusal>
+fn reserve_for(live: &mut LiveExtrema, group: u32, extrema: &GroupExtrema) -> Result<(), AllocError>
     ensures left { live.new.left ≡ live.old.left }
     ensures groups { OnOk result (live.new.groups ≡ after_reserve group live.old.groups) }
     ensures keys { OnOk result (IsReservedFor extrema.now live.new) }
 {
     match live.reserve_for(group, extrema) {
-        Err(Refusal::NoMemory) => live.reserve_for(group, extrema),
+        Err(AllocError) => live.reserve_for(group, extrema),
         reply => reply,
     }
 }
@@ -52,7 +52,8 @@ fn make_ready(
     ensures keys { OnOk result (IsReservedFor group.new live.new) }
 {
     observe_all(alloc, group, rows)?;
-    reserve_for(live, number, group)
+    reserve_for(live, number, group)?;
+    Ok(())
 }
 
 /// Merges these rows as the first row group.

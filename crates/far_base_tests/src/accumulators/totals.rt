@@ -9,7 +9,7 @@ use crate::cases::{Case, all_are_right, must_be};
 use crate::lines::{Lines, Name, Row, key_of};
 use far_groups::{CountSum, LiveTotals};
 use far_types::{Answer, Key, Refusal};
-use std::alloc::Global;
+use std::alloc::{AllocError, Global};
 
 /// Adds these rows, at most 300.
 fn add_all(alloc: Global, live: &mut LiveTotals, rows: &[Row]) -> Result<(), Refusal>
@@ -176,11 +176,11 @@ static ONE_ROW: [Row; 1] = [(Name::Nobody, 5)];
 static TWO_LINES: Lines<'static> = Lines::Totals(&[(Name::Nobody, 1, 5), (Name::Word("a"), 1, 3)]);
 
 /// Adds a row, again if the first call runs out of memory.
-fn add_again(live: &mut LiveTotals, key: &Option<Key>) -> Result<(), Refusal>
+fn add_again(live: &mut LiveTotals, key: &Option<Key>) -> Result<(), AllocError>
     requires { count_in (fin.get live.old.totals key.now) < 2 ^ 26 }
 {
     match live.add_under(key, 3) {
-        Err(Refusal::NoMemory) => live.add_under(key, 3),
+        Err(AllocError) => live.add_under(key, 3),
         reply => reply,
     }
 }

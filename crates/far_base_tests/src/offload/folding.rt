@@ -98,7 +98,7 @@ impl Case for Folded {
         let spec = self.spec(alloc)?;
         let form = form_of(alloc, self.rows.words)?;
         let columns = columns(self.rows.numbers, &form);
-        let done = fold(alloc, &spec, &columns, self.rows.alive);
-        has_lines(alloc, self.lines, done)
+        let done = fold(alloc, &spec, &columns, self.rows.alive)?;
+        self.lines.are_of(answer_of(alloc, &done))
     }
 }

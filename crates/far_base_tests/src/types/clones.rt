@@ -46,7 +46,7 @@ impl Cloned for Edit {
 
 impl Cloned for Option<Key> {
     fn cloned(&self) -> Result<Option<Key>, Refusal> {
-        clone_key(self)
+        Ok(clone_key(self)?)
     }
 
     fn is_clone_of(&self, key: &Option<Key>) -> bool {

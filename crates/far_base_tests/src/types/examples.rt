@@ -3,7 +3,7 @@ use crate::cases::{all, must_be};
 use far_types::{
     Answer, Cell, Filter, Key, Kind, Limits, Op, Refusal, Row, Schema, Spec, Test, TotalLines,
 };
-use std::alloc::Global;
+use std::alloc::{AllocError, Global};
 
 /// Returns a schema with a column of texts and one of numbers.
 fn breads(alloc: Global) -> Result<Schema, Refusal> {
@@ -63,7 +63,7 @@ fn many_ryes(alloc: Global) -> Result<Filter, Refusal> {
 }
 
 /// Returns the totals of breads whose name begins with an r, by name.
-fn sold_by_bread(alloc: Global) -> Result<Spec, Refusal> {
+fn sold_by_bread(alloc: Global) -> Result<Spec, AllocError> {
     let begins_with_r = Test::text_begins(alloc, 0, "r")?;
     Spec::totals(alloc, 1).by(0).only(begins_with_r)
 }

@@ -25,7 +25,6 @@ pub fn schema(alloc: Global) -> Result<Schema, Refusal> {
 /// Returns the extrema of column 0 by column 1, over the rows whose text there begins with `a`.
 pub fn spec(alloc: Global) -> Result<Spec, Refusal> {
     let text = text(alloc, "a")?;
-    Spec::extrema(alloc, 0)
-        .by(1)
-        .only(Test::TextBegins { column: 1, text })
+    let spec = Spec::extrema(alloc, 0).by(1);
+    Ok(spec.only(Test::TextBegins { column: 1, text })?)
 }

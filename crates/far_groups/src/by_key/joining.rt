@@ -1,5 +1,5 @@
 // Joins counts and sums by key, whatever form each has.
-ghost use Rattle.std.specs.Prelude.{◌≡◌, OnOk, OnErr, IfOk, IfErr};
+ghost use Rattle.std.specs.Prelude.{◌≡◌, OnOk, OnErr, IfOk};
 ghost use Rattle.far_types.specs.Effects.{joined_totals};
 ghost use Rattle.far_groups.specs.Live.{CanJoin};
 ghost use Rattle.far_groups.specs.CountSums.{totals_of, AreCountSums};
@@ -12,11 +12,10 @@ use crate::count_sums::CountSums;
 use crate::dense::{self, Dense, numbers_of};
 use crate::joins::join_all;
 use crate::numbers::{self, Numbers, keyed};
-use far_types::Refusal;
-use std::alloc::Global;
+use std::alloc::{AllocError, Global};
 
 /// Joins `more` to a tree of keys, and returns the tree.
-fn with_keys(alloc: Global, mut keys: CountSums, more: &CountSums) -> Result<CountSums, Refusal>
+fn with_keys(alloc: Global, mut keys: CountSums, more: &CountSums) -> Result<CountSums, AllocError>
     requires valid_sums { AreCountSums (totals_of keys.entries) }
     requires other_valid_sums { AreCountSums (totals_of more.now.entries) }
     requires can_join { CanJoin (totals_of keys.entries) (totals_of more.now.entries) }
@@ -24,14 +23,13 @@ fn with_keys(alloc: Global, mut keys: CountSums, more: &CountSums) -> Result<Cou
         (λ all. totals_of all.entries
         ≡ joined_totals (totals_of keys.entries) (totals_of more.now.entries)) }
     ensures valid_sums { IfOk result (λ all. AreCountSums (totals_of all.entries)) }
-    ensures memory { IfErr result (λ e. e ≡ Refusal.NoMemory) }
 {
     join_all(alloc, &mut keys, more)?;
     Ok(keys)
 }
 
 /// Joins a tree of keys to these counts and sums.
-fn join_keys(by_key: &mut ByKey, more: &CountSums) -> Result<(), Refusal>
+fn join_keys(by_key: &mut ByKey, more: &CountSums) -> Result<(), AllocError>
     requires valid_sums { AreCountSums (totals_in by_key.old) }
     requires other_valid_sums { AreCountSums (totals_of more.now.entries) }
     requires can_join { CanJoin (totals_in by_key.old) (totals_of more.now.entries) }
@@ -40,7 +38,6 @@ fn join_keys(by_key: &mut ByKey, more: &CountSums) -> Result<(), Refusal>
         (totals_in by_key.new
         ≡ joined_totals (totals_in by_key.old) (totals_of more.now.entries)) }
     ensures err { OnErr result (totals_in by_key.new ≡ totals_in by_key.old) }
-    ensures memory { IfErr result (λ e. e ≡ Refusal.NoMemory) }
 {
     match &mut by_key.form {
         Form::Plain(count_sum) => {
@@ -64,7 +61,7 @@ fn join_keys(by_key: &mut ByKey, more: &CountSums) -> Result<(), Refusal>
 }
 
 /// Joins a tree of numbers to these counts and sums.
-fn join_numbers(by_key: &mut ByKey, more: &Numbers) -> Result<(), Refusal>
+fn join_numbers(by_key: &mut ByKey, more: &Numbers) -> Result<(), AllocError>
     requires valid_sums { AreCountSums (totals_in by_key.old) }
     requires other_valid_sums { AreCountSums (by_number more.now.entries) }
     requires can_join { CanJoin (totals_in by_key.old) (by_number more.now.entries) }
@@ -73,7 +70,6 @@ fn join_numbers(by_key: &mut ByKey, more: &Numbers) -> Result<(), Refusal>
         (totals_in by_key.new
         ≡ joined_totals (totals_in by_key.old) (by_number more.now.entries)) }
     ensures err { OnErr result (totals_in by_key.new ≡ totals_in by_key.old) }
-    ensures memory { IfErr result (λ e. e ≡ Refusal.NoMemory) }
 {
     if more.is_empty() {
         return Ok(());
@@ -94,7 +90,7 @@ fn join_numbers(by_key: &mut ByKey, more: &Numbers) -> Result<(), Refusal>
 }
 
 /// Joins a list by number to these counts and sums.
-fn join_dense(by_key: &mut ByKey, more: &Dense) -> Result<(), Refusal>
+fn join_dense(by_key: &mut ByKey, more: &Dense) -> Result<(), AllocError>
     requires valid_sums { AreCountSums (totals_in by_key.old) }
     requires other_valid_sums { AreCountSums (by_place more.now.items) }
     requires can_join { CanJoin (totals_in by_key.old) (by_place more.now.items) }
@@ -102,7 +98,6 @@ fn join_dense(by_key: &mut ByKey, more: &Dense) -> Result<(), Refusal>
     ensures ok { OnOk result
         (totals_in by_key.new ≡ joined_totals (totals_in by_key.old) (by_place more.now.items)) }
     ensures err { OnErr result (totals_in by_key.new ≡ totals_in by_key.old) }
-    ensures memory { IfErr result (λ e. e ≡ Refusal.NoMemory) }
 {
     match &mut by_key.form {
         Form::Dense(dense) => dense::join(dense, more),
@@ -114,7 +109,7 @@ fn join_dense(by_key: &mut ByKey, more: &Dense) -> Result<(), Refusal>
 }
 
 /// Joins other counts and sums to these.
-pub fn join(by_key: &mut ByKey, other: &ByKey) -> Result<(), Refusal>
+pub fn join(by_key: &mut ByKey, other: &ByKey) -> Result<(), AllocError>
     requires valid_sums { AreCountSums (totals_in by_key.old) }
     requires other_valid_sums { AreCountSums (totals_in other.now) }
     requires can_join { CanJoin (totals_in by_key.old) (totals_in other.now) }
@@ -122,7 +117,6 @@ pub fn join(by_key: &mut ByKey, other: &ByKey) -> Result<(), Refusal>
     ensures ok { OnOk result
         (totals_in by_key.new ≡ joined_totals (totals_in by_key.old) (totals_in other.now)) }
     ensures err { OnErr result (totals_in by_key.new ≡ totals_in by_key.old) }
-    ensures memory { IfErr result (λ e. e ≡ Refusal.NoMemory) }
 {
     match &other.form {
         Form::Plain(count_sum) => add_under(by_key, &None, *count_sum),

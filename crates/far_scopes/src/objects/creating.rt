@@ -54,13 +54,15 @@ impl<T: Elem, S: FarTickets> Objects<T, S> {
             self.order.remove(o);
             return Err(refusal);
         }
+        // For the proof: shows that the length fits into 32 bits.
+        self.memory.lists_are_short();
         self.records.push_reserved(ObjectRecord {
             name,
-            len: items.len(),
             version: 0,
             leavings: 0,
-            pins: 0,
             ticket: None,
+            len: items.len() as u32,
+            pins: 0,
         });
         Ok(o)
     }

@@ -24,7 +24,10 @@ impl<T: Elem, S: FarTickets> Objects<T, S> {
         ensures refused { refusal_in result ≡ lend_refusal self.now o }
     {
         self.here(o)?;
-        Ok(self.memory.lend(o as usize, self.records[o as usize].len))
+        Ok(
+            self.memory
+                .lend(o as usize, self.records[o as usize].len as usize),
+        )
     }
 
     /// Checks that an object is local. If it is, only its pointer word is read. Allocates nothing.
@@ -79,7 +82,7 @@ impl<T: Elem, S: FarTickets> Objects<T, S> {
             → AreHere S.is_of id (after_overwrite (after_write self.old o) o 0 list) }
     {
         self.mark(o);
-        let len = self.records[o as usize].len;
+        let len = self.records[o as usize].len as usize;
         let memory = &mut self.memory;
         memory.lend_mut(o as usize, len)
     }

@@ -33,7 +33,7 @@ impl<T: Elem, S: FarTickets> Objects<T, S> {
         ensures { option_map (λ object_record. object_record.len) (record_of self.now o)
             ≡ Some result }
     {
-        self.records[o as usize].len
+        self.records[o as usize].len as usize
     }
 
     /// Returns the name of an object: the column and the row group that were passed to `create`. Allocates nothing.

@@ -1,5 +1,5 @@
 // Replaces the lists of objects.
-ghost use Rattle.std.specs.Prelude.{◌≡◌, ℕ, ◌<◌, ◌⊎◌, List, [], ◌∷◌, true, length, map, All, Some, None, OnOk, OnErr, IfErr};
+ghost use Rattle.std.specs.Prelude.{◌≡◌, ℕ, ◌<◌, ◌^◌, ◌⊎◌, List, [], ◌∷◌, true, length, map, All, Some, None, OnOk, OnErr, IfErr};
 ghost use Rattle.far_types.specs.FirstOf.{first_of};
 ghost use Rattle.far_scopes.specs.Memory.{ChangesList};
 ghost use Rattle.far_scopes.specs.Movement.{list_of, AreClean, AreHere, ChangesObject};
@@ -43,7 +43,9 @@ impl<T: Elem, S: FarTickets> Objects<T, S> {
     {
         self.may_write_if_placed(o, items.len())?;
         self.memory.replace(o as usize, items)?;
-        self.records[o as usize].len = items.len();
+        // For the proof: shows that the length fits into 32 bits.
+        self.memory.lists_are_short();
+        self.records[o as usize].len = items.len() as u32;
         self.mark(o);
         Ok(())
     }
@@ -119,6 +121,8 @@ impl<T: Elem, S: FarTickets> Objects<T, S> {
         self.all_here(lists)?;
         let checked = self.all_writable(lists);
         self.memory.replace_all(lists, checked)?;
+        // For the proof: shows that the lengths fit into 32 bits.
+        self.memory.lists_are_short();
         set_lens(&mut self.records, lists);
         self.mark_all(lists);
         Ok(())
@@ -171,10 +175,11 @@ impl<T: Elem, S: FarTickets> Objects<T, S> {
 
 // Records the lengths of the new lists.
 fn set_lens<T, K>(records: &mut [ObjectRecord<K>], lists: &[Replacement<T>])
-    requires { All (λ r. r.object < length records.old) lists.now }
+    requires within { All (λ r. r.object < length records.old) lists.now }
+    requires short { All (λ r. length r.list.items < 2 ^ 32) lists.now }
     ensures { records.new ≡ with_lens records.old lists.now }
 {
     for replacement in lists {
-        records[replacement.object as usize].len = replacement.list.len();
+        records[replacement.object as usize].len = replacement.list.len() as u32;
     }
 }

@@ -61,6 +61,18 @@ impl<R: Read + Drop> Input<R> {
         self.held.forget(self.start);
         self.start = 0;
     }
+
+    /// Gives back the memory of a long load that was taken. Does nothing if less was taken than one read may bring: the bytes
+    /// that are still held are moved, and they are at most so many.
+    pub fn give_back(&mut self)
+        ensures source { self.new.source ≡ self.old.source }
+        ensures unread { unread R.Read self.new ≡ unread R.Read self.old }
+    {
+        if self.start >= CHUNK {
+            self.forget();
+            self.held.shrink();
+        }
+    }
 }
 
 impl<R: Source + Drop> Input<R> {

@@ -116,6 +116,7 @@ impl<R: Source + Drop> Input<R> {
         ensures failed { IfErr result
             (λ fault. fault ≡ ShellFault.Output → has_failed output.new ≡ true) }
     {
+        self.give_back();
         let found = self.seek_line(output, writer)?;
         let len = self.held.len();
         let Some(end) = found else {

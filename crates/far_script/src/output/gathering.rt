@@ -11,6 +11,7 @@ use crate::sink::Sink;
 use far_types::Refusal;
 use std::alloc::Global;
 use std::marker::PhantomData;
+use std::mem::swap;
 
 impl<W: Sink> Output<W> {
     /// Returns an empty output. Allocates nothing.
@@ -25,13 +26,21 @@ impl<W: Sink> Output<W> {
         }
     }
 
-    /// Adds the current reply. Ends with `Memory`, and adds nothing, if memory runs out.
+    /// Adds the current reply. A long one is not copied: the replies before it are put before it, and the two pages change
+    /// places. Ends with `Memory`, and adds nothing, if memory runs out.
     pub fn add(&mut self) -> Result<(), ShellFault>
         ensures ok { OnOk result (self.new.page ≡ self.old.page ++ self.old.reply) }
         ensures err { OnErr result (self.new.page ≡ self.old.page) }
         ensures failed { has_failed self.new ≡ has_failed self.old }
         ensures memory { IfErr result (λ fault. fault ≡ ShellFault.Memory) }
     {
+        if self.reply.len() > self.page.len() {
+            if let Err(refusal) = self.reply.bytes_before(self.page.as_slice()) {
+                return Err(ShellFault::of_memory(refusal));
+            }
+            swap(&mut self.page, &mut self.reply);
+            return Ok(());
+        }
         match self.page.bytes(self.reply.as_slice()) {
             Ok(()) => Ok(()),
             Err(refusal) => Err(ShellFault::of_memory(refusal)),

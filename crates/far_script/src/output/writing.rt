@@ -7,6 +7,7 @@ use super::Output;
 use crate::fault::ShellFault;
 use crate::sink::Sink;
 use std::io::ErrorKind;
+use std::mem::swap;
 
 /// How many bytes of replies are collected before they are written.
 const FULL: usize = 65_536;
@@ -36,6 +37,19 @@ fn write_out<W: Sink>(writer: &mut W, bytes: &[u8]) -> usize
 }
 
 impl<W: Sink> Output<W> {
+    /// Lets the next reply be printed in the larger memory of the two pages, none of whose bytes is needed any more. So of two
+    /// long replies the second needs no memory of its own.
+    fn change_pages(&mut self)
+        requires { self.old.page ≡ [] }
+        ensures page { self.new.page ≡ self.old.page }
+        ensures failed { has_failed self.new ≡ has_failed self.old }
+    {
+        if self.reply.capacity() < self.page.capacity() {
+            self.reply.truncate(0);
+            swap(&mut self.page, &mut self.reply);
+        }
+    }
+
     /// Writes the replies and flushes the writer. Does nothing if there are no replies.
     ///
     /// Ends with `Output` if that fails, or if a write failed before. The writer then got a prefix of the replies, and
@@ -62,6 +76,7 @@ impl<W: Sink> Output<W> {
         if self.failed {
             return Err(ShellFault::Output);
         }
+        self.change_pages();
         Ok(())
     }
 

@@ -6,8 +6,10 @@ use Rattle.far_types.specs.Pairs.{Pair}
 use Rattle.far_aggregates.proofs.ScansLaws.{pairs-lent}
 use Rattle.far_aggregates.proofs.scans.observe_group.Goals as goal
 
-pub returns-clause-ok : goal.returns-clause-ok
-returns-clause-ok g c =
-    let here = g.G.LendGroup.places c.args.group.now in
-    let same = pairs-lent c.args.spec.now here c.needed_columns-columns.result c.alive.result.now c.needed_columns-columns.ensures c.alive.ensures in
-    on_ok_weaker c.observe_into.result (λ is. is ∙ ap (λ (ps : List Pair). joined_extrema c.args.observed.now (extrema ps)) same) c.observe_into.ensures.ok
+pub returns : goal.returns
+returns g c = record {
+  ok =
+      let here = g.G.LendGroup.places c.args.group.now in
+      let same = pairs-lent c.args.spec.now here c.needed_columns-columns.result c.alive.result.now c.needed_columns-columns.ensures c.alive.ensures in
+      on_ok_weaker c.observe_into.result (λ is. is ∙ ap (λ (ps : List Pair). joined_extrema c.args.observed.now (extrema ps)) same) c.observe_into.ensures.ok;
+}

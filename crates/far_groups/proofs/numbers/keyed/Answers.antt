@@ -7,7 +7,9 @@ use Rattle.far_groups.proofs.WalksNewLines.{made_of}
 use Rattle.far_groups.proofs.NumbersLaws.{ascend}
 use Rattle.far_groups.proofs.numbers.keyed.Goals as goal
 
-pub returns-clause-ok : goal.returns-clause-ok
-returns-clause-ok c =
-    let numbers = c.args.numbers.now.entries in
-    IfOk-weaker c.map_of.result _ _ (λ keys made. made_of (numbered numbers) keys (ascend numbers c.keyed_lines.ensures.ordered) (subst (λ lines. IsFromIterResult line_cmp lines keys) c.in_ok-lines.ensures.ok made)) c.map_of.ensures.ok
+pub returns : goal.returns
+returns c = record {
+  ok =
+      let numbers = c.args.numbers.now.entries in
+      IfOk-weaker c.map_of.result _ _ (λ keys made. made_of (numbered numbers) keys (ascend numbers c.keyed_lines.ensures.ordered) (subst (λ lines. IsFromIterResult line_cmp lines keys) c.in_ok-lines.ensures.ok made)) c.map_of.ensures.ok;
+}

@@ -5,7 +5,9 @@ use Rattle.far_offload.specs.Partials.{pairs_over}
 use Rattle.far_offload.proofs.PartialsObservation.{observed-first}
 use Rattle.far_offload.proofs.folding.extrema_of.Goals as goal
 
-pub returns-clause-extrema : goal.returns-clause-extrema
-returns-clause-extrema c =
-    let pairs = pairs_over c.args.spec.now c.args.columns.now c.args.alive.now in
-    c.in_ok-observe_into.ensures.ok ∙ ap (λ (m : Extrema). joined_extrema m (extrema pairs)) c.new-observed.ensures ∙ observed-first pairs
+pub returns : goal.returns
+returns c = record {
+  extrema =
+      let pairs = pairs_over c.args.spec.now c.args.columns.now c.args.alive.now in
+      c.in_ok-observe_into.ensures.ok ∙ ap (λ (m : Extrema). joined_extrema m (extrema pairs)) c.new-observed.ensures ∙ observed-first pairs;
+}

@@ -2,7 +2,7 @@ use Rattle.std.proofs.Common.{ℕ, ◌++◌, [], map, sym, ap, ◌∙◌, Option
 use Rattle.std.specs.Prelude.{ℤ}
 use Rattle.far_types.specs.declared.key.Key.{Key}
 use Rattle.far_types.specs.declared.answer.Answer.TheVariants as answer
-use Rattle.far_types.specs.Answers.{totals, total_lines, or_zero}
+use Rattle.far_types.specs.Answers.{totals, lines_by_key, or_zero}
 use Rattle.far_types.proofs.AnswersByKeyMaps.{entries-by_key}
 use Rattle.far_groups.specs.CountSums.{totals_of}
 use Rattle.far_shared.proofs.LinesMerge.{four_lists}
@@ -20,4 +20,4 @@ returns-clause-ok c p q r s hp hq hr hs =
     ∙ ap (or_zero key)
     (c.in_ok-lines_of.ensures.ok
     ∙ ap (map (λ (entry : Option Key × (ℕ × ℤ)). (entry.0, entry.1.0, entry.1.1))) (sym (entries-by_key c.add_totals-4.new.count_sums.entries c.lines_of.ensures.ordered))
-    ∙ ap total_lines (fourth ∙ ap totals (four_lists p q r s))))
+    ∙ ap lines_by_key (fourth ∙ ap totals (four_lists p q r s))))

@@ -8,6 +8,5 @@ on_ok : {T E : Type 0} (r : Result T E) {P Q : Type 0} → (P → Q) → OnOk r 
 on_ok (Ok x) f h = f h
 on_ok (Err e) f h = tt
 
-pub returns-clause-ok : goal.returns-clause-ok
-returns-clause-ok c =
-    on_ok c.observe_rows.result (λ seen. seen ∙ sym (joined-one join_min_maxes c.args.min_maxes.now c.args.key c.args.min_max)) c.observe_rows.ensures.ok
+pub returns : goal.returns
+returns c = record { ok = on_ok c.observe_rows.result (λ seen. seen ∙ sym (joined-one join_min_maxes c.args.min_maxes.now c.args.key c.args.min_max)) c.observe_rows.ensures.ok }

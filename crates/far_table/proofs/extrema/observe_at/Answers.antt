@@ -1,5 +1,4 @@
 use Rattle.std.proofs.Common.{ap, ◌∙◌}
-use Rattle.std.proofs.lemmas.Result.{on_ok_weaker}
 use Rattle.far_types.specs.Answers.{extrema}
 use Rattle.far_types.specs.Effects.{joined_extrema}
 use Rattle.far_aggregates.specs.Accumulators.{pairs_here}
@@ -10,4 +9,4 @@ pub returns-clause-extrema : goal.returns-clause-extrema
 returns-clause-extrema g c =
     let content = g.S.FarTickets.content in
     let observed = c.args.observed.now in
-    on_ok_weaker c.observe_group.result (λ is. is ∙ ap (λ (m : MixedRows g.row.S-Ticket.Denot). joined_extrema observed (extrema (pairs_here c.args.spec.now (places_mixed content m)))) c.new.ensures) c.observe_group.ensures.ok
+    c.in_ok-observe_group.ensures.ok ∙ ap (λ (m : MixedRows g.row.S-Ticket.Denot). joined_extrema observed (extrema (pairs_here c.args.spec.now (places_mixed content m)))) c.new.ensures

@@ -17,3 +17,9 @@ returns-clause-full g c = rw (← c.self.view_is) c.in_ok-compact.ensures.full
 
 pub returns-clause-store : goal.returns-clause-store
 returns-clause-store g c = λ id here. subst (AreHere g.S.FarTickets.is_of id) (sym c.self.view_is) here
+
+pub returns-in_err-compact-clause-clean : goal.returns-in_err-compact-clause-clean
+returns-in_err-compact-clause-clean g c = rw (← c.self.view_is, c.in_err-compact.ensures.err) (λ clean. clean)
+
+pub returns-in_err-compact-clause-store : goal.returns-in_err-compact-clause-store
+returns-in_err-compact-clause-store g c = λ id here. subst (AreHere g.S.FarTickets.is_of id) (sym c.self.view_is) here

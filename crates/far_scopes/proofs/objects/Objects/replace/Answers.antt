@@ -3,8 +3,8 @@ use Rattle.far_log.specs.RegionState.{fits_in}
 use Rattle.far_scopes.specs.Refusing.{replace_refusal}
 use Rattle.far_scopes.proofs.RefusingLaws.{free-placed}
 use Rattle.far_scopes.proofs.MovementReplacement.{object_record-was, tracked-mid, free-mid, lists-new, clean-new}
-use Rattle.far_scopes.specs.Movement.{AreHere}
-use Rattle.far_scopes.proofs.MovementFrames.{here-replaced}
+use Rattle.far_scopes.specs.Movement.{AreHere, ChangesObject}
+use Rattle.far_scopes.proofs.MovementFrames.{here-replaced, others-after_replace}
 use Rattle.far_scopes.proofs.objects.Objects.replace.Goals as goal
 
 pub invariant_of-self-2 : goal.invariant_of-self-2
@@ -42,3 +42,6 @@ returns-clause-free g c = free-placed c.args.self.now c.args.o (length c.args.it
 
 pub returns-clause-store : goal.returns-clause-store
 returns-clause-store g c = λ id here. subst (AreHere g.S.FarTickets.is_of id) (sym (returns-clause-replaced g c)) (here-replaced c.args.self.now c.args.o c.args.items.now g.S.FarTickets.is_of id here)
+
+pub returns-clause-others : goal.returns-clause-others
+returns-clause-others g c = subst (λ m. ChangesObject c.args.self.now m c.args.o) (sym (returns-clause-replaced g c)) (others-after_replace c.args.self.now c.args.o c.args.items.now)

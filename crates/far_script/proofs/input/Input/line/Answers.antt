@@ -1,5 +1,5 @@
-use Rattle.std.proofs.Common.{◌≡◌, ℕ, ◌+◌, ◌∙◌, arith, slice_range}
-use Rattle.far_script.proofs.FlowLaws.{reads-line, range-front, range-within}
+use Rattle.std.proofs.Common.{◌≡◌, ℕ, ◌+◌, [], ◌∙◌, arith, slice_range}
+use Rattle.far_script.proofs.FlowLaws.{reads-kept, reads-line, reads-then, range-front, range-within}
 use Rattle.far_script.proofs.input.Input.line.Goals as goal
 
 next-same : (n m : ℕ) → n ≡ m → m + 1 ≡ n + 1
@@ -19,7 +19,7 @@ returns-clause-line g c =
         slice_range held from to,
         rw (e.held, e.from, e.to) s.first,
         range-front held from to n within ∙ (rw c.as_slice.ensures at c.line_len-whole.ensures.line),
-        reads-line g.R.Read c.args.self.now c.seek_line.new.self c.take-line.new.self from to c.in_ok-found.ensures.read e.source e.held (e.start ∙ next-same to _ e.to) e.from
+        reads-line g.R.Read c.args.self.now c.seek_line.new.self c.take-line.new.self from to (reads-then g.R.Read c.args.self.now c.give_back.new.self c.seek_line.new.self [] [] (reads-kept g.R.Read c.args.self.now c.give_back.new.self c.give_back.ensures.source c.give_back.ensures.unread) c.in_ok-found.ensures.read) e.source e.held (e.start ∙ next-same to _ e.to) e.from
             (grind (arith, e.from, e.to, s.from)) (grind (arith, e.to, s.within)) (rw e.to s.feed),
       ),
     )

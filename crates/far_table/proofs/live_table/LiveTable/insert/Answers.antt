@@ -44,9 +44,9 @@ returns-in_err-pending-clause-err g c =
     let n = c.self.inside.registrations in
     let registry = c.self.inside.aggregates in
     let e = c.in_err-pending.ensures in
-    rw (p.1, p.2) (refuses-memory (state_of rows n registry) c.args.self.now (state_of c.may_insert.new.self n c.apply_deltas.new.self) (edit.Insert c.args.row) c.in_err-pending.field-0.0 c.self.view_is
+    rw (p.1, p.2) (refuses-memory (state_of rows n registry) c.args.self.now (state_of c.may_insert.new.self n c.apply_deltas.new.self) (edit.Insert c.args.row) _ c.self.view_is
     (shown-same c.may_insert.new.self n registry c.apply_deltas.new.self e.registered ∙ loaded-state rows c.may_insert.new.self n registry c.in_ok-may_insert.ensures.stays)
-    c.in_ok-may_insert.ensures.refused e.memory)
+    c.in_ok-may_insert.ensures.refused refl)
 
 pub invariant_of-self-in-Err : goal.invariant_of-self-in-Err
 invariant_of-self-in-Err g c =

@@ -45,7 +45,7 @@ returns-in_err-register-clause-err g c =
     let nothing = watch-free table c.args.spec right c.in-Some.a free (λ all. omega (arith, count, c.if-self-eq4294967296.false, all)) in
     rw (p.1, p.2) (
       ap (λ (registry : List RegistryEntry). state_of inside.rows inside.registrations registry) c.in_err-register.ensures.unchanged ∙ c.self.view_is,
-      for-memory (watch_refusal table c.args.spec) _ nothing c.in_err-register.ensures.memory,
+      for-memory (watch_refusal table c.args.spec) _ nothing refl,
     )
 
 pub invariant_of-self-2 : goal.invariant_of-self-2
