@@ -1,4 +1,4 @@
-"""Puts the shared library beside the package's modules when it is built to be installed."""
+"""Builds the package with the shared library beside its modules."""
 
 import shutil
 from pathlib import Path

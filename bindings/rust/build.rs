@@ -6,20 +6,20 @@ fn main() {
     println!("cargo::rerun-if-env-changed=FULLERCORAL_LIB_DIR");
     let target = ["CARGO_CFG_TARGET_OS", "CARGO_CFG_TARGET_ARCH"].map(env::var);
     if target != [Ok("linux".to_owned()), Ok("x86_64".to_owned())] {
-        println!("cargo::error=the library is there for Linux on x86-64 alone");
+        println!("cargo::error=the library is built only for Linux on x86-64");
     }
     let folder = env::var_os("FULLERCORAL_LIB_DIR").map_or_else(shipped, PathBuf::from);
     let archive = folder.join("libfullercoral.a");
     println!("cargo::rerun-if-changed={}", archive.display());
     if !archive.is_file() {
         let archive = archive.display();
-        println!("cargo::error={archive} is missing: FULLERCORAL_LIB_DIR may name its folder");
+        println!("cargo::error={archive} is missing: set FULLERCORAL_LIB_DIR to its folder");
     }
     println!("cargo::rustc-link-search=native={}", folder.display());
     println!("cargo::rustc-link-lib=static=fullercoral");
 }
 
-// The folder that the repository ships the library in.
+// The repository's folder with the library.
 fn shipped() -> PathBuf {
     let here = env::var_os("CARGO_MANIFEST_DIR").unwrap_or_default();
     Path::new(&here).join("../../lib")

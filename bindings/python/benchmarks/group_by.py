@@ -1,23 +1,23 @@
-"""A count and a sum by key, kept while rows are edited: beside sqlite3 with triggers, and pandas.
+"""Compares counts and sums by key under edits with SQLite with triggers, and pandas.
 
     python3 benchmarks/group_by.py [ROWS]
 
-All have the same rows, of a key with one of 1,000 values and a number, and get the same edits of
-numbers at places drawn at random, before the clock starts. A question is for one key, or for all.
-After each case the answers of ours and of SQLite are compared.
+All have the same rows, of one of 1,000 keys and a number, and get the same edits of numbers at
+random places, which are drawn before the clock starts. A question asks for one key, or for all.
+After each case the benchmark compares our answers with SQLite's.
 
-- Of ours, the answer is watched. Edits are made by ``set``, or as many by one ``set_column``, with
-  an ``array`` of places and one of values.
-- "the library's calls alone" are the same calls by ctypes, with arguments made before, on a table
-  of their own: what the package cannot go below.
+- Our table watches the answer. It makes edits by ``set``, or many by one ``set_column``, with an
+  ``array`` of places and one of values.
+- "the library's calls alone" are the same calls by ctypes, with prepared arguments, on another
+  table: the lower bound for the package.
 - SQLite is in memory, in one transaction that is never committed, without a journal. A trigger
-  keeps the totals in a table whose primary key is the key. Edits are made by ``execute``, or as
-  many by one ``executemany``, with tuples made before.
-- pandas has a categorical column of keys. It puts all values by one assignment, and groups and sums
+  keeps the totals in a table whose primary key is the key. It makes edits by ``execute``, or many
+  by one ``executemany``, with prepared tuples.
+- pandas has a categorical column of keys. It sets all values by one assignment, and groups and sums
   all rows at each question.
 
-Each figure is for the edits and one question after them: the least of some rounds, which all take
-in turn.
+Each figure is for the edits and one question after them: the least of some rounds, in which all
+take turns.
 """
 
 from __future__ import annotations
@@ -41,7 +41,7 @@ except ImportError:
 LOCAL = "512MB"
 KEYS = 1000
 ROUNDS = 40
-CELLS_A_ROUND = 1000  # how many edits a round has, with as many questions as come after them
+CELLS_A_ROUND = 1000  # the edits of a round, with a question after each group of them
 MOST_QUESTIONS = 100
 
 _SQLITE = """
@@ -71,7 +71,7 @@ Say = Callable[..., None]
 
 
 class Edits(NamedTuple):
-    """Some edits, as each of them takes them."""
+    """Some edits, in the form that each table takes."""
 
     places: array[int]
     values: array[int]
@@ -79,7 +79,7 @@ class Edits(NamedTuple):
 
 
 class Drawn(NamedTuple):
-    """The rows that all have, and the kind of their keys."""
+    """The rows of all tables, and the kind of their keys."""
 
     skus: list[Any]
     quantities: list[int]
@@ -122,7 +122,7 @@ class Ours:
 
 
 class CallsAlone(Ours):
-    """The library's calls with arguments made before."""
+    """The library's calls with prepared arguments."""
 
     def __init__(self, drawn: Drawn, local: str) -> None:
         super().__init__(drawn, local)
@@ -195,7 +195,7 @@ class Pandas:
 
 
 class Case(NamedTuple):
-    """How many edits come before a question, how they are made, and what is asked."""
+    """A case: the edits before a question, how they are made, and the question."""
 
     edits: int
     way: str
@@ -213,7 +213,7 @@ MORE += [Case(1, "lone", "all"), Case(1000, "lone", "all")]
 
 
 def _draw(drawn: Drawn, case: Case, draw: random.Random) -> tuple[list[Edits], list[Key]]:
-    """Draws what a round has: edits, and a key for the question after each of them."""
+    """Draws a round: edits, and a key for the question after each group of them."""
     questions, rows = max(1, min(MOST_QUESTIONS, CELLS_A_ROUND // case.edits)), len(drawn.skus)
     edits = []
     for _ in range(questions):
@@ -235,7 +235,7 @@ def _round(of: Any, case: Case, edits: list[Edits], keys: list[Key]) -> float:
 
 
 class Measured:
-    """The tables of all, and what is measured with them."""
+    """All tables, and the measurements of them."""
 
     def __init__(self, drawn: Drawn, local: str, say: Say) -> None:
         self._drawn, self._say = drawn, say
@@ -269,7 +269,7 @@ class Measured:
 
 
 def measure(rows: int, local: str, say: Say) -> None:
-    """Measures all cases; ``say`` gets what it was, our seconds, the other's name and seconds."""
+    """Measures all cases; ``say`` gets the case, our seconds, the other's name and seconds."""
     for kind, cases in ((str, MAIN + MORE), (int, MAIN)):
         measured = Measured(draw_rows(rows, kind), local, say)
         for case in cases:

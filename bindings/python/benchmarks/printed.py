@@ -1,4 +1,4 @@
-"""What the benchmarks print: lines of one table, of times."""
+"""Prints the results of the benchmarks: lines of one table of times."""
 
 from __future__ import annotations
 
@@ -21,22 +21,22 @@ def best(work: Callable[[], Any], rounds: int = 5) -> float:
 
 
 def shown(seconds: float) -> str:
-    """Returns a time in the unit that suits it."""
+    """Formats a time in a fitting unit."""
     for unit, size in (("s ", 1.0), ("ms", 1e-3), ("µs", 1e-6)):
         if seconds >= size:
             return f"{seconds / size:,.2f} {unit}"
     return f"{seconds * 1e9:,.0f} ns"
 
 
-def say(what: str, ours: float, beside: str = "", theirs: float = 0.0) -> None:
+def say(what: str, ours: float, other: str = "", theirs: float = 0.0) -> None:
     """Prints a line of the table."""
     times = f"{theirs / ours:,.2f}" if theirs else ""
     takes = shown(theirs) if theirs else ""
-    line = f"| {what:<61} | {shown(ours):>10} | {beside:<25} | {takes:>10} | {times:>8} |"
+    line = f"| {what:<61} | {shown(ours):>10} | {other:<25} | {takes:>10} | {times:>8} |"
     print(line, flush=True)
 
 
 def begin() -> None:
     """Prints the head of the table."""
-    print(f"| {'what':<61} | {'takes':>10} | {'beside':<25} | {'takes':>10} | {'times':>8} |")
+    print(f"| {'what':<61} | {'takes':>10} | {'other':<25} | {'takes':>10} | {'times':>8} |")
     print(f"|{'-' * 63}|{'-' * 11}:|{'-' * 27}|{'-' * 11}:|{'-' * 9}:|")

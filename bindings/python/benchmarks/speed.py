@@ -1,8 +1,9 @@
-"""How fast the package is, beside the library's own call, memcpy, pandas and SQLite.
+"""Compares the speed of the package with the library's own calls, memcpy, pandas and SQLite.
 
     python3 benchmarks/speed.py [ROWS]
 
-Prints one table. Each figure is the least of several rounds. What is not installed is left out.
+Prints one table. Each figure is the least of several rounds. Packages that are not installed are
+left out.
 """
 
 from __future__ import annotations
@@ -31,14 +32,14 @@ except ImportError:
     numpy = None  # type: ignore[assignment]
 
 LOCAL = group_by.LOCAL
-COUNT = 20_000  # edits of a round, one by one
+COUNT = 20_000  # single edits of a round
 
 
 # Many rows
 
 
 def library_alone(columns: list[array[int]]) -> float:
-    """Times the library's call with columns that lie ready."""
+    """Times the library's call with prepared columns."""
     schema = fc.Schema({"a": int, "b": int})
     limits = fc.Limits.for_local(schema, LOCAL)
     least = float("inf")
@@ -126,7 +127,7 @@ def appends() -> None:
 
 
 def floors(table: fc.Table) -> None:
-    """Times the least that a call through ctypes and a statement of SQLite can take."""
+    """Times a minimal call through ctypes and a minimal statement of SQLite."""
     handle = table._handle
     call, number = handle.lib.short("fc_places"), ctypes.byref(ctypes.c_uint32())
     execute = sqlite3.connect(":memory:").execute
@@ -159,7 +160,7 @@ def reading(table: fc.Table, rows: int) -> None:
 
 
 def beyond_memory(rows: int) -> None:
-    """Times a table of two numbers over a file, of 8 times its local memory in far form."""
+    """Times a table of two numbers over a file, with 8 times its local memory in far form."""
     with tempfile.TemporaryDirectory() as folder:
         engine = fc.Files(Path(folder, "table.far"))
         with fc.Table({"a": int, "b": int}, local=2 * rows, far=engine) as table:

@@ -1,10 +1,10 @@
 """``python -m fullercoral``: a shell over a table. See ``help`` there.
 
-Refusals are sentences, on a terminal and through a pipe. Only input whose first command is
-``schema`` is a script, which gets the replies of ``docs/SCRIPT.md``.
+It prints refusals as sentences, on a terminal and through a pipe. Only input whose first command
+is ``schema`` is a script, which gets the replies of ``docs/SCRIPT.md``.
 
 The exit status is 1 if the CSV file of the command line cannot be imported, or if a line that came
-through a pipe was refused; of a script it is 0 whatever was refused.
+through a pipe was refused. For a script it is 0 whatever was refused.
 """
 
 from __future__ import annotations
@@ -106,11 +106,11 @@ def _talk(shell: Shell) -> None:
         try:
             shell.line(line)
         except KeyboardInterrupt:
-            print("interrupted; what was done is done")
+            print("interrupted; the changes made so far remain")
 
 
 def _serve(shell: Shell) -> None:
-    """Serves lines that another program writes, or a file: a script if ``schema`` is the first."""
+    """Serves lines from a pipe or a file, as a script if the first command is ``schema``."""
     source, begun = sys.stdin.buffer, shell.table is not None
     for raw in source:
         line = raw.removesuffix(b"\n").removesuffix(b"\r") if raw.endswith(b"\n") else raw
@@ -134,11 +134,11 @@ def _import(shell: Shell, asked: argparse.Namespace) -> bool:
 
 def main(arguments: Sequence[str] | None = None) -> int:
     """Runs the shell, and returns its exit status."""
-    about = "A shell over a table; type help in it. Its status is 1 if a line of a pipe is refused."
+    about = "A shell over a table; type help in it. Exits with 1 if a line from a pipe is refused."
     parser = argparse.ArgumentParser(prog="python -m fullercoral", description=about)
-    parser.add_argument("csv", nargs="?", help="a CSV file that is imported first")
-    parser.add_argument("--local", default="64MB", help="local memory of its table (64MB)")
-    parser.add_argument("--far", help="a file for what is away; else it is kept in this process")
+    parser.add_argument("csv", nargs="?", help="a CSV file to import first")
+    parser.add_argument("--local", default="64MB", help="local memory of its table (default: 64MB)")
+    parser.add_argument("--far", help="a file for evicted data (default: this process's memory)")
     parser.add_argument("--version", action="version", version=f"fullercoral {__version__}")
     asked = parser.parse_args(arguments)
     terminal = sys.stdin.isatty()

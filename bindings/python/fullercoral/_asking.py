@@ -1,8 +1,8 @@
-"""Asks an aggregate for the line of one key, by one call that makes no other line.
+"""Asks an aggregate for the line of one key, by one call that computes no other line.
 
-The cell of a key and the line that is its answer share a slot of 13 words. A key that is asked for
-keeps its slot, so the next question for it passes two pointers that are there. Once many keys have
-one, the others share a slot.
+A slot of 13 words holds the cell of a key and the line that answers it. A key keeps its slot, so
+the next question for it reuses two prepared pointers. Once 4,096 keys have a slot, all others
+share one.
 """
 
 from __future__ import annotations
@@ -31,7 +31,7 @@ _new = tuple.__new__  # what a named tuple's own ``_make`` calls
 
 
 class _Room:
-    """Where a slot is."""
+    """The position of a slot in its buffer."""
 
     __slots__ = ("_cell_at", "_line_at", "_buffer", "_start", "_words")
 
@@ -47,13 +47,13 @@ class _Room:
         words[1] = id(text) + BYTES_AT if text else EMPTY_AT
         words[2] = len(text)
         words[3] = kind
-        words[4] = EMPTY_AT  # the text that the line had may be gone
+        words[4] = EMPTY_AT  # the previous line's text may have been freed
         words[5] = 0
         return self._cell_at, self._line_at, self._buffer, self._start, text
 
 
 class Slots:
-    """The slots of the keys of an aggregate. The caller holds the table's lock."""
+    """The slots of an aggregate's keys. The caller holds the table's lock."""
 
     def __init__(self, handle: Handle, fold: Any) -> None:
         self.of_key: dict[Any, Slot] = {}
@@ -65,14 +65,14 @@ class Slots:
         self._shared = self._next()
 
     def _next(self) -> _Room:
-        """Returns the room of a slot that no key has."""
+        """Returns the position of a slot that no key has."""
         if not self._free:
             buffer = (c_char * (_SLOT * _SLOTS_AT_ONCE))()
             self._free = [_Room(buffer, start) for start in range(0, sizeof(buffer), _SLOT)]
         return self._free.pop()
 
     def take(self, key: Union[int, str, None]) -> Slot:
-        """Returns a slot with a key of the aggregate's kind; None is that of one without keys."""
+        """Returns the slot of a key, which is None for an aggregate without keys."""
         if key is None:
             return self._shared.fill(0, b"", header.MISSING)
         is_few = len(self.of_key) < MOST_SLOTS
@@ -84,7 +84,7 @@ class Slots:
                 slot = room.fill(key, b"", header.INT)
         except ValueError:
             self._free += [room] if is_few else []
-            return self.take(None)  # no column holds such a value, and no line has this key
+            return self.take(None)  # no column holds such a value, so no line has this key
         if is_few:
             self.of_key[key] = slot
         return slot

@@ -1,7 +1,7 @@
-"""Columns of values as the library takes them: numbers side by side, texts with offsets.
+"""Converts columns to the library's form: adjacent numbers, and texts with offsets.
 
-No cell is copied by code of Python: arrays and buffers of 64-bit numbers are lent as they are,
-lists go through ``array``, and texts through one join and one encoding.
+No Python loop copies cells: arrays and buffers of 64-bit numbers are passed without a copy, lists
+go through ``array``, and texts through one join and one encoding.
 """
 
 from __future__ import annotations
@@ -16,15 +16,15 @@ from ._handle import EMPTY_AT
 from .errors import BadArgument, NoUtf8, WrongKind
 from .schema import NA
 
-BYTES_AT = bytes.__basicsize__ - 1  # how far behind its ``id`` the content of a bytes object lies
+BYTES_AT = bytes.__basicsize__ - 1  # the offset of a bytes object's content from its ``id``
 
-_ALIGNED = 8  # where a number of 64 bits lies is a multiple of this
+_ALIGNED = 8  # the alignment of a number of 64 bits
 _LEAST, _MOST = -(1 << 63), (1 << 63) - 1
 _MISSING = ("NAType", "NaTType", "MaskedConstant")  # the classes of pandas.NA, NaT, numpy.ma.masked
 
 
 class _PyBuffer(ctypes.Structure):
-    """CPython's ``Py_buffer``, from which the address of a read-only buffer is read."""
+    """CPython's ``Py_buffer``, which has the address of a read-only buffer."""
 
     _fields_ = [
         ("buf", ctypes.c_void_p),
@@ -42,9 +42,9 @@ class _PyBuffer(ctypes.Structure):
 
 
 def address_of(buffer: Any) -> int:
-    """Returns where a buffer's bytes lie, which the caller keeps alive.
+    """Returns the address of a buffer, which the caller keeps alive.
 
-    An empty one of Python may lie at an odd address, where no number can lie.
+    An empty buffer gets the address of `EMPTY`: Python's may be odd, and numbers are aligned.
     """
     if buffer.__class__ is array:
         at, length = buffer.buffer_info()
@@ -58,7 +58,7 @@ def address_of(buffer: Any) -> int:
 
 
 class ColumnBuffer:
-    """A column of rows to be inserted, or a part of it, as an ``fc_column``."""
+    """A column of rows to insert, or a part of it, as an ``fc_column``."""
 
     def __init__(self, kind: int, length: int, valid: bytes | None) -> None:
         self.kind = kind
@@ -69,7 +69,7 @@ class ColumnBuffer:
         self.keeps: list[Any] = []
 
     def fill(self, column: header.ColumnStruct, start: int, stop: int) -> Any:
-        """Writes the rows ``start`` to ``stop``; returns what must be kept alive for the call."""
+        """Describes rows ``start`` to ``stop``; returns what must be kept alive for the call."""
         count = stop - start
         column.kind = self.kind
         is_text = self.kind == header.TEXT
@@ -96,7 +96,7 @@ class ColumnBuffer:
 
 
 def _bits_between(bits: bytes, start: int, stop: int) -> bytes:
-    """Returns the bits of some rows, moved to where a mask begins."""
+    """Returns the bits of a range of rows, shifted to begin at bit 0."""
     length = (stop - start + 7) // 8
     if start % 8 == 0 and (stop % 8 == 0 or len(bits) == (stop + 7) // 8):
         return bits[start // 8 : start // 8 + length]
@@ -105,20 +105,20 @@ def _bits_between(bits: bytes, start: int, stop: int) -> bytes:
 
 
 class MaskedNumbers:
-    """Numbers with a bit for each that says whether it is one, the lowest first."""
+    """Numbers with a validity mask: a bit for each, the lowest first."""
 
     def __init__(self, numbers: array[int], valid: bytes) -> None:
         self.numbers, self.valid = numbers, valid
 
 
 def pack_bits(flags: Sequence[Any]) -> bytes:
-    """Returns a bit for each flag, the lowest first."""
+    """Packs flags into bits, the lowest first."""
     digits = "".join(["1" if flag else "0" for flag in flags])[::-1]
     return int(digits or "0", 2).to_bytes((len(flags) + 7) // 8, "little")
 
 
 def column_buffer(name: str, kind: type, values: Any) -> ColumnBuffer:
-    """Returns a column of values of any of the forms that ``Table.extend_columns`` takes."""
+    """Makes a column from values in any form that ``Table.extend_columns`` takes."""
     if hasattr(values, "__next__"):
         values = list(values)
     if isinstance(values, MaskedNumbers):
@@ -130,7 +130,7 @@ def column_buffer(name: str, kind: type, values: Any) -> ColumnBuffer:
 
 
 def repeated(name: str, kind: type, value: Any, count: int) -> ColumnBuffer:
-    """Returns a column that has the same value in so many rows."""
+    """Makes a column of ``count`` rows that all have the same value."""
     value = cell_value(name, kind, value)
     if value is None:
         buffer = column_buffer(name, kind, [0 if kind is int else ""] * count)
@@ -148,13 +148,13 @@ def _numbers(name: str, values: Any, valid: bytes | None) -> ColumnBuffer:
     if address_of(numbers) % _ALIGNED:
         numbers = array("q", bytes(memoryview(numbers)))
     buffer = ColumnBuffer(header.INT, len(numbers), valid)
-    buffer.keeps.append(memoryview(numbers))  # so no other thread gives them another length
+    buffer.keeps.append(memoryview(numbers))  # so no other thread resizes the buffer
     buffer.numbers_at = address_of(numbers)
     return buffer
 
 
 def _as_int64(values: Any) -> Any:
-    """Returns values as a buffer of 64-bit numbers; None if a cell needs a look of its own."""
+    """Returns values as a buffer of 64-bit numbers; None if cells must be checked one by one."""
     if isinstance(values, (bytes, bytearray)):
         return None
     try:
@@ -176,13 +176,13 @@ def _numbers_with_missing(name: str, values: list[Any]) -> tuple[array[int], byt
         numbers = array("q", [value if has else 0 for value, has in zip(values, there)])
         return numbers, pack_bits(there)
     except (TypeError, OverflowError):
-        pass  # a cell needs a look of its own
+        pass  # check the cells one by one
     cells = [cell_value(name, int, value, row) for row, value in enumerate(values)]
     return array("q", [cell or 0 for cell in cells]), pack_bits([c is not None for c in cells])
 
 
 def _is_missing(value: Any) -> bool:
-    """Whether a value is NaN, or another of numpy and pandas that stands for a missing one."""
+    """Whether a value is NaN, or another missing value of numpy or pandas."""
     if type(value).__name__ in _MISSING:
         return True
     return hasattr(value, "is_integer") and bool(value != value)
@@ -191,8 +191,8 @@ def _is_missing(value: Any) -> bool:
 def cell_value(name: str, kind: type, value: Any, row: int | None = None) -> Any:
     """Returns the value of a cell, None if it is missing.
 
-    A number is whatever has a whole value: an int, a whole number of numpy, a float as 2.0; True is
-    1. What no column of the kind holds is refused, with its row.
+    Anything with a whole value is a number: an int, an integer of numpy, a float such as 2.0; True
+    is 1. Raises `WrongKind`, with the row, for a value that the column cannot hold.
     """
     if value is None or value is NA or (value.__class__ is not kind and _is_missing(value)):
         return None
@@ -223,7 +223,7 @@ def _whole_number(value: Any) -> int | None:
 def _texts(name: str, values: Any, valid: bytes | None) -> ColumnBuffer:
     texts: Sequence[Any] = values if isinstance(values, (list, tuple)) else list(values)
     if isinstance(values, str):
-        raise WrongKind(f"column {name} is given as one text; give a list of texts", column=name)
+        raise WrongKind(f"column {name} was given one text; give a list of texts", column=name)
     try:
         joined = "".join(texts)
     except TypeError:
@@ -246,16 +246,16 @@ def _texts(name: str, values: Any, valid: bytes | None) -> ColumnBuffer:
 
 
 def _texts_with_missing(name: str, values: Sequence[Any]) -> tuple[list[str], bytes]:
-    """Returns texts with "" for those that are missing, and which are there; refuses others."""
+    """Returns texts, "" for missing ones, and a mask of those present; refuses other values."""
     cells = [cell_value(name, str, value, row) for row, value in enumerate(values)]
     return [cell or "" for cell in cells], pack_bits([cell is not None for cell in cells])
 
 
-# numpy and pandas are known by what they offer, and are not imported here.
+# Arrays of numpy and pandas are recognised by their attributes; neither is imported here.
 
 
 def _from_arrays(values: Any, kind: type) -> tuple[Any, bytes | None]:
-    """Returns what numpy and pandas hold in the forms above, and a mask if cells are missing."""
+    """Converts arrays of numpy and pandas to the forms above, with a mask if cells are missing."""
     if hasattr(values, "isna") and hasattr(values, "to_numpy"):
         return _from_pandas(values, kind)
     if hasattr(values, "__array_interface__"):
@@ -265,12 +265,12 @@ def _from_arrays(values: Any, kind: type) -> tuple[Any, bytes | None]:
 
 def _from_numpy(values: Any, kind: type) -> tuple[Any, bytes | None]:
     if values.ndim != 1:
-        raise BadArgument(f"a column is given as an array of {values.ndim} dimensions")
+        raise BadArgument(f"a column is an array of 1 dimension, not {values.ndim}")
     missing = getattr(values, "mask", None)
     if missing is not None and getattr(missing, "shape", ()) == ():
         missing = None  # a masked array without a mask
     if kind is str or values.dtype.kind not in "iuf":
-        return values.tolist(), None  # a masked cell is None there
+        return values.tolist(), None  # tolist makes a masked cell None
     if missing is not None:
         values = values.filled(0)
     if values.dtype.kind == "f":
@@ -278,13 +278,13 @@ def _from_numpy(values: Any, kind: type) -> tuple[Any, bytes | None]:
         if missing is None:
             return values, None
     if values.dtype.kind == "u" and values.size and int(values.max()) > _MOST:
-        return values.tolist(), None  # the cell that does not fit is named there
+        return values.tolist(), None  # the check of the list names the cell that does not fit
     values = values.astype("int64", copy=False)
     return values, None if missing is None else _packed(missing)
 
 
 def _whole(values: Any, missing: Any) -> tuple[Any, Any]:
-    """Returns floats as whole numbers, NaN as missing; a list to be refused if one is not whole."""
+    """Converts floats to whole numbers, NaN to missing; returns a list if one is not whole."""
     empty = values != values
     missing = empty if missing is None else missing | empty
     filled = values.copy()
@@ -296,7 +296,7 @@ def _whole(values: Any, missing: Any) -> tuple[Any, Any]:
 
 
 def _packed(missing: Any) -> bytes:
-    """Returns the validity bits of a mask of numpy."""
+    """Packs the inverse of a numpy mask of missing cells into validity bits."""
     import numpy
 
     return numpy.packbits(~missing, bitorder="little").tobytes()

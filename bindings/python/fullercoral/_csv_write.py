@@ -1,4 +1,4 @@
-"""Rows of a table written as CSV."""
+"""Writes the rows of a table as CSV."""
 
 from __future__ import annotations
 

@@ -1,10 +1,10 @@
 """The edits of a table.
 
-What an edit passes to the library is prepared once: cells, pointers to them, and views of them as
-words of 64 bits. An item of such a view is set in a third of the time of a field of a structure,
-and refuses what is no whole number of 64 bits. A text is lent where its encoded bytes lie. What
-does not go in so, as a missing cell, is looked at behind an exception. One lock and one call of the
-library are then two thirds of the time of an edit.
+A table prepares the arguments of edits once: cells, pointers to them, and views of them as words of
+64 bits. Setting an item of such a view takes a third of the time of setting a structure's field,
+and raises for anything but a whole number of 64 bits. A text is passed by the address of its
+encoded bytes. Other values, such as a missing cell, are handled after that exception. Taking the
+lock and calling the library are then two thirds of the time of an edit.
 """
 
 from __future__ import annotations
@@ -30,26 +30,26 @@ Progress = Callable[[int, int], Any]
 
 _ROWS_AT_ONCE = 1 << 16  # how many rows one call inserts; a multiple of 8, for the masks
 _ROWS_OF_EXTEND = 10_000
-_WORDS = 4  # how many words a cell has: number, where its text lies, how long it is, kind
+_WORDS = 4  # the words of a cell: number, address of its text, length of its text, kind
 
-_encode = str.encode  # refuses what is no text
+_encode = str.encode  # raises TypeError for anything but a str
 
 
 def place_index(place: Any) -> int:
-    """Returns a place as a number; refuses what is none."""
+    """Returns a place as an int; refuses anything but a whole number."""
     try:
         return index_of(place)
     except TypeError:
-        said = f"a place is a whole number, and {place!r:.60} is none"
+        said = f"a place is a whole number, not {place!r:.60}"
         raise WrongKind(f"{said}: table[place], set(place, column, value)") from None
 
 
 def _no_row(row: Any) -> WrongKind:
-    return WrongKind(f"a row is a list, a tuple or a dict of cells, and {row!r:.60} is none")
+    return WrongKind(f"a row is a list, a tuple or a dict of cells, not {row!r:.60}")
 
 
 def _length(row: Any) -> int:
-    """Returns how many cells a row has; refuses what is none."""
+    """Returns how many cells a row has; refuses anything but a row."""
     try:
         return len(row)
     except TypeError:
@@ -57,7 +57,7 @@ def _length(row: Any) -> int:
 
 
 def _cell(kind: int) -> tuple[Any, Any]:
-    """Returns a cell of a kind as words, and the pointer to it."""
+    """Returns a new cell of a kind as words, and a pointer to it."""
     cell = header.Cell(0, b"", 0, kind)
     return memoryview(cell).cast("B").cast("q"), byref(cell)
 
@@ -75,7 +75,7 @@ class Editing:
     _live: int
 
     def _prepare_edits(self) -> None:
-        """Makes what every edit uses again."""
+        """Allocates the arguments that every edit reuses."""
         kinds = self.schema.codes()
         self._width = len(kinds)
         self._row = (header.Cell * self._width)()
@@ -95,7 +95,7 @@ class Editing:
         self._arrays = _setting.Arrays(self._handle)
 
     def _parts_of_set(self) -> tuple[Any, ...]:
-        """Returns what `set` uses: of each column its index, and where its cell is written."""
+        """Returns each column's index and cell, for `set`."""
         number, text = (self._number_words, self._number_at), (None, self._text_at)
         by_name = {
             name: (index, *(text if kind is str else number))
@@ -108,8 +108,8 @@ class Editing:
     def append(self, row: Any) -> int:
         """Appends a row, given as a sequence or by names, and returns its place.
 
-        A number may be of any class that has a whole value: 5, ``numpy.int64(5)``, 5.0; True is 1.
-        A cell is missing by None, `NA`, NaN, or pandas' NA. All calls that take cells take these.
+        A number may have any class with a whole value: 5, ``numpy.int64(5)``, 5.0; True is 1.
+        None, `NA`, NaN and pandas' NA are missing cells. All calls that take cells take these.
 
         >>> table.append(("bread", 5)), table.append({"sku": "rye", "quantity": None})
         (0, 1)
@@ -140,10 +140,10 @@ class Editing:
     def _wrong_width(self, row: Sequence[Any]) -> Refused:
         if not self._handle.is_open:
             return Closed()
-        return RowWidth(f"the row has {len(row)} cells, and the table {self._width} columns")
+        return RowWidth(f"the row has {len(row)} cells, but the table has {self._width} columns")
 
     def _append_with_missing(self, row: Sequence[Any]) -> int:
-        """Appends a row with missing cells; refuses one that has what does not fit."""
+        """Appends a row with missing cells; refuses a row with a value that does not fit."""
         if not self._handle.is_open:
             raise Closed()
         words: Any = self._row_words
@@ -163,7 +163,7 @@ class Editing:
             self._restore_row()
 
     def _restore_row(self) -> None:
-        """Makes the cells of a row what they were at first: of the columns' kinds, and empty."""
+        """Resets the cells of a row: empty, with the kinds of the columns."""
         for at, is_text in self._row_plan:
             kind = header.TEXT if is_text else header.INT
             words = self._row_words
@@ -184,16 +184,16 @@ class Editing:
         return place
 
     def _in_order(self, row: Mapping[str, Any]) -> list[Any]:
-        """Returns a row that is given by names in the order of the columns."""
+        """Returns the cells of a row given by names, in the order of the columns."""
         for name in row:
             self.schema.index(name)
         absent = [name for name in self.schema if name not in row]
         if absent:
-            raise RowWidth(f"the row has no value of {', '.join(absent)}; None is a missing one")
+            raise RowWidth(f"the row lacks {', '.join(absent)}; give None for a missing cell")
         return [row[name] for name in self.schema]
 
     def set(self, place: int, column: str, value: Any) -> None:
-        """Sets a cell; None makes it a missing one. A negative place counts from the end.
+        """Sets a cell; None makes it missing. A negative place counts from the end.
 
         >>> place = table.append(("bread", 5))
         >>> table.set(place, "quantity", 7)
@@ -231,7 +231,7 @@ class Editing:
         release()
 
     def _odd_cell(self, place: int, column: str, value: Any) -> tuple[int, int, Any]:
-        """Returns an index, a place and a cell of other kinds than most; refuses what is none."""
+        """Converts unusual arguments to an index, a place and a cell, or refuses them."""
         if not self._handle.is_open:
             raise Closed()
         place, index, kind = place_index(place), self.schema.index(column), self.schema[column]
@@ -247,11 +247,11 @@ class Editing:
 
         Places are a list, an ``array``, a slice, an array of numpy or pandas, or a mask with a flag
         for each place; a negative one counts from the end. Values come in all forms that
-        `extend_columns` takes. A dict or a Series of pandas has both: ``{place: value}``.
+        `extend_columns` takes. A dict or a Series of pandas gives both: ``{place: value}``.
 
-        Nothing is set if a value does not fit the column, or a place is not there. If a cell is
-        refused for another reason (as its row was removed), those before it stay, and the
-        exception's ``cells_set`` counts them. Where much is away, sorted places are fastest.
+        Nothing is set if a value does not fit the column, or a place does not exist. If a cell is
+        refused for another reason (its row was removed, say), the cells before it stay set, and
+        the exception's ``cells_set`` counts them. If much is away, sorted places are fastest.
 
         >>> table.extend([("bread", 5), ("rye", 3), ("oat", 1)])
         range(0, 3)
@@ -276,7 +276,7 @@ class Editing:
                 self._answer = None
 
     def remove(self, place: int) -> None:
-        """Removes a row. Its place is not used again. ``del table[place]`` does the same.
+        """Removes a row. Its place is never reused. ``del table[place]`` does the same.
 
         >>> table.extend([("bread", 5), ("rye", 3)])
         range(0, 2)
@@ -293,7 +293,7 @@ class Editing:
             self._answer = None
 
     def _place_of(self, place: int) -> int:
-        """Returns a place that is there, counted from 0."""
+        """Returns an existing place, counted from 0."""
         if not self._handle.is_open:
             raise Closed()
         try:
@@ -306,14 +306,14 @@ class Editing:
         return at
 
     def _go_on(self, code: int, call: Callable[..., int], *arguments: Any) -> None:
-        """Makes a refused call again as long as the policy can help; else raises its refusal."""
+        """Retries a refused call as long as the policy can help; else raises its refusal."""
         with Helper(self._mover, self.policy) as helper:
             code = helper.until_done(call, *arguments, code=code)
         if code:
             raise self._handle.refusal(code, **self._about(code, call, arguments))
 
     def _about(self, code: int, call: Any, arguments: Any) -> dict[str, Any]:
-        """Returns which place an edit that was refused is about, or the column of a long text."""
+        """Returns the place that a refused edit is about, or the column of a text too long."""
         names = self.schema.names
         if code == TextTooLong.number and call is self._fc_set:
             return {"column": names[arguments[1]]}
@@ -327,11 +327,11 @@ class Editing:
     # Many rows
 
     def extend(self, rows: Iterable[Row], progress: Progress | None = None) -> range:
-        """Appends rows, and returns their places. They are read and inserted some at a time.
+        """Appends rows, and returns their places. Reads and inserts the rows in batches.
 
         If one is refused, the rows before it stay, and the exception's ``inserted`` counts them.
-        The rows before an exception of ``rows`` itself stay too. What ``rows`` appends to this
-        table while it is read gets earlier places than the rows that it yields.
+        If ``rows`` itself raises, the rows before that stay too. If ``rows`` appends to this table
+        while it is read, those rows get earlier places than the rows that it yields.
 
         >>> table.extend([("bread", 5), ("rye", 3)])
         range(0, 2)
@@ -342,7 +342,7 @@ class Editing:
         while True:
             some: list[Row] = []
             try:
-                some.extend(islice(rows, _ROWS_OF_EXTEND))  # keeps what came before an exception
+                some.extend(islice(rows, _ROWS_OF_EXTEND))  # keeps the rows before an exception
             finally:
                 self._extend_some(some, first)
             if not some:
@@ -351,7 +351,7 @@ class Editing:
                 progress(self._places - first, 0)
 
     def _extend_some(self, some: list[Row], first: int) -> None:
-        """Appends rows until one is refused; the refusal counts those that are in since a place."""
+        """Appends rows until one is refused; the refusal counts the rows from ``first`` on."""
         rows: list[Sequence[Any]] = []
         wrong: Refused | None = None
         try:
@@ -386,16 +386,16 @@ class Editing:
     def extend_columns(
         self, columns: Any = None, /, *, progress: Progress | None = None, **named: Any
     ) -> range:
-        """Appends rows that are given column by column, and returns their places.
+        """Appends rows given column by column, and returns their places.
 
         Each column is a list, an ``array``, a buffer of 64-bit numbers, or an array of numpy or
-        pandas; the columns are given by names, as a dict, or as a DataFrame. Missing cells are None
-        in lists, and what numpy masks, and NaN, None or NA of pandas. Buffers of 64-bit numbers are
-        not copied.
+        pandas; pass the columns as keyword arguments, a dict or a DataFrame. Missing cells are
+        None in lists, masked cells of numpy, and NaN, None or NA of pandas. Buffers of 64-bit
+        numbers are not copied.
 
         Nothing is inserted if a value does not fit its column. If a row is refused for another
-        reason (as its text is too long), the rows before it stay, and the exception's ``inserted``
-        counts them. ``progress`` is called with how many rows are in, and how many there are.
+        reason (its text is too long, say), the rows before it stay, and the exception's
+        ``inserted`` counts them. ``progress`` is called with the rows inserted so far and all rows.
 
         >>> table.extend_columns(sku=["bread", "rye", None], quantity=[5, None, 2])
         range(0, 3)
@@ -452,14 +452,14 @@ class Editing:
             self._match_places()
 
     def _long_text(self, code: int, buffers: list[ColumnBuffer], row: int) -> dict[str, Any]:
-        """Returns the column of the text of a row for which an insert was refused as too long."""
+        """Returns the column whose text in this row was refused as too long."""
         cells = [(name, buffer.value(row)) for name, buffer in zip(self.schema, buffers)]
         lengths = {name: len(cell.encode()) for name, cell in cells if isinstance(cell, str)}
         found = code == TextTooLong.number and max(lengths, key=lambda name: lengths[name])
         return {"column": found} if found else {}
 
     def _match_places(self) -> None:
-        """Notes how many places there are now, whatever ended an insert of many rows."""
+        """Reads the number of places again after an insert of many rows, also a refused one."""
         if self._handle.is_open:
             places = self._handle.places()
             self._live += places - self._places

@@ -1,4 +1,4 @@
-"""DataFrames of pandas: a table made of one, and one made of a table."""
+"""Converts tables from and to DataFrames of pandas."""
 
 from __future__ import annotations
 
@@ -13,9 +13,9 @@ if TYPE_CHECKING:
 
 
 def schema_of_frame(frame: Any) -> Schema:
-    """Returns the columns of a table that is to hold a DataFrame; refuses what it cannot hold."""
+    """Returns the schema for a DataFrame; refuses columns that a table cannot hold."""
     if not hasattr(frame, "dtypes") or not hasattr(frame, "keys"):
-        raise WrongKind(f"from_pandas takes a DataFrame of pandas, and not {frame!r:.60}")
+        raise WrongKind(f"from_pandas takes a DataFrame of pandas, not {frame!r:.60}")
     return Schema([(name, _kind_of(name, frame[name])) for name in frame.keys()])
 
 
@@ -27,14 +27,14 @@ def _kind_of(name: Any, series: Any) -> type:
     if kind == "f":
         if ((there % 1) == 0).all():
             return int
-        cents = f"(frame[{name!r}] * 100).round() is whole numbers of hundredths"
-        raise WrongKind(f"column {name} has decimals, and a table whole numbers: {cents}")
+        cents = f"(frame[{name!r}] * 100).round() makes whole numbers of hundredths"
+        raise WrongKind(f"column {name} has decimals, but a table holds whole numbers: {cents}")
     if all(isinstance(value, str) for value in there):
         return str
     if all(isinstance(value, int) for value in there):
         return int
-    said = f"column {name} is of {series.dtype}, and a table has whole numbers and texts"
-    raise WrongKind(f"{said}: frame[{name!r}].astype(str) is texts")
+    said = f"column {name} is of {series.dtype}, but a table holds whole numbers and texts"
+    raise WrongKind(f"{said}: frame[{name!r}].astype(str) makes texts")
 
 
 def to_pandas(table: Table) -> Any:

@@ -1,7 +1,7 @@
-"""A handle on a table of the library: its calls with values of Python.
+"""A handle on a table of the library, whose calls take and return values of Python.
 
-What the library lends is copied here before the next call. A call that is refused raises the
-exception of its number. The caller holds the table's lock.
+These calls copy what the library lends, which ends with the next call. A refused call raises the
+exception with its number. The caller holds the table's lock.
 """
 
 from __future__ import annotations
@@ -19,26 +19,26 @@ from .limits import Limits
 from .schema import Schema
 
 EMPTY = (c_uint64 * 8)()
-EMPTY_AT = ctypes.addressof(EMPTY)  # where an array of length 0 lies, aligned for all kinds
+EMPTY_AT = ctypes.addressof(EMPTY)  # the address of an array of length 0, aligned for all kinds
 
 
 def leave(lock: threading.RLock) -> None:
-    """Releases a lock after an exception, unless it came before this thread had the lock.
+    """Releases a lock after an exception, unless this thread did not have the lock yet.
 
-    A ``with`` block takes twice as long as the lock's own two calls, which is a fifth of what an
-    edit costs. An exception may then come from the first of these calls, as Ctrl-C does.
+    Edits call ``acquire`` and ``release``, since a ``with`` block takes twice as long, which is a
+    fifth of the cost of an edit. An exception, as by Ctrl-C, may then come from ``acquire``.
     """
     if lock._is_owned():  # type: ignore[attr-defined]
         lock.release()
 
 
 def no_bytes() -> header.Bytes:
-    """Returns bytes that a call may write."""
+    """Returns an empty ``fc_bytes`` for a call to fill."""
     return header.Bytes(EMPTY_AT, 0)
 
 
 class ObjectState(NamedTuple):
-    """What the library says of an object."""
+    """The state of an object, as the library reports it."""
 
     copy: int
     version: int
@@ -50,7 +50,7 @@ class ObjectState(NamedTuple):
 
 
 class Space(NamedTuple):
-    """The space of local memory of one kind, in numbers (of 16 bytes) or bytes of texts."""
+    """The local memory of one kind, in numbers (of 16 bytes) or bytes of texts."""
 
     used: int
     free: int
@@ -73,7 +73,7 @@ class Handle:
         self._bytes = header.Bytes()
         self._object = header.ObjectStruct()
         self._groups = (c_uint32 * 2)()
-        self.lines: Any = None  # a buffer of lines, which the first reader of an answer makes
+        self.lines: Any = None  # a buffer of lines, made by the first reader of an answer
         kinds = (c_uint32 * len(schema))(*schema.codes())
         lim = limits.to_header()
         self._pages = LargePages(limits.local_bytes)
@@ -91,11 +91,11 @@ class Handle:
             self.check(self.lib.fc_close(self.at))
 
     def use_large_pages(self) -> None:
-        """Asks for large pages for local memory that is used from now on."""
+        """Asks for large pages for local memory first used from now on."""
         self._pages.ask()
 
     def refusal(self, code: int, **more: Any) -> Refused:
-        """Returns the exception of a code, with what the library says of it."""
+        """Returns the exception of a code, with the details that the library has."""
         kind = BY_NUMBER.get(code, Refused)
         details: dict[str, Any] = dict(more)
         if code in (15, 16) and self.lib.fc_last_refusal(self.at, byref(self._details)) == 0:
@@ -107,12 +107,12 @@ class Handle:
         return kind(**details) if kind is not Refused else Refused(f"the call returned {code}")
 
     def absent(self) -> tuple[int, int]:
-        """Returns the column's index and the row group of the last refusal, an absent object."""
+        """Returns the column's index and the row group of the object that was away."""
         self.check(self.lib.fc_last_refusal(self.at, byref(self._details)))
         return self._details.column, self._details.group
 
     def check(self, code: int) -> None:
-        """Raises the exception of a code, unless it says that the call is done."""
+        """Raises the exception of a code, unless the code is 0."""
         if code:
             raise self.refusal(code)
 
@@ -120,7 +120,9 @@ class Handle:
 
     def begin_evict(self, column: int, group: int) -> int:
         """Begins to evict an object, and returns the job's number."""
-        self.check(self.lib.fc_begin_evict(self.at, column, group, byref(self._number64)))
+        code = self.lib.fc_begin_evict(self.at, column, group, byref(self._number64))
+        if code:
+            raise self.refusal(code, evicting=True)
         return self._number64.value
 
     def begin_coldest(self) -> int | None:
@@ -142,13 +144,13 @@ class Handle:
         return self._number64.value
 
     def job(self, job: int) -> tuple[int, bool, int, int]:
-        """Returns what a job is: its kind, whether it is carried, its column and row group."""
+        """Returns a job's kind, whether it is carried, its column and its row group."""
         about = header.JobStruct()
         self.check(self.lib.fc_job_of(self.at, job, byref(about)))
         return about.kind, about.carried, about.column, about.group
 
     def wanted(self, job: int, index: int) -> int | None:
-        """Returns the number of a content that a job needs, and None if it needs no more."""
+        """Returns the number of a content that a job needs, or None if it needs no more."""
         code = self.lib.fc_wanted(self.at, job, index, byref(self._number64))
         if code == 104:
             return None
@@ -161,7 +163,7 @@ class Handle:
         self.check(self.lib.fc_deliver(self.at, job, number, at, length))
 
     def outgoing(self, job: int) -> tuple[int, bytes] | None:
-        """Returns the content that a carried eviction leaves to be kept, and its number."""
+        """Returns the number and content that a carried eviction wants kept, or None."""
         self._bytes.at, self._bytes.len = EMPTY_AT, 0
         lent = byref(self._bytes)
         code = self.lib.fc_outgoing(self.at, job, byref(self._number64), lent)
@@ -171,11 +173,11 @@ class Handle:
         return self._number64.value, ctypes.string_at(self._bytes.at, self._bytes.len)
 
     def step(self, name: str, *arguments: int) -> None:
-        """Makes a call that takes numbers and writes nothing, by its name without ``fc_``."""
+        """Calls a function that takes numbers and writes nothing, named without ``fc_``."""
         self.check(getattr(self.lib, f"fc_{name}")(self.at, *arguments))
 
     def give_up(self, job: int) -> None:
-        """Ends a job, if it is not over."""
+        """Ends a job, unless it has ended."""
         self.lib.fc_give_up(self.at, job)
 
     def deliver_copy(self, column: int, group: int, content: bytes) -> None:
@@ -204,7 +206,7 @@ class Handle:
         return self._flag.value
 
     def proposals(self, column: int) -> list[int]:
-        """Returns the row groups of a column to fetch next, by its accesses."""
+        """Returns the row groups of a column to prefetch, as its accesses suggest."""
         count = byref(self._size)
         self.check(self.lib.fc_proposals(self.at, column, self._groups, 2, count))
         return list(self._groups[: self._size.value])
@@ -215,7 +217,7 @@ class Handle:
         return self._number32.value
 
     def object(self, column: int, group: int) -> ObjectState:
-        """Returns what an object is."""
+        """Returns the state of an object."""
         self.check(self.lib.fc_object_of(self.at, column, group, byref(self._object)))
         of = self._object
         return ObjectState(of.copy, of.version, of.pins, of.local, of.dirty, of.hot, of.has_copy)
@@ -237,7 +239,7 @@ class Handle:
 
 
 def _address(content: Any) -> tuple[Any, int]:
-    """Returns a content as the library takes it; an engine may return any bytes-like object."""
+    """Returns a content's buffer and its length; an engine may return any bytes-like object."""
     if not isinstance(content, bytes):
         content = bytes(content)
     return content, len(content)

@@ -1,6 +1,6 @@
 """The structures, codes and calls of ``include/fullercoral.h``, for ctypes.
 
-A structure that holds an ``fc_bytes`` has its two fields in its place; the layout is the same.
+A structure with an ``fc_bytes`` has that one's two fields instead; the layout is the same.
 """
 
 from __future__ import annotations
@@ -28,7 +28,7 @@ MAX_EDITS = 1 << 40
 MAX_SEGMENTS = 1024
 MAX_INT_SIZE = 1 << 20
 MAX_TEXT_SIZE = 1 << 24
-NUMBER_BYTES = 16  # what a number takes in local memory
+NUMBER_BYTES = 16  # the local memory of one number
 
 
 class TableHandle(Structure):
@@ -44,7 +44,7 @@ class Bytes(Structure):
 
 
 class Cell(Structure):
-    """An ``fc_cell``. Its text is given as a bytes object, which the cell keeps alive."""
+    """An ``fc_cell``. It keeps the bytes object of its text alive."""
 
     _fields_ = [
         ("number", c_int64),

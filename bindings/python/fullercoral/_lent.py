@@ -1,4 +1,4 @@
-"""Texts that the library lends until the next call."""
+"""Copies texts that the library lends until the next call."""
 
 from __future__ import annotations
 
@@ -16,9 +16,9 @@ _STRICT = c_void_p()
 
 
 def lent_text(structure: Any, offset: int) -> Callable[[], str]:
-    """Returns a call that copies the text that lies where an ``fc_bytes`` of a structure says.
+    """Returns a function that copies the text of an ``fc_bytes`` in a structure.
 
-    Its address and length are read by the call itself, so nothing has to be given to it.
+    The function takes no arguments: each time it reads the text's address and length itself.
     """
     at = c_void_p.from_buffer(structure, offset)
     length = c_size_t.from_buffer(structure, offset + 8)
@@ -26,7 +26,7 @@ def lent_text(structure: Any, offset: int) -> Callable[[], str]:
 
 
 class LentTexts:
-    """Copies the texts that lie where the structures of an array say, many by one call."""
+    """Copies the texts of an array's structures, many by one call."""
 
     def __init__(self, structures: Any, offset: int) -> None:
         self._arguments: list[Any] = []

@@ -16,8 +16,8 @@ VARIABLE = "FULLERCORAL_LIB"
 def find_library() -> Path:
     """Returns the path of the shared library.
 
-    That is the file named by the environment variable ``FULLERCORAL_LIB``, if it is set; else the
-    file beside this package's modules; else ``lib/libfullercoral.so`` in one of the folders above.
+    The environment variable ``FULLERCORAL_LIB`` names the file, if it is set. Otherwise it is the
+    one beside this package's modules, or ``lib/libfullercoral.so`` in a folder above them.
     """
     named = os.environ.get(VARIABLE)
     if named:
@@ -33,7 +33,7 @@ def find_library() -> Path:
 
 
 def _absent(path: Path, name: str) -> Any:
-    """Returns what stands for a call that an older library lacks."""
+    """Returns a function that raises, in place of a call that an older library lacks."""
 
     def refuse(*arguments: Any) -> int:
         raise OSError(f"{path} has no call {name}: it is older than this package")
@@ -42,14 +42,14 @@ def _absent(path: Path, name: str) -> Any:
 
 
 class Library:
-    """The loaded library: each call of the header as an attribute, with the types of its arguments.
+    """The loaded library: each call of the header as an attribute, with its argument types.
 
-    ``fast(name)`` is the same call without these types. ctypes then converts nothing, which saves
-    half of a call's time. So arguments must be prepared objects of ctypes, or integers that the
-    caller knows to fit 32 bits.
+    ``fast(name)`` is the same call without argument types. ctypes then converts nothing, which
+    halves the time of a call. Its arguments must be prepared objects of ctypes, or integers that
+    the caller knows to fit 32 bits.
 
-    ``short(name)`` is such a call that keeps Python's own lock meanwhile. To give it up and to take
-    it again costs as much as what a call on one cell does.
+    ``short(name)`` is such a call that keeps the GIL: releasing and taking it costs as much as a
+    call on one cell.
     """
 
     def __init__(self, path: Path | str) -> None:
@@ -63,11 +63,11 @@ class Library:
             setattr(self, name, call)
 
     def fast(self, name: str) -> Any:
-        """Returns a call without the types of its arguments."""
+        """Returns a call without argument types."""
         return self._call(self._library, name)
 
     def short(self, name: str) -> Any:
-        """Returns a call without the types of its arguments that keeps Python's own lock."""
+        """Returns a call without argument types that keeps the GIL."""
         return self._call(self._under_lock, name)
 
     def _call(self, library: ctypes.CDLL, name: str) -> Any:
@@ -89,7 +89,7 @@ _loaded: Library | None = None
 
 
 def library() -> Library:
-    """Returns the library, which is loaded at the first call."""
+    """Returns the library, loading it at the first call."""
     global _loaded
     if _loaded is None:
         _loaded = Library(find_library())

@@ -1,8 +1,8 @@
-"""Reads the lines of the answer that stays in a table's handle.
+"""Reads the lines of the answer that a table's handle holds.
 
-One call writes some hundred lines into a buffer that all readers of a handle share. From there they
-are taken column by column; the texts of their keys, which lie elsewhere, are copied by one call
-more.
+One call writes up to 256 lines into a buffer that all readers of a handle share. The readers take
+them from there column by column. The texts of keys are elsewhere in memory: one more call copies
+them.
 """
 
 from __future__ import annotations
@@ -28,7 +28,7 @@ _new = tuple.__new__  # what a named tuple's own ``_make`` calls
 
 
 class LineBuffer:
-    """Lines of the answer that stays in a handle, as the last call wrote them.
+    """Lines of the answer that a handle holds, as the last call wrote them.
 
     The caller holds the table's lock.
     """
@@ -38,7 +38,7 @@ class LineBuffer:
         self.words = memoryview(lines).cast("B").cast("q")
         self._unsigned = memoryview(lines).cast("B").cast("Q")
         self._blank = array("q", ([EMPTY_AT] + [0] * (_STEP - 1)) * LINES)
-        self._texts: LentTexts | None = None  # made for the first answer that has texts as keys
+        self._texts: LentTexts | None = None  # made for the first answer with texts as keys
         self._lines = lines
         self._lines_at = c_void_p(addressof(lines))
         self._count = c_size_t()
@@ -47,8 +47,8 @@ class LineBuffer:
         self._fc_lines = handle.lib.short("fc_lines")
 
     def read(self, index: int, most: int) -> int:
-        """Has at most so many lines written from an index on; returns the code of the call."""
-        self.words[:] = self._blank  # the texts that it lent may be gone
+        """Reads up to ``most`` lines from an index on; returns the code of the call."""
+        self.words[:] = self._blank  # the texts of the previous lines may have been freed
         room = min(most, LINES)
         code: int = self._fc_lines(self._at, index, self._lines_at, room, self._count_at)
         return code
@@ -59,11 +59,11 @@ class LineBuffer:
         return self._count.value
 
     def numbers(self, word: int, count: int) -> list[int]:
-        """Returns a word of the first lines, as numbers with a sign."""
+        """Returns one word of each of the first lines, as signed numbers."""
         return self.words[word : _STEP * count : _STEP].tolist()
 
     def sums(self, count: int) -> list[int]:
-        """Returns the sums of the first lines, each of its two halves."""
+        """Returns the sums of the first lines, each joined from its two halves."""
         lows = self._unsigned[_LOW : _STEP * count : _STEP].tolist()
         highs = self.numbers(_HIGH, count)
         return [(high << 64) + low for high, low in zip(highs, lows)] if any(highs) else lows
@@ -76,7 +76,7 @@ class LineBuffer:
 
 
 class LineReader:
-    """Reads the lines of answers of one form. The caller holds the table's lock."""
+    """Reads the answers of one aggregate. The caller holds the table's lock."""
 
     def __init__(self, handle: Handle, fold: Any, key: type | None) -> None:
         self._handle = handle
@@ -86,9 +86,9 @@ class LineReader:
         self._key = key
 
     def first(self, count: int) -> list[tuple[Any, Any]]:
-        """Returns the first lines of the answer, each with its key; None if it has no key column.
+        """Returns the first lines of the answer, each with its key, in the order of keys.
 
-        They are sorted by key.
+        The key is None if the aggregate has no key column.
         """
         pairs: list[tuple[Any, Any]] = []
         for lines, length in self._parts(count):
@@ -110,9 +110,9 @@ class LineReader:
         return values
 
     def arrays(self, count: int) -> tuple[Any, dict[str, Any]]:
-        """Returns the keys of the first lines, and the values by the names of the fold.
+        """Returns the keys of the first lines, and their values by field name.
 
-        Numbers are arrays of numpy, but for sums of more than 64 bits.
+        Numbers are arrays of numpy, except sums of more than 64 bits.
         """
         import numpy
 
@@ -134,7 +134,7 @@ class LineReader:
         return named, {"count": table[:, _COUNT], "sum": sums}
 
     def _parts(self, count: int) -> Iterator[tuple[LineBuffer, int]]:
-        """Has the first lines of the answer written, part by part, and gives their numbers."""
+        """Reads the first lines of the answer in parts; yields the buffer and the part's length."""
         handle, index = self._handle, 0
         if handle.lines is None:
             handle.lines = LineBuffer(handle)

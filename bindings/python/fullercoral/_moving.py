@@ -1,4 +1,4 @@
-"""Movement of a table's objects by hand, and what can be seen of them."""
+"""Moves a table's objects by hand, and reports where they are."""
 
 from __future__ import annotations
 
@@ -23,7 +23,7 @@ if TYPE_CHECKING:
 
 @dataclass(frozen=True)
 class Stats:
-    """What a table holds, where it lies, and what was moved since it was opened."""
+    """The size of a table, its memory, and its movement since it was opened."""
 
     places: int
     rows: int
@@ -31,9 +31,9 @@ class Stats:
     objects: int
     away: int
     local_bytes: int
-    """How many bytes of local memory cells may take."""
+    """How many bytes of local memory the cells may take."""
     local_used: int
-    """How many of them are used, with what was left behind until a compaction."""
+    """How many of them are used, with garbage that a compaction would free."""
     faults: int
     moved: Counters
 
@@ -44,7 +44,7 @@ class Stats:
             f"{self.objects - self.away:,} objects are local, {self.away:,} away",
             f"{self.local_used:,} of {self.local_bytes:,} bytes of local memory are used",
             f"{moved.evictions:,} evictions, {moved.fetches:,} fetches "
-            f"({moved.prefetches:,} of them ahead), {moved.retries:,} calls made again",
+            f"({moved.prefetches:,} of them ahead), {moved.retries:,} calls repeated",
             f"{moved.scans:,} row groups scanned, {moved.offloads:,} built from far copies",
             f"{moved.bytes_put:,} bytes put, {moved.bytes_got:,} got, {self.faults:,} faults",
         ]
@@ -52,7 +52,7 @@ class Stats:
 
 
 class Pin:
-    """A pin on an object, which keeps it local: ends with ``unpin()``, or a ``with`` block."""
+    """A pin, which keeps an object local until ``unpin()`` or the end of a ``with`` block."""
 
     def __init__(self, table: Moving, column: int, group: int) -> None:
         self._table: Moving | None = table
@@ -68,7 +68,7 @@ class Pin:
 
     def __repr__(self) -> str:
         if self._table is None:
-            return "<pin that ended>"
+            return "<ended pin>"
         column, group = self._object
         return f"<pin on column {self._table.schema.names[column]!r}, row group {group}>"
 
@@ -85,7 +85,7 @@ class Pin:
 
 
 class Moving:
-    """Movement by hand: a part of `Table`. An object is named by column and row group."""
+    """The calls of `Table` that move objects. A column and a row group name an object."""
 
     schema: Schema
     policy: Policy | None
@@ -106,23 +106,23 @@ class Moving:
         return self._handle
 
     def _group(self, group: Any) -> int:
-        """Returns a row group that is there; refuses another."""
+        """Returns a row group as an int; refuses one that does not exist."""
         groups = self._handle.groups()
         if not hasattr(group, "__index__") or not 0 <= group < groups:
             raise OutOfRange(group=group, groups=groups)
         return int(group.__index__())
 
     def _objects(self, column: str | None, group: int | None) -> Iterator[tuple[int, int]]:
-        """Yields the objects that are meant: all of a column if no row group is named."""
+        """Yields the objects of a row group, of a column, or of the table, if neither is named."""
         columns = range(len(self.schema)) if column is None else [self.schema.index(column)]
         groups = range(self._handle.groups()) if group is None else [self._group(group)]
         return ((index, at) for at in groups for index in columns)
 
     def evict(self, column: str | None = None, group: int | None = None) -> int:
-        """Evicts an object, and returns how many went away.
+        """Evicts an object, and returns how many objects were evicted.
 
-        Without a row group it evicts all of the column, without a column all of the table; what is
-        away already or pinned is passed over. Aggregates answer as before.
+        Without a row group it evicts the whole column, without a column the whole table. It skips
+        objects that are pinned or away already. Aggregates answer as before.
 
         >>> table.extend([("bread", 5), ("rye", 3)])
         range(0, 2)
@@ -145,10 +145,10 @@ class Moving:
             return gone
 
     def fetch(self, column: str | None = None, group: int | None = None) -> int:
-        """Fetches an object, and returns how many came.
+        """Fetches an object, and returns how many objects were fetched.
 
-        Without a row group it fetches all of the column, without a column all of the table; what is
-        local already is passed over. If local memory is full, the policy evicts others.
+        Without a row group it fetches the whole column, without a column the whole table. It skips
+        objects that are local already. If local memory is full, the policy evicts others.
 
         >>> table.extend([("bread", 5), ("rye", 3)])
         range(0, 2)
@@ -187,8 +187,7 @@ class Moving:
     ) -> None:
         """Builds all pending row groups into an aggregate now, not at the first question.
 
-        Those that are local are scanned, those that are away are built from their far copies
-        without coming back.
+        It scans local row groups, and reads the far copies of others without fetching them.
 
         >>> table.extend([("bread", 5), ("rye", 3)])
         range(0, 2)
@@ -203,16 +202,16 @@ class Moving:
             build(self._mover, self.policy, watched.number, progress)
 
     def _build_for(self, watched: Watched[Any], code: int) -> None:
-        """Builds what a question was refused for."""
+        """Builds the row groups whose pending state refused a question; else raises."""
         if code != Building.number or self.policy is None:
             raise self._handle.refusal(code)
         build(self._mover, self.policy, watched.number)
 
     def move_to(self, engine: Engine) -> None:
-        """Goes on with another engine, which gets the contents of all that is away.
+        """Switches to another engine, which gets the contents of all objects that are away.
 
-        They come into memory for a moment. If that or an engine fails, the table is as it was, and
-        goes on with the engine that it has. Else the old engine is closed.
+        All these contents are in memory for a moment. If an allocation or an engine fails, the
+        table is unchanged and keeps its engine. Otherwise the old engine is closed.
 
         >>> table.extend([("bread", 5), ("rye", 3)])
         range(0, 2)
@@ -241,20 +240,20 @@ class Moving:
         return self._mover.engine
 
     def map(self) -> Map:
-        """Returns where each object is: a map of row groups by columns.
+        """Returns a map of row groups by columns, which shows where each object is.
 
         >>> place = table.append(("bread", 5))
         >>> gone = table.evict("sku")
         >>> print(table.map())
              sku ·
         quantity █
-        █ local, written since it was kept: 1  · away: 1
+        █ local, without a current copy: 1  · away: 1
         """
         with self._lock:
             return read_map(self._open_handle())
 
     def stats(self) -> Stats:
-        """Returns what the table holds, where it lies, and what was moved.
+        """Returns the table's size, its memory, and its movement since it was opened.
 
         >>> place = table.append(("bread", 5))
         >>> gone = table.evict()

@@ -1,4 +1,4 @@
-"""What a call says of an option that it does not have, and of a package that it needs."""
+"""Errors for unknown options and for packages that are not installed."""
 
 from __future__ import annotations
 
@@ -6,7 +6,7 @@ from difflib import get_close_matches
 from importlib import import_module
 from typing import Any, Iterable, Sequence
 
-# What pandas and others call the options of `read_csv`.
+# The names that pandas and others use for the options of `read_csv`.
 _OTHER_NAMES = {
     "sep": "delimiter",
     "dtype": "types",
@@ -21,18 +21,18 @@ _OTHER_NAMES = {
 
 
 def refuse_unknown(call: str, given: Iterable[str], known: Sequence[str]) -> None:
-    """Refuses an option that a call does not have, with the name of the one that is meant."""
+    """Refuses an unknown option, and suggests the right name."""
     for name in given:
         if name not in known:
             meant = _OTHER_NAMES.get(name)
             if meant not in known:
                 meant = next(iter(get_close_matches(name, known, 1)), None)
-            advice = f"use {meant}" if meant else f"there are {', '.join(known)}"
+            advice = f"use {meant}" if meant else f"its options are {', '.join(known)}"
             raise TypeError(f"{call} has no option {name}; {advice}")
 
 
 def needed(package: str, call: str) -> Any:
-    """Returns a package that a call needs; says so if it is not installed."""
+    """Imports a package that a call needs; the error for a missing one names the call."""
     try:
         return import_module(package)
     except ModuleNotFoundError as error:

@@ -1,8 +1,8 @@
 """Large pages for a table's local memory.
 
-An edit at random touches some five pages of local memory. A processor keeps where some 1,500 pages
-are, so with pages of 4 KB it has to look most of them up in memory, and with pages of 2 MB none.
-Linux takes large pages where it is asked for them, as each place is first used.
+An edit at a random place touches some five pages of local memory. A processor caches the addresses
+of some 1,500 pages: with pages of 4 KB most lookups miss that cache, with pages of 2 MB none.
+Linux allocates large pages at the first use of memory for which a program has asked for them.
 """
 
 from __future__ import annotations
@@ -11,17 +11,17 @@ import ctypes
 import mmap
 from types import TracebackType
 
-MANY = 1 << 16  # places of a table from which large pages are asked for
-_LEAST = 8 << 20  # bytes of local memory from which they may be
+MANY = 1 << 16  # a table asks for large pages from so many places on
+_LEAST = 8 << 20  # and if it has at least so many bytes of local memory
 
 Range = tuple[int, int]
 
 
 class LargePages:
-    """Finds what is allocated within a ``with`` block, and then asks for large pages for it.
+    """Finds the memory allocated within a ``with`` block, to ask for large pages for it.
 
-    What another thread allocates meanwhile may get them too. If the system has none, nothing is
-    different.
+    Memory that another thread allocates meanwhile may get them too. A system without large pages
+    ignores the request.
     """
 
     def __init__(self, size: int) -> None:
@@ -50,13 +50,13 @@ class LargePages:
 
 
 def _mapped() -> list[Range]:
-    """Returns where this process has memory that is no file's, in order; none if it cannot tell."""
+    """Returns this process's anonymous memory, in order; nothing if the system does not tell."""
     found = []
     try:
         with open("/proc/self/maps", encoding="utf-8", errors="replace") as lines:
             for line in lines:
                 parts = line.split()
-                if len(parts) == 5 and parts[1] == "rw-p":  # a file's has a path after these
+                if len(parts) == 5 and parts[1] == "rw-p":  # mapped files have a sixth part, a path
                     start, stop = parts[0].split("-")
                     found.append((int(start, 16), int(stop, 16)))
     except (OSError, ValueError):
@@ -65,7 +65,7 @@ def _mapped() -> list[Range]:
 
 
 def ranges_without(ranges: list[Range], others: list[Range]) -> list[Range]:
-    """Returns the parts of ranges that are in no other one; both are in order.
+    """Returns the parts of ranges that are in none of the others; both lists are in order.
 
     >>> ranges_without([(0, 10), (20, 30)], [(2, 4), (8, 22)])
     [(0, 2), (4, 8), (22, 30)]
@@ -85,4 +85,4 @@ def ranges_without(ranges: list[Range], others: list[Range]) -> list[Range]:
 def _ask_for_large(start: int, stop: int) -> None:
     advise = ctypes.CDLL(None).madvise
     advise.argtypes = ctypes.c_void_p, ctypes.c_size_t, ctypes.c_int
-    advise(start, stop - start, mmap.MADV_HUGEPAGE)  # it may refuse, and all goes on
+    advise(start, stop - start, mmap.MADV_HUGEPAGE)  # a failure does no harm

@@ -1,7 +1,7 @@
-"""Places of many cells as the library takes them: numbers of 32 bits, side by side.
+"""Converts places of many cells to the library's form: adjacent numbers of 32 bits.
 
-They come as a list, an ``array``, a slice, an array of numpy or pandas, or as a mask with a flag
-for each place. A negative place counts from the end.
+Callers give a list, an ``array``, a slice, an array of numpy or pandas, or a mask with a flag for
+each place. A negative place counts from the end.
 """
 
 from __future__ import annotations
@@ -14,11 +14,11 @@ from typing import Any, Iterable, Sequence
 from .errors import BadArgument, NoRow
 
 _FORMATS = ("I", "@I", "=I", "<I")
-_MANY = 256  # places, from which a call of numpy is worth while
+_MANY = 256  # from so many places on a call of numpy is faster
 
 
 def place_buffer(places: Any, count: int) -> Any:
-    """Returns places of a table that has so many as a buffer of 32-bit numbers."""
+    """Returns places of a table with ``count`` places as a buffer of 32-bit numbers."""
     if isinstance(places, slice):
         return array("I", range(*places.indices(count)))
     if hasattr(places, "to_numpy"):
@@ -36,7 +36,7 @@ def place_buffer(places: Any, count: int) -> Any:
 
 
 def greatest(places: Any) -> int:
-    """Returns the greatest of a buffer of 32-bit numbers, by numpy if the program has it loaded."""
+    """Returns the maximum of a buffer of 32-bit numbers, by numpy if the program has loaded it."""
     numpy = sys.modules.get("numpy") if len(places) >= _MANY else None
     if hasattr(numpy, "frombuffer"):
         return int(numpy.frombuffer(places, "uint32").max())
@@ -44,7 +44,7 @@ def greatest(places: Any) -> int:
 
 
 def _is_plain(places: Any) -> bool:
-    """Whether places are a buffer that can be lent as it is."""
+    """Whether places are a buffer that can be passed without a copy."""
     try:
         view = memoryview(places)
     except TypeError:
@@ -57,12 +57,12 @@ def _mask(flags: Sequence[Any], count: int) -> Sequence[Any]:
         raise _wrong_mask(len(flags), count)
     for flag in flags:
         if not isinstance(flag, bool):
-            raise BadArgument(f"a mask is of flags alone, and {flag!r:.60} is none")
+            raise BadArgument(f"a mask has only True and False, not {flag!r:.60}")
     return flags
 
 
 def _wrong_mask(length: int, count: int) -> BadArgument:
-    return BadArgument(f"a mask of {length:,} flags, and the table has {count:,} places")
+    return BadArgument(f"the mask has {length:,} flags, but the table has {count:,} places")
 
 
 def _as_uint32(places: Iterable[Any], count: int) -> array[int]:
@@ -73,11 +73,11 @@ def _as_uint32(places: Iterable[Any], count: int) -> array[int]:
 
 
 def _from_start(place: Any, count: int) -> int:
-    """Returns a place counted from the start."""
+    """Returns a place counted from the start, given one that may be negative."""
     try:
         index = int(place.__index__())
     except (AttributeError, TypeError):
-        raise BadArgument(f"a place is a whole number, and {place!r:.60} is none") from None
+        raise BadArgument(f"a place is a whole number, not {place!r:.60}") from None
     if not -count <= index < count:
         raise NoRow(place=index, places=count)
     return index + count if index < 0 else index
@@ -91,7 +91,7 @@ def _from_numpy(places: Any, count: int) -> Any:
     import numpy
 
     if places.ndim != 1:
-        raise BadArgument(f"places are given as an array of {places.ndim} dimensions")
+        raise BadArgument(f"places are an array of 1 dimension, not {places.ndim}")
     if places.dtype.kind == "b":
         if len(places) != count:
             raise _wrong_mask(len(places), count)

@@ -1,4 +1,4 @@
-"""Reads parts of columns, and fetches what is away on the way."""
+"""Reads ranges of columns, and fetches objects that are away on the way."""
 
 from __future__ import annotations
 
@@ -15,7 +15,7 @@ from .errors import Absent, ShortBuffer
 from .movement import Mover
 from .policy import Helper, Policy
 
-_TEXTS_AT_ONCE = 1 << 16  # places of a column of texts that are read by one call
+_TEXTS_AT_ONCE = 1 << 16  # how many places of a text column one call reads
 _TEXT_GUESS = 24
 
 
@@ -29,7 +29,7 @@ def _numpy() -> Any:
 
 
 class Reader:
-    """Reads parts of the columns of a table. The caller holds the table's lock."""
+    """Reads ranges of the columns of a table. The caller holds the table's lock."""
 
     def __init__(self, mover: Mover, policy: Policy | None) -> None:
         self._handle: Handle = mover.handle
@@ -38,9 +38,9 @@ class Reader:
         self._size = c_size_t()
 
     def numbers(self, column: int, start: int, stop: int) -> tuple[Any, Any, Any]:
-        """Returns numbers, whether each place has one, and whether each is alive.
+        """Returns numbers, a flag for each that is present, and a flag for each live row.
 
-        They are arrays of numpy if it is installed; else an ``array``, and bytes of 0 and 1.
+        All three are arrays of numpy if it is installed; else an ``array``, and bytes of 0 and 1.
         """
         count = stop - start
         numpy = _numpy()
@@ -75,7 +75,7 @@ class Reader:
     def _read(
         self, call: Callable[..., int], column: int, start: int, stop: int, buffers: list[int]
     ) -> None:
-        """Calls for the whole part, and at each object that is away for what is before it."""
+        """Reads a range by one call; at each object that is away, reads the places before it."""
         values_at, valid_at, alive_at = buffers
         first, handle = start, self._handle
 
@@ -106,7 +106,7 @@ class Reader:
                 return
 
     def texts(self, column: int, start: int, stop: int) -> tuple[list[str], Any, Any]:
-        """Returns texts (empty where there is none), and the two kinds of flags as bytes."""
+        """Returns texts (empty if missing), and flags for present texts and live rows as bytes."""
         texts: list[str] = []
         valid, alive = bytearray(), bytearray()
         for at in range(start, stop, _TEXTS_AT_ONCE):
@@ -155,7 +155,7 @@ class Reader:
 
 
 def _cut(content: bytearray, offsets: Sequence[int]) -> list[str]:
-    """Cuts texts that lie one behind the other."""
+    """Cuts adjacent texts at their offsets."""
     whole = bytes(content[: offsets[-1]])
     if whole.isascii():
         text = whole.decode("ascii")

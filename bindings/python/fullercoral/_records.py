@@ -1,4 +1,4 @@
-"""Records of comma-separated values as the script language reads and writes them."""
+"""Reads and writes records of comma-separated values, as the script language has them."""
 
 from __future__ import annotations
 
@@ -15,13 +15,13 @@ _NUMBER = re.compile(r"[+-]?[0-9]+")
 
 
 def records(text: str) -> list[list[str]]:
-    """Returns the records of a text. Empty lines are none, and an open quote ends with the text."""
+    """Returns the records of a text. Skips empty lines; an open quote ends with the text."""
     file = io.StringIO(text.removeprefix("\ufeff"), newline="")
     return [fields for fields in csv.reader(file) if fields]
 
 
 def record_text(values: Iterable[Value]) -> str:
-    """Returns values as a record, quoted where they must be."""
+    """Returns values as a record, with quotes where they are needed."""
     return ",".join(map(_field_text, values)) or '""'
 
 
@@ -31,7 +31,7 @@ def _field_text(value: Value) -> str:
 
 
 def number_of(text: str) -> int | None:
-    """Returns the number of a field, and None if it is none of 64 bits."""
+    """Returns a field as a number, or None if it is not a number of 64 bits."""
     if not _NUMBER.fullmatch(text) or len(text) > 400:
         return None
     number = int(text)
@@ -39,7 +39,7 @@ def number_of(text: str) -> int | None:
 
 
 def value_of(field: str, kind: type | None) -> Value:
-    """Returns a field as the value of a column of this kind; None stands behind the last column."""
+    """Returns a field as a value of a column of this kind; None is the kind of a surplus field."""
     if field == _MISSING:
         return None
     number = number_of(field) if kind is int else None
@@ -47,7 +47,7 @@ def value_of(field: str, kind: type | None) -> Value:
 
 
 class Cells:
-    """Cells of any kinds, as the library takes them."""
+    """An array of ``fc_cell`` for values of any kinds."""
 
     def __init__(self, values: list[Value]) -> None:
         self.array = (header.Cell * max(1, len(values)))()

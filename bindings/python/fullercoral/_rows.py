@@ -1,4 +1,4 @@
-"""The class of a table's rows."""
+"""Makes the class of a table's rows."""
 
 from __future__ import annotations
 
@@ -7,10 +7,10 @@ from typing import Any, Sequence
 
 
 def row_class(names: Sequence[str]) -> Any:
-    """Returns the named tuple of rows with these columns.
+    """Returns a named tuple class for rows with these columns.
 
-    A name that is no identifier of Python, as "Order ID", has an attribute by its index in place,
-    as ``_0``; ``row._asdict()`` has all names as they are.
+    A name that is not an identifier of Python, such as "Order ID", gets an attribute named by its
+    index, such as ``_0``; ``row._asdict()`` has all names unchanged.
 
     >>> row = row_class(["Order ID", "quantity"])(7, 5)
     >>> row, row.quantity, row._0, row._asdict()["Order ID"]
@@ -21,12 +21,12 @@ def row_class(names: Sequence[str]) -> Any:
         return plain
 
     class Row(plain):  # type: ignore[misc]
-        """A row, some of whose names are no identifiers."""
+        """A row some of whose names are not identifiers."""
 
         __slots__ = ()
 
         def _asdict(self) -> dict[str, Any]:
-            """The cells by the names of their columns."""
+            """Returns the cells by column name."""
             return dict(zip(names, self))
 
         def __repr__(self) -> str:

@@ -1,4 +1,4 @@
-"""Cells of a column at many places, which one call of the library sets."""
+"""Sets cells of a column at many places by one call of the library."""
 
 from __future__ import annotations
 
@@ -20,24 +20,24 @@ _CELLS_AT_ONCE = 1 << 13  # a multiple of 8, for the masks
 
 
 def as_pairs(places: Any) -> tuple[Any, Any]:
-    """Returns the places and the values of a mapping, or of a Series of pandas."""
+    """Splits a mapping, or a Series of pandas, into places and values."""
     if isinstance(places, Mapping):
         return list(places.keys()), list(places.values())
     if hasattr(places, "to_numpy") and hasattr(places, "index"):
         return places.index, places
-    raise BadArgument("give places with their values: a mapping or a Series, or values behind them")
+    raise BadArgument("give places and values, or a mapping or a Series with both")
 
 
 def is_one(values: Any) -> bool:
-    """Whether one value is given for all places."""
+    """Whether ``values`` is one value for all places."""
     is_many = hasattr(values, "__len__") or hasattr(values, "__iter__")
     return isinstance(values, str) or not is_many
 
 
 class Arrays:
-    """Sets cells by an ``array`` of places and one of numbers, which are lent as they are.
+    """Sets cells by an ``array`` of places and one of numbers, passed without a copy.
 
-    What the call needs besides is made once. The caller holds the table's lock.
+    Its other arguments are made once. The caller holds the table's lock.
     """
 
     def __init__(self, handle: Handle) -> None:
@@ -54,10 +54,10 @@ class Arrays:
 
     def set(self, column: int, places: array[int], values: array[int]) -> tuple[int, int]:
         """Sets the cells in order until one is refused; returns the code, and how many were set."""
-        with memoryview(places), memoryview(values):  # so no other thread changes their lengths
+        with memoryview(places), memoryview(values):  # so no other thread resizes them
             self._places_at.value, count = places.buffer_info()
             self._words[0], length = values.buffer_info()
-            if count != length or not count:  # as they are since another thread changed them
+            if count != length or not count:  # another thread resized them before
                 return (BadArgument.number if count != length else 0), 0
             self._words[1], self._done.value = length, 0
             arguments = self._places_at, count, self._column_at, self._done_at
@@ -66,9 +66,9 @@ class Arrays:
 
 
 def are_plain(kind: type, places: Any, values: Any, count: int) -> bool:
-    """Whether places of a table that has so many, and values for them, go to `Arrays` as they are.
+    """Whether `Arrays` can take these places, of a table with ``count`` places, and values.
 
-    If not, `Cells` takes them, and refuses what is wrong with them.
+    If not, `Cells` converts them, and refuses those that do not fit.
     """
     if places.__class__ is not array or values.__class__ is not array or kind is not int:
         return False
@@ -78,14 +78,14 @@ def are_plain(kind: type, places: Any, values: Any, count: int) -> bool:
 
 
 class Cells:
-    """Values for places of a column of a table. The caller holds the table's lock."""
+    """Sets places of a column to values. The caller holds the table's lock."""
 
     def __init__(self, table: Editing, column: str, places: Any, values: Any) -> None:
         self._table = table
         self._name = column
         self._column = table.schema.index(column)
         self._places = place_buffer(places, table._places)
-        self._kept = memoryview(self._places)  # so no other thread gives it another length
+        self._kept = memoryview(self._places)  # so no other thread resizes it
         self._count = len(self._places)
         self._values = self._buffer(table.schema.kinds[self._column], values)
         self._done = 0
@@ -102,14 +102,14 @@ class Cells:
                 details["place"] = int(self._places[row])
             raise type(error)(**details) from None
         if buffer.length != self._count:
-            given = f"{buffer.length:,} values are given for {self._count:,} places"
+            given = f"there are {buffer.length:,} values for {self._count:,} places"
             raise BadArgument(f"{given} of column {self._name}")
         return buffer
 
     def set(self, code: int = 0, done: int = 0) -> None:
-        """Sets all of them in order; the policy helps, and what was set stays.
+        """Sets all cells in order; the policy helps. Cells set before a refusal stay set.
 
-        The first ones may have been set before a call that was refused with a code.
+        ``done`` cells may have been set already, by a call that was refused with ``code``.
         """
         self._done = done
         try:
@@ -124,7 +124,7 @@ class Cells:
             raise
 
     def _set_one(self, code: int) -> None:
-        """Has the policy help until the next cell is set, which was refused with a code."""
+        """Sets the next cell, which was refused with a code, by the policy's help."""
         mover, before = self._table._mover, self._done
         with Helper(mover, self._table.policy) as helper:
             while code and self._done == before:

@@ -1,4 +1,4 @@
-"""Aggregates: what they compute, and their live answers."""
+"""Aggregates: specifications, and live answers."""
 
 from __future__ import annotations
 
@@ -31,7 +31,7 @@ _MOST_TESTS = 4
 
 
 class Total(NamedTuple):
-    """How many values there are, and their sum, which is exact."""
+    """A count of values and their exact sum."""
 
     count: int  # type: ignore[assignment]
     sum: int
@@ -51,7 +51,7 @@ class MinMax(NamedTuple):
 
 @dataclass(frozen=True)
 class Spec:
-    """What an aggregate computes: made by `totals` and `extrema`."""
+    """The specification of an aggregate, made by `totals` or `extrema`."""
 
     fold: str
     value: str
@@ -59,7 +59,7 @@ class Spec:
     where: tuple[Test, ...] = ()
 
     def columns(self) -> set[str]:
-        """Returns the columns that it needs."""
+        """Returns the names of the columns that the aggregate reads."""
         by = [] if self.by is None else [self.by]
         return {self.value, *by, *(column for column, _, _ in self.where)}
 
@@ -70,11 +70,11 @@ class Spec:
 
 
 def totals(value: str, by: str | None = None, where: Sequence[Test] = ()) -> Spec:
-    """Counts and sums the values of a column, under each key of the column ``by`` if one is named.
+    """Counts and sums the values of a column, for each key of the column ``by`` if one is named.
 
     ``where`` has up to 4 tests that a row must pass: ``(column, op, constant)``. The op is one of
     ``== != < <= > >=`` for numbers; for texts it is ``==``, or ``^=`` for "begins with". A test of
-    a missing cell is false. A row without a value or a key is passed over.
+    a missing cell is false. A row without a value or a key does not count.
 
     >>> totals("quantity", by="sku", where=[("quantity", ">", 0)])
     totals('quantity', by='sku', where=[('quantity', '>', 0)])
@@ -93,27 +93,28 @@ def extrema(value: str, by: str | None = None, where: Sequence[Test] = ()) -> Sp
 
 def _spec(fold: str, value: str, by: str | None, where: Sequence[Test]) -> Spec:
     if not isinstance(value, str):
-        raise BadSpec(f"{fold} are of one column, by its name, and {value!r} is none")
+        raise BadSpec(f"{fold} takes the name of one column, not {value!r}")
     if by is not None and not isinstance(by, str):
-        raise BadSpec(f"a key is one column, by its name, and {by!r} is none")
+        raise BadSpec(f"by= takes the name of one column, not {by!r}")
     return Spec(fold, value, by, _tests(where))
 
 
 def _tests(where: Sequence[Test]) -> tuple[Test, ...]:
-    tests = []
-    for test in where:
-        if isinstance(test, str) or len(test) != 3:
-            raise BadSpec(f"a test is (column, op, constant), and {test!r} is none")
-        tests.append((test[0], test[1], test[2]))
+    tests = [where] if isinstance(where, str) else list(where)
+    if any(isinstance(test, str) for test in tests):
+        raise BadSpec(f"where is a list of tests: where=[('amount', '>', 0)], not {where!r}")
+    for test in tests:
+        if len(test) != 3:
+            raise BadSpec(f"a test is (column, op, constant), not {test!r}")
     if len(tests) > _MOST_TESTS:
         raise BadSpec()
-    return tuple(tests)
+    return tuple((column, op, constant) for column, op, constant in tests)
 
 
 def spec_struct(schema: Schema, spec: Spec) -> tuple[header.SpecStruct, Any]:
-    """Returns a spec as the library takes it, and what must be kept alive for the call."""
+    """Returns a spec as an ``fc_spec``, and the buffers that must stay alive for the call."""
     if schema[spec.value] is not int:
-        raise WrongKind(f"{spec.fold} are of numbers, and column {spec.value} has texts")
+        raise WrongKind(f"{spec.fold} need a column of numbers, but {spec.value} holds texts")
     tests = (header.TestStruct * max(1, len(spec.where)))()
     for test, (column, op, constant) in zip(tests, spec.where):
         _fill_test(test, schema, column, op, constant)
@@ -136,7 +137,7 @@ def _fill_test(test: header.TestStruct, schema: Schema, column: str, op: str, va
     ops = _NUMBER_OPS if kind is int else _TEXT_OPS
     if op not in ops:
         known = " ".join(name for name in ops if name not in ("=", "begins"))
-        raise BadArgument(f"{op!r} is no test of column {column}: those are {known}")
+        raise BadArgument(f"{op!r} cannot test column {column}: use one of {known}")
     test.op = ops[op]
     test.text_at, test.text_len = b"", 0
     constant = cell_value(column, kind, value)
@@ -153,7 +154,7 @@ Line = TypeVar("Line", Total, MinMax)
 
 
 class Watched(Generic[Line]):
-    """A live aggregate of a table: each question is answered over the rows as they are now.
+    """A live aggregate of a table: each answer is of the rows as they are now.
 
     With a key column it is like a dict from keys to ``Total`` or ``MinMax``, sorted by key:
     ``sold["bread"]``, ``sold.items()``, ``"bread" in sold``, ``len(sold)``. Without one, it has
@@ -174,7 +175,7 @@ class Watched(Generic[Line]):
         self.spec = spec
         self._number = number
         self._key_kind = None if spec.by is None else table.schema[spec.by]
-        self._struct: Any = None  # the spec as the library took it, for the script language
+        self._struct: Any = None  # the spec as an fc_spec, for the script language
         self._sum = header.SumStruct()
         self._sum_at = byref(self._sum)
         self._size = ctypes.c_size_t()
@@ -201,12 +202,12 @@ class Watched(Generic[Line]):
 
     @property
     def closed(self) -> bool:
-        """Whether it is not watched any more, or its table is closed."""
+        """Whether the aggregate was unwatched, or its table is closed."""
         return self._number < 0 or not self.table._handle.is_open
 
     @property
     def pending(self) -> int:
-        """How many row groups are to be built into the aggregate, at the first question."""
+        """How many row groups the next question has to build into the aggregate first."""
         with self.table._lock:
             return self.table._open_handle().pending(self.number)[0]
 
@@ -218,7 +219,7 @@ class Watched(Generic[Line]):
 
     @property
     def value(self) -> Any:
-        """The only line of an aggregate without key; None if extrema have no value."""
+        """The only line of an aggregate without a key; None for extrema of no values."""
         self._need_no_key()
         with self.table._lock:
             if self._is_plain and self._number >= 0 and self.table._handle.is_open:
@@ -239,28 +240,28 @@ class Watched(Generic[Line]):
 
     @property
     def count(self) -> int | None:
-        """How many values there are, of totals without key."""
+        """The number of values, for totals without a key."""
         return self._part("count")
 
     @property
     def sum(self) -> int | None:
-        """The sum of the values, of totals without key."""
+        """The sum of the values, for totals without a key."""
         return self._part("sum")
 
     @property
     def mean(self) -> float | None:
-        """The mean of the values, of totals without key; None if there are none."""
+        """The mean of the values, for totals without a key; None if there are none."""
         mean: float | None = self.value.mean if self._fold is Total else self._part("mean")
         return mean
 
     @property
     def min(self) -> int | None:
-        """The least value, of extrema without key; None if there is none."""
+        """The least value, for extrema without a key; None if there is none."""
         return self._part("min")
 
     @property
     def max(self) -> int | None:
-        """The greatest value, of extrema without key; None if there is none."""
+        """The greatest value, for extrema without a key; None if there is none."""
         return self._part("max")
 
     # With a key column
@@ -272,14 +273,14 @@ class Watched(Generic[Line]):
         return found
 
     def _no_key(self, key: Any) -> Exception:
-        """Returns what is said of a key without a line: one of another kind can never have one."""
+        """Returns the exception for a key without a line, or of a kind that can have none."""
         kind = self._key_kind
         if kind is None or isinstance(key, kind) or (kind is int and hasattr(key, "__index__")):
             return KeyError(key)
         return WrongKind(column=self.spec.by, kind=kind.__name__, value=key)
 
     def get(self, key: Key, default: Any = None) -> Any:
-        """Returns the line of a key, and the default if there is none."""
+        """Returns the line of a key, or the default if there is none."""
         if key.__class__ is not self._key_kind:
             return self._get_other(key, default)
         acquire, release, slots, of_key, ask, unpack, fold = self._for_get
@@ -302,7 +303,7 @@ class Watched(Generic[Line]):
         return default if found is None else found
 
     def _get_other(self, key: Any, default: Any) -> Any:
-        """Returns the line of a key whose class is not the one that most keys have."""
+        """Returns the line of a key that is not exactly an int or a str."""
         if self._key_kind is None:
             raise Nothing("this aggregate has no keys: ask for its value")
         if self._key_kind is int and hasattr(key, "__index__"):
@@ -312,7 +313,7 @@ class Watched(Generic[Line]):
         return self.get(str.__str__(key), default)
 
     def _line_of(self, key: Key | None) -> Any:
-        """Returns the line of one key, and makes no other; None if there is none."""
+        """Computes the line of one key and no other; None if there is none."""
         slots, number = self._slots, self.number
         slot = slots.take(key)
         code = slots.fc_ask_key(self._at, number, *slot[:2])
@@ -326,7 +327,7 @@ class Watched(Generic[Line]):
         return slots.line(slot)
 
     def _ask(self) -> int:
-        """Has the answer stay in the handle, unless it is there; returns how many lines it has."""
+        """Computes the answer into the handle, unless it is there; returns its number of lines."""
         table = self.table
         if table._answer is self:
             return self._size.value
@@ -344,7 +345,7 @@ class Watched(Generic[Line]):
             return self._lines.first(self._ask())
 
     def items(self) -> list[tuple[Key, Line]]:
-        """Returns all keys with their lines, sorted; one answer of one moment."""
+        """Returns all keys with their lines, sorted, as of one moment."""
         return self.lines()
 
     def keys(self) -> list[Key]:
@@ -353,7 +354,7 @@ class Watched(Generic[Line]):
             return self._lines.keys(self._ask())
 
     def values(self) -> list[Line]:
-        """Returns the lines of all keys, in their order."""
+        """Returns the lines of all keys, in the order of the keys."""
         with self.table._lock:
             return self._lines.values(self._ask())
 
@@ -386,7 +387,7 @@ class Watched(Generic[Line]):
 
     def __repr__(self) -> str:
         if self.closed:
-            return f"<{self.spec!r}, not watched any more>"
+            return f"<{self.spec!r}, no longer watched>"
         with self.table._lock:
             pending = self.pending
             if pending:

@@ -19,9 +19,9 @@ Value = Union[int, str, None]
 class Column:
     """A column of a table, read by places.
 
-    ``column[place]`` is a value, None if it is missing. ``column[0:1000]`` of numbers is a masked
-    array of numpy, and a list with None where numpy is not installed; of texts it is a list. What
-    is missing is masked (or None), and so is the place of a row that was removed.
+    ``column[place]`` is a value, None if it is missing. ``column[0:1000]`` is a masked array of
+    numpy for numbers, and a list for texts or if numpy is not installed. Missing cells and cells
+    of removed rows are masked, or None in a list.
 
     >>> table.extend([("bread", 5), ("rye", None), ("oat", 1)])
     range(0, 3)
@@ -29,7 +29,7 @@ class Column:
     (['rye', 'oat'], 5, [5, None, 1], ['oat', 'bread'])
 
     An assignment sets cells: ``column[place] = value``; ``column[places] = values``, or one value
-    for all of them. Places, to read or to set, are a slice, a list, an array, or a mask, as in
+    for all of them. Places to read or to set are a slice, a list, an array, or a mask, as for
     `Table.set_column`.
 
     >>> table["quantity"][1:] = [3, 2]
@@ -44,7 +44,7 @@ class Column:
         self.index, self.kind = table._column(name)
 
     def __len__(self) -> int:
-        """How many places there are, removed rows among them."""
+        """The number of places, with those of removed rows."""
         return self.table.places
 
     @overload
@@ -117,7 +117,7 @@ class Column:
             return read(self.index, start, stop)
 
     def to_numpy(self) -> Any:
-        """Returns the whole column as a masked array of numpy; of texts it is one of objects."""
+        """Returns the whole column as a masked array of numpy, of ``object`` for texts."""
         numpy = needed("numpy", "to_numpy")
         part = self[:]
         if self.kind is int:
@@ -127,13 +127,13 @@ class Column:
         return array(numpy.array(part, dtype=object), mask=missing)
 
     def to_list(self) -> list[Value]:
-        """Returns the whole column as a list, with None for what is missing or removed."""
+        """Returns the whole column as a list, with None for missing cells and removed rows."""
         part = self[:]
         values: list[Value] = part if isinstance(part, list) else part.tolist()
         return values
 
     def __iter__(self) -> Iterator[Value]:
-        """The values of all live rows, in the order of their places."""
+        """Yields the values of all live rows, in the order of their places."""
         for batch in self.table.batches(columns=[self.name]):
             yield from batch[self.name]
 
@@ -143,9 +143,9 @@ class Column:
 
 
 class Batch(Mapping[str, Any]):
-    """Live rows of a part of a table: ``batch["quantity"]`` is a column, ``batch.places`` where.
+    """Live rows of a range of places: ``batch["quantity"]`` is a column, ``batch.places`` places.
 
-    Columns are lists with None for what is missing. ``len(batch)`` counts them, as of a dict.
+    Columns are lists with None for missing cells. ``len(batch)`` counts the columns, as for a dict.
     """
 
     def __init__(self, places: list[int], columns: dict[str, list[Value]]) -> None:
@@ -161,11 +161,11 @@ class Batch(Mapping[str, Any]):
         return iter(self._columns)
 
     def __len__(self) -> int:
-        """How many columns it has."""
+        """The number of columns."""
         return len(self._columns)
 
     def rows(self) -> Iterator[tuple[Value, ...]]:
-        """The rows, each as a tuple."""
+        """Yields the rows as tuples."""
         return zip(*self._columns.values())
 
     def __repr__(self) -> str:
@@ -173,7 +173,7 @@ class Batch(Mapping[str, Any]):
 
 
 def read_batch(table: Table, names: list[str], start: int, stop: int) -> Batch:
-    """Reads the live rows of a part of a table."""
+    """Reads the live rows of a range of places."""
     columns: dict[str, list[Value]] = {}
     alive: Any = b""
     with table._lock:

@@ -1,4 +1,4 @@
-"""CSV files, which are read in chunks into a table."""
+"""Reads CSV files in chunks into a table."""
 
 from __future__ import annotations
 
@@ -26,8 +26,8 @@ if TYPE_CHECKING:
 
 Convert = Callable[[str], Union[int, str, None]]
 
-_ROWS = 20_000  # rows that are read, and then inserted, at a time
-_GUESSED = 1000  # rows from which kinds are guessed
+_ROWS = 20_000  # rows to read, and then insert, at a time
+_GUESSED = 1000  # rows to guess the kinds of columns from
 _NUMBER = re.compile(r"[+-]?[0-9]+")
 _PLAIN = re.compile(r"0|-?[1-9][0-9]{0,18}")
 _DECIMAL = re.compile(r"([+-]?)([0-9]*)(?:[.]([0-9]*))?")
@@ -36,9 +36,9 @@ _DIGITS = "0123456789+-"
 
 
 class CsvError(ValueError):
-    """A CSV file that is not as it should be. Says where: ``line``, ``column``, ``text``.
+    """A CSV file is invalid; ``line``, ``column`` and ``text`` say where.
 
-    ``line`` is that of the file, counted from 1, with the header. Rows of earlier chunks are in.
+    ``line`` counts the file's lines from 1, with the header. The rows of earlier chunks stay.
     """
 
     def __init__(
@@ -58,7 +58,7 @@ class CsvError(ValueError):
 
 @dataclass
 class CsvOptions:
-    """How a CSV file is read, as `read_csv` says."""
+    """The options of `read_csv`."""
 
     delimiter: str | None = None
     header: bool = True
@@ -71,10 +71,10 @@ class CsvOptions:
 
 
 def scaled(digits: int) -> Convert:
-    """Returns a function that reads a decimal text as a whole number of its smallest part.
+    """Returns a function that reads a decimal as a whole number of its smallest unit.
 
-    For ``convert=`` of `read_csv`: so 1.99 is read as 199, exactly. A text with more decimals is
-    refused, and so are other numbers of decimals than 0 to 18.
+    It is for ``convert=`` of `read_csv`: ``scaled(2)`` reads 1.99 as 199, exactly, and refuses a
+    text with more decimals. ``digits`` is 0 to 18.
 
     >>> cents = scaled(2)
     >>> cents("1.99"), cents("-3"), cents("0.5"), cents("")
@@ -82,7 +82,7 @@ def scaled(digits: int) -> Convert:
     """
 
     if not isinstance(digits, int) or not 0 <= digits <= 18:
-        raise BadArgument(f"scaled takes 0 to 18 decimals, as scaled(2), and {digits!r} is none")
+        raise BadArgument(f"scaled takes 0 to 18 decimals, as scaled(2), not {digits!r}")
 
     def convert(text: str) -> int | None:
         text = text.strip()
@@ -90,25 +90,25 @@ def scaled(digits: int) -> Convert:
         if not text:
             return None
         if found is None or not (found[2] or found[3]):
-            raise ValueError(f"{text!r} is no decimal number")
+            raise ValueError(f"{text!r} is not a decimal number")
         part = (found[3] or "").rstrip("0")
         if len(part) > digits:
             said = f"{text!r} has more than {digits} decimals"
-            raise ValueError(f"{said}: scaled({len(part)}) reads it")
+            raise ValueError(f"{said}: use scaled({len(part)})")
         return int(f"{found[1]}{found[2]}{part:0<{digits}}")
 
     return convert
 
 
 class _Source:
-    """A CSV file that is read some rows at a time."""
+    """A CSV file, read in chunks of rows."""
 
     def __init__(self, path: Any, options: CsvOptions) -> None:
         self.name = getattr(path, "name", "the file") if hasattr(path, "read") else str(path)
         self._owns = not hasattr(path, "read")
         delimiter = "," if options.delimiter is None else options.delimiter
         if not isinstance(delimiter, str) or len(delimiter) != 1:
-            raise CsvError(self.name, f"a delimiter is one character, and {delimiter!r} is none")
+            raise CsvError(self.name, f"a delimiter is one character, not {delimiter!r}")
         self.encoding = _codec(self.name, options.encoding)
         self._file, self._counted, self.size = _opened(path, self.encoding)
         self._reader = csv.reader(self._file, delimiter=delimiter, strict=True)
@@ -121,11 +121,11 @@ class _Source:
             self._counted.close()
 
     def position(self) -> int:
-        """Returns how many bytes were read, of ``size``."""
+        """Returns how many of the ``size`` bytes were read."""
         return int(self._counted.tell()) if self._counted is not None else 0
 
     def read(self, count: int) -> list[list[str]]:
-        """Returns the next rows, which are as many unless the file ends; empty ones are no rows."""
+        """Returns the next ``count`` rows, fewer at the end of the file; skips empty ones."""
         self._first_line = self._reader.line_num
         try:
             return list(islice(self._reader, count))
@@ -133,21 +133,21 @@ class _Source:
             raise CsvError(self.name, _said(str(error)), self._reader.line_num) from None
 
     def line_of(self, rows: Sequence[Sequence[str]], index: int) -> int:
-        """Returns the line in which a row of those that were read last begins."""
+        """Returns the line at which one of the rows read last begins."""
         before = sum(len(_NEWLINE.findall(field)) for row in rows[:index] for field in row)
         return self._first_line + index + before + 1
 
 
 def _codec(path: Any, encoding: str) -> str:
-    """Returns the name of an encoding, and refuses one that there is not."""
+    """Returns the normal name of an encoding; refuses an unknown one."""
     try:
         return codecs.lookup(encoding).name
     except LookupError:
-        raise CsvError(path, f"there is no encoding {encoding!r}") from None
+        raise CsvError(path, f"unknown encoding {encoding!r}") from None
 
 
 def _opened(path: Any, encoding: str) -> tuple[Any, Any, int]:
-    """Returns a file of text, the file whose position is counted, and its size, 0 if unknown."""
+    """Returns the text file, the file whose position shows progress, and its size or 0."""
     encoding = "utf-8-sig" if encoding == "utf-8" else encoding
     coding: Any = {"encoding": encoding, "errors": "surrogateescape", "newline": ""}
     if hasattr(path, "read"):
@@ -162,20 +162,20 @@ def _opened(path: Any, encoding: str) -> tuple[Any, Any, int]:
 
 def _said(error: str) -> str:
     if "unexpected end" in error:
-        return "a quote is opened, and never closed"
+        return "a quote is opened but never closed"
     if "expected after" in error:
-        return "behind a closing quote comes neither a delimiter nor the line's end"
+        return "a closing quote is followed by neither a delimiter nor the end of the line"
     return error
 
 
 class _Plan:
-    """Which field of a row goes to which column, and of what kind it is."""
+    """Assigns the fields of a row to columns and kinds."""
 
     def __init__(self, source: _Source, options: CsvOptions, schema: Schema | None) -> None:
         self.source, self.options = source, options
         for name, convert in (options.convert or {}).items():
             if not callable(convert):
-                said = "is no function of a text; give one, as fc.scaled(2)"
+                said = "is not a function; give one, as fc.scaled(2)"
                 raise TypeError(f"convert of column {name}: {convert!r} {said}")
         self.first = source.read(_GUESSED + 1)
         self._refuse_one_field()
@@ -183,7 +183,7 @@ class _Plan:
         wanted = list(options.columns or (schema.names if schema else names))
         for name in wanted:
             if name not in names:
-                said = f"there is no column {name!r}; there are {', '.join(names)}"
+                said = f"there is no column {name!r}; the columns are {', '.join(names)}"
                 raise CsvError(source.name, said, 1)
         if schema is not None and options.columns is None:
             for name in names:
@@ -195,12 +195,12 @@ class _Plan:
         self.guessed = schema is None
 
     def _refuse_one_field(self) -> None:
-        """Refuses a first row of one field with another delimiter in it, unless one is given."""
+        """Refuses a first row of one field with another delimiter in it, unless one was named."""
         row: Sequence[str] = next((row for row in self.first if row), ())
         mark = _other_delimiter(row) if self.options.delimiter is None else None
         if mark is not None and len(self.options.names or ()) != 1:
-            said = f"the first row is one field, {row[0]!r:.60}: delimiter={mark!r} cuts it"
-            raise CsvError(self.source.name, f"{said}, delimiter=',' leaves it whole", 1)
+            said = f"the first row is one field, {row[0]!r:.60}: delimiter={mark!r} splits it"
+            raise CsvError(self.source.name, f"{said}, delimiter=',' keeps it whole", 1)
 
     def _names(self) -> list[str]:
         options, source = self.options, self.source
@@ -224,8 +224,8 @@ class _Plan:
             if name not in names:
                 raise CsvError(self.source.name, f"there is no column {name!r}", 1)
         if len(names) > MAX_COLUMNS:
-            said = f"{len(names)} columns, and a table has at most {MAX_COLUMNS}"
-            said += ": choose by columns="
+            said = f"there are {len(names)} columns, but a table has at most {MAX_COLUMNS}"
+            said += ": choose some by columns="
             raise CsvError(self.source.name, said, 1)
         rows = [row for row in self.first if len(row) == self.width]
         for name, field in zip(names, self.fields):
@@ -234,7 +234,7 @@ class _Plan:
         return {name: given[name] for name in names}
 
     def _guess(self, name: str, texts: Sequence[str]) -> type:
-        """Returns int if there are numbers and nothing else; 007 is no number but a text."""
+        """Returns int if all texts are whole numbers, else str; 007 is a text."""
         convert = (self.options.convert or {}).get(name)
         if convert is not None:
             return str if any(isinstance(_tried(convert, text), str) for text in texts) else int
@@ -243,7 +243,7 @@ class _Plan:
         return int if some and numbers else str
 
     def rows_at_a_time(self) -> Iterator[list[list[str]]]:
-        """Yields the rows, some at a time; rows of empty lines are empty lists."""
+        """Yields lists of rows; an empty line is an empty list."""
         rows, full = self.first, _GUESSED + 1
         self.first = []
         while rows:
@@ -252,7 +252,7 @@ class _Plan:
             full = _ROWS
 
     def columns(self, rows: list[list[str]]) -> dict[str, Any]:
-        """Returns rows as columns of values of their kinds."""
+        """Converts rows to columns of values of their kinds."""
         if not set(map(len, rows)) <= {0, self.width}:
             self._refuse_width(rows)
         if [] in rows:
@@ -271,7 +271,7 @@ class _Plan:
 
     def _refuse_width(self, rows: list[list[str]]) -> None:
         index, row = next((i, r) for i, r in enumerate(rows) if len(r) not in (0, self.width))
-        said = f"{len(row)} field{'' if len(row) == 1 else 's'}, and there should be {self.width}"
+        said = f"{len(row)} field{'' if len(row) == 1 else 's'} instead of {self.width}"
         raise CsvError(self.source.name, said, self.source.line_of(rows, index))
 
     def _texts(self, texts: Sequence[str]) -> Sequence[str | None]:
@@ -281,7 +281,7 @@ class _Plan:
         return [None if text == missing else text for text in texts]
 
     def _numbers(self, texts: Sequence[str]) -> Any:
-        """Returns numbers; a field that is none raises ValueError, and is then looked for."""
+        """Converts texts to numbers; raises ValueError if one is not a number."""
         if not "".join(texts).strip(_DIGITS):
             if "" not in texts:
                 return array("q", map(int, texts))
@@ -295,7 +295,7 @@ class _Plan:
         return MaskedNumbers(numbers, pack_bits(stripped))
 
     def explained(self, rows: list[list[str]], error: Exception) -> Exception:
-        """Returns the error that says where the fault of the rows read last is."""
+        """Finds the invalid field among the rows read last; returns an error that names it."""
         for index, row in enumerate(rows):
             for name, kind, field in zip(self.schema.names, self.schema.kinds, self.fields):
                 sentence = self._fault(name, kind, row[field]) if row else None
@@ -307,15 +307,15 @@ class _Plan:
         return error
 
     def _is_chosen(self, name: str) -> bool:
-        """Whether the caller says how a column is read."""
+        """Whether the caller gave the column a type or a conversion."""
         return name in (self.options.types or {}) or name in (self.options.convert or {})
 
     def _advice(self, name: str, rows: list[list[str]], field: int) -> str:
-        """Returns how to read a column that was taken for whole numbers."""
+        """Returns the options that read a column wrongly guessed to be int."""
         found = [_DECIMAL.fullmatch(row[field].strip()) for row in rows if row]
         digits = max((len(match[3] or "") for match in found if match), default=0)
         decimals = f"convert={{{name!r}: fc.scaled({digits})}} reads decimals, " if digits else ""
-        return f"{decimals}types={{{name!r}: str}} has texts"
+        return f"{decimals}types={{{name!r}: str}} reads texts"
 
     def _fault(self, name: str, kind: type, text: str) -> str | None:
         convert = (self.options.convert or {}).get(name)
@@ -324,36 +324,36 @@ class _Plan:
             if isinstance(value, Exception):
                 return str(value)
             fits = value is None or (_fits(value) if isinstance(value, int) else kind is str)
-            return None if fits else f"{text!r} is converted to {value!r}, which does not fit"
+            return None if fits else f"convert= makes {value!r} of {text!r}, which does not fit"
         shown = repr(text if len(text) <= 40 else text[:39] + "…")
         if kind is int:
             stripped = "" if text == self.options.missing else text.strip()
             if not stripped or (_NUMBER.fullmatch(stripped) and _fits(int(stripped))):
                 return None
-            return f"{shown} is no whole number of 64 bits"
+            return f"{shown} is not a whole number of 64 bits"
         try:
             length = len(text.encode())
         except UnicodeEncodeError:
             return _not_in(self.source.encoding, text)
         if length > MAX_TEXT:
-            return f"{shown} has {length:,} bytes, and a text at most {MAX_TEXT:,}"
+            return f"{shown} has {length:,} bytes, but a text has at most {MAX_TEXT:,}"
         return None
 
 
 def _other_delimiter(row: Sequence[str]) -> str | None:
-    """Returns the delimiter that a row of one field seems to have."""
+    """Guesses the delimiter of a row of one field."""
     return next((mark for mark in ";\t|" if len(row) == 1 and mark in row[0]), None)
 
 
 def _not_in(encoding: str, text: str) -> str:
-    """Returns the sentence on a text that has bytes which are none of an encoding."""
+    """Returns the sentence for a text that is not valid in an encoding."""
     name = "UTF-8" if encoding == "utf-8" else encoding
     raw = text.encode("utf-8", "surrogateescape")[:40]
-    return f'{raw!r} is not in {name}: encoding="latin-1" may help'
+    return f'{raw!r} is not valid {name}: try encoding="latin-1"'
 
 
 def _tried(convert: Convert, text: str) -> Any:
-    """Returns what a text is converted to, or the exception that says why it is not."""
+    """Returns the converted text, or the exception that the conversion raised."""
     try:
         return convert(text)
     except Exception as error:
@@ -365,7 +365,7 @@ def _fits(number: int) -> bool:
 
 
 def _checked(source: _Source, names: list[str]) -> list[str]:
-    """Returns names of columns; refuses one that is empty, not printable, or there twice."""
+    """Returns the names of columns; refuses an empty, an unprintable and a repeated one."""
     path = source.name
     for index, name in enumerate(names):
         if not name:
@@ -375,7 +375,7 @@ def _checked(source: _Source, names: list[str]) -> list[str]:
         if any("\ud800" <= letter < "\ue000" for letter in name):
             raise CsvError(path, _not_in(source.encoding, name), 1)
         if not name.isprintable():
-            raise CsvError(path, f"{name!r} is no name of a column", 1)
+            raise CsvError(path, f"{name!r} cannot name a column: it is not printable", 1)
     return names
 
 
@@ -426,20 +426,21 @@ def read_csv(
     encoding: str = "utf-8",
     **table: Any,
 ) -> Table:
-    """Makes a table of a CSV file, which is read in chunks; it may be larger than memory.
+    """Reads a CSV file into a new table, in chunks; the file may be larger than memory.
 
     - ``path``: a path (``.gz`` is read too) or an open file.
-    - ``delimiter``: a comma; a first row of one field that has another one must be read by name.
-    - ``header``: whether the first row has the columns' names; ``names`` are used instead.
-    - ``columns``: which columns to take.
-    - ``types``: kinds of some columns, ``int`` or ``str``; others are guessed from the first rows:
-      int if there are whole numbers alone. Numbers with leading zeros, as 007, are texts.
-    - ``missing``: a field that stands for a missing cell. An empty field of a column of numbers is
-      one, too; of texts it is an empty text, unless ``missing=""``.
+    - ``delimiter``: a comma by default; a first row of one field with another one in it is refused
+      until you name one.
+    - ``header``: whether the first row has the columns' names; ``names`` replaces them.
+    - ``columns``: which columns to read.
+    - ``types``: the kinds of some columns, ``int`` or ``str``. Others are guessed from the first
+      rows: int if all are whole numbers. Numbers with leading zeros, as 007, are texts.
+    - ``missing``: the field of a missing cell. In a column of numbers an empty field is missing
+      too; in a column of texts it is an empty text, unless ``missing=""``.
     - ``convert``: functions of a field's text for some columns, as ``{"price": scaled(2)}``.
-    - ``encoding``: how the file's texts are encoded, as ``"latin-1"``.
-    - ``progress``: True shows a bar on a terminal; or a callable of bytes done and all bytes.
-    - All else goes to `Table`: ``local="64MB"``, ``far=``, ``policy=`` ..
+    - ``encoding``: the file's encoding, as ``"latin-1"``.
+    - ``progress``: True shows a bar on a terminal; a callable gets the bytes done and all bytes.
+    - All other options go to `Table`: ``local="64MB"``, ``far=``, ``policy=`` ..
 
     >>> import io
     >>> read_csv(io.StringIO("sku,quantity\\nbread,5\\nrye,\\n"), local="1MB")
@@ -454,7 +455,7 @@ def read_csv(
 
 
 def csv_options(call: str, given: dict[str, Any]) -> CsvOptions:
-    """Returns options that are given by names; refuses one that there is not."""
+    """Returns options from keyword arguments; refuses an unknown one."""
     refuse_unknown(call, given, [field.name for field in fields(CsvOptions)])
     return CsvOptions(**given)
 

@@ -1,4 +1,4 @@
-"""How a table is shown: as text, and as HTML in notebooks."""
+"""Shows tables and answers: as text, and as HTML in notebooks."""
 
 from __future__ import annotations
 
@@ -43,7 +43,7 @@ def _some(table: Table, count: int, starts: range, backwards: bool) -> list[tupl
 
 
 def _head_and_tail(table: Table) -> list[tuple[int, Any] | None]:
-    """Returns the rows to show; None where others lie between."""
+    """Returns the rows to show, with None for the rows left out between them."""
     if len(table) <= 2 * _SHOWN:
         return list(first_rows(table, 2 * _SHOWN))
     return [*first_rows(table, _SHOWN), None, *last_rows(table, _SHOWN)]
@@ -61,7 +61,7 @@ def _cell(value: Any) -> str:
 
 
 def call_of(schema: Schema, local_bytes: int, engine: Any) -> str:
-    """Returns the call that makes such a table."""
+    """Returns a call that opens a table with this schema, as Python source."""
     pairs = ", ".join(f"{n!r}: {k.__name__}" for n, k in zip(schema.names, schema.kinds))
     return f"Table({{{pairs}}}, local={local_bytes}, far={engine!r})"
 
@@ -79,7 +79,7 @@ def as_text(table: Table) -> str:
 
 
 def rows_as_text(table: Table, rows: Sequence[tuple[int, Any] | None]) -> str:
-    """Returns rows with their places in aligned columns; None stands for rows between."""
+    """Returns rows with their places in aligned columns; None is shown as an ellipsis."""
     kinds = table.schema.kinds
     lines = [["place", *table.schema.names], ["", *(kind.__name__ for kind in kinds)]]
     for item in rows:
@@ -163,10 +163,10 @@ def answer_as_html(watched: Watched[Any]) -> str:
         rest = "".join(f'<td class="n">{value}</td>' for value in line)
         rows.append(f"<tr>{first}{rest}</tr>")
     more = len(lines) - _MOST_LINES
-    behind = f"<p>and {counted(more, 'line')} more</p>" if more > 0 else ""
+    footer = f"<p>and {counted(more, 'line')} more</p>" if more > 0 else ""
     return (
         f'{_STYLE}<div class="fc-table">{about}<table><thead><tr>{"".join(heads)}</tr></thead>'
-        f"<tbody>{''.join(rows)}</tbody></table>{behind}</div>"
+        f"<tbody>{''.join(rows)}</tbody></table>{footer}</div>"
     )
 
 

@@ -1,9 +1,9 @@
-"""Engines keep the contents of objects that are away.
+"""Engines, which keep the contents of objects that are away.
 
 An engine is any object with ``put(number, content)`` and ``get(number)``. It need not be trusted:
-the library checks each content that comes back. Three more methods are used if they are there:
-``prepare()`` says that a table opens on it, and may refuse; ``discard(number)`` says that a content
-will not be asked for again, ``close()`` that none will.
+the library checks each content that it returns. A table calls three more methods if an engine has
+them: ``prepare()`` when it opens, which may refuse; ``discard(number)`` when it will not ask for a
+content again; ``close()`` at its end.
 
 >>> class Folder:
 ...     "An engine in five lines: a file for each content."
@@ -31,10 +31,10 @@ from .errors import BadArgument
 
 @runtime_checkable
 class Engine(Protocol):
-    """What every engine has."""
+    """The two methods of every engine."""
 
     def put(self, number: int, content: bytes) -> Any:
-        """Keeps a content under a number that was not used before, or raises an exception."""
+        """Keeps a content under a new number, or raises an exception."""
 
     def get(self, number: int) -> bytes:
         """Returns the content of a number, or raises an exception."""
@@ -44,14 +44,17 @@ _in_use: set[int] = set()
 
 
 def take(engine: Engine) -> Engine:
-    """Returns an engine for a table, which no other open table may use.
+    """Takes an engine for a table, which no other open table may use then.
 
-    Refuses what is no engine, one that is in use, and one that cannot keep contents.
+    Refuses an object without ``put`` or ``get``, an engine in use, and one that cannot prepare.
     """
     if not callable(getattr(engine, "put", None)) or not callable(getattr(engine, "get", None)):
-        raise TypeError(f"{engine!r} is no engine: it has no put and get")
+        said = f"{engine!r} is not an engine: it lacks put or get"
+        if isinstance(engine, (str, os.PathLike)):
+            said += f"; for a file, write fc.Files({os.fspath(engine)!r})"
+        raise TypeError(said)
     if id(engine) in _in_use:
-        raise BadArgument(f"{engine!r} is the engine of another table")
+        raise BadArgument(f"another open table uses {engine!r}; give each table its own engine")
     _in_use.add(id(engine))
     prepare = getattr(engine, "prepare", None)
     if prepare is not None:
@@ -64,25 +67,25 @@ def take(engine: Engine) -> Engine:
 
 
 def release(engine: Engine) -> None:
-    """Says that a table does not use an engine any more."""
+    """Marks an engine as not in use."""
     _in_use.discard(id(engine))
 
 
 def shown_engine(engine: Any) -> str:
-    """Returns an engine as a sentence names it: its repr, or its class if that is long."""
+    """Names an engine in a sentence: its repr, or its class if the repr is long."""
     shown = repr(engine)
     return type(engine).__name__ if len(shown) > 100 or " object at 0x" in shown else shown
 
 
 def close_engine(engine: Any) -> None:
-    """Closes an engine, if it can be closed."""
+    """Closes an engine that has ``close``."""
     close = getattr(engine, "close", None)
     if close is not None:
         close()
 
 
 class Memory:
-    """Keeps contents in this process, in a dict: for tests and to try things.
+    """Keeps contents in this process, in a dict: for tests and trials.
 
     >>> engine = Memory()
     >>> engine.put(0, b"content")
@@ -117,13 +120,13 @@ class Memory:
 
 
 class Files:
-    """Keeps contents in a file, which is made when a table opens on it and removed at the close.
+    """Keeps contents in a file, which a table creates when it opens and removes when it closes.
 
-    A path at which there can be no such file is refused then, with an ``OSError`` that names it.
-    The file is of use to nobody once the table is gone: it is no saved table. A file that a process
-    left when it was killed is used again; any other file at this path is left alone, with
-    ``FileExistsError``. The space of a content that is discarded is used again for a content of the
-    same length. Memory for each content: 12 bytes.
+    Opening raises an ``OSError`` that names the path if the file cannot be there. The file is not
+    a saved table: without the open table it is useless. A file of a killed process, or an empty
+    one, is overwritten; any other file at this path is kept, with ``FileExistsError``. A new
+    content reuses the space of a discarded one of the same length. Each content takes 12 bytes of
+    memory.
 
     >>> import os, tempfile
     >>> with tempfile.TemporaryDirectory() as folder:
@@ -146,7 +149,7 @@ class Files:
         self._free: dict[int, list[int]] = {}
 
     def prepare(self) -> None:
-        """Makes the file, unless it is there; refuses a path at which it cannot be."""
+        """Creates the file, unless it was created already; refuses a path where it cannot be."""
         if self._file >= 0:
             return
         try:
@@ -161,7 +164,7 @@ class Files:
         self._file, self._end = file, len(self.MARK)
 
     def _begin(self, file: int) -> None:
-        """Empties a file of contents; refuses one that is of someone else, or in use."""
+        """Empties a file of contents or an empty one; refuses any other file, and one in use."""
         other = "give Files another path"
         try:
             fcntl.flock(file, fcntl.LOCK_EX | fcntl.LOCK_NB)
@@ -170,7 +173,7 @@ class Files:
             raise FileExistsError(said) from None
         is_plain = stat.S_ISREG(os.fstat(file).st_mode)
         if not is_plain or os.pread(file, len(self.MARK), 0) not in (b"", self.MARK):
-            said = f"{self.path} is no file of contents, and is left as it is"
+            said = f"{self.path} exists and was not made by Files, so it was not changed"
             raise FileExistsError(f"{said}: {other}")
         os.ftruncate(file, 0)
         os.pwrite(file, self.MARK, 0)
@@ -201,7 +204,7 @@ class Files:
         return os.pread(self._file, self._lengths[number], offset)
 
     def discard(self, number: int) -> None:
-        """Gives the space of a content to later ones."""
+        """Frees the space of a content for later ones."""
         if 0 <= number < len(self._offsets) and self._offsets[number] >= 0:
             self._free.setdefault(self._lengths[number], []).append(self._offsets[number])
             self._offsets[number] = -1
@@ -217,7 +220,7 @@ class Files:
 
     @property
     def size(self) -> int:
-        """How many bytes the file has."""
+        """The size of the file in bytes."""
         return self._end
 
     def __del__(self) -> None:
@@ -225,14 +228,14 @@ class Files:
 
     def __reduce_ex__(self, protocol: SupportsIndex) -> NoReturn:
         """Refuses a copy, which would remove the file that it shares, and a pickle."""
-        raise TypeError("an engine of Files cannot be copied or pickled; make one of another path")
+        raise TypeError("Files cannot be copied or pickled; make one with another path")
 
     def __repr__(self) -> str:
         return f"Files({str(self.path)!r})"
 
 
 def _no_file(path: Path, error: OSError) -> str:
-    """Returns the sentence on a path at which no file can be opened."""
+    """Returns the sentence for a path where no file can be opened."""
     if isinstance(error, FileNotFoundError):
         return f"{path}: there is no folder {path.parent}; make it, or give Files another path"
     if isinstance(error, IsADirectoryError):
@@ -248,13 +251,13 @@ def _write_all(file: int, content: bytes, offset: int) -> None:
 
 
 class _Keyed:
-    """An engine over a client that knows contents by keys: a prefix of its own, then the number."""
+    """An engine over a client with keys: a prefix of the engine's own, then the number."""
 
     _BATCH = 500
 
     def __init__(self, prefix: str | None) -> None:
         self.prefix = prefix if prefix is not None else f"fullercoral:{secrets.token_hex(8)}:"
-        self._kept = bytearray()  # a byte for each number: whether something may be kept under it
+        self._kept = bytearray()  # for each number, whether the server may have a content
 
     def _key(self, number: int) -> str:
         return f"{self.prefix}{number}"
@@ -271,7 +274,7 @@ class _Keyed:
         return True
 
     def _rest(self) -> list[list[str]]:
-        """Returns the keys of all that is kept still, in batches, and forgets them."""
+        """Returns the keys of all remaining contents, in batches, and forgets them."""
         keys = [self._key(number) for number, kept in enumerate(self._kept) if kept]
         self._kept.clear()
         return [keys[at : at + self._BATCH] for at in range(0, len(keys), self._BATCH)]
@@ -281,12 +284,12 @@ class Redis(_Keyed):
     """Keeps contents in a server that speaks the Redis protocol, or in a cluster of them.
 
     ``client`` is a ``redis.Redis`` or a ``redis.cluster.RedisCluster`` with ``decode_responses``
-    off, or anything with its ``set``, ``get`` and ``delete``. A call that fails is tried again
-    ``retries`` times, ``pause`` seconds apart. Keys begin with ``prefix``, a random one if none is
-    given, and are deleted at the close; the client stays open.
+    off, or any object with its ``set``, ``get`` and ``delete``. A failed call is repeated
+    ``retries`` times, ``pause`` seconds apart. Keys begin with ``prefix``, random if none is given,
+    and are deleted at the close; the client stays open.
 
-    Mind the server's ``maxmemory-policy``: a server that evicts keys loses contents, which is seen
-    as an error when they are asked for.
+    Check the server's ``maxmemory-policy``: a server that evicts keys loses contents, and a later
+    call that needs one fails.
     """
 
     def __init__(
@@ -338,9 +341,9 @@ class Redis(_Keyed):
 class S3(_Keyed):
     """Keeps contents as objects in a bucket of any server that speaks S3.
 
-    ``client`` is what ``boto3.client("s3", ..)`` returns, which tries failed requests again as its
-    configuration says. Keys begin with ``prefix``, a random one if none is given, and are deleted
-    at the close; the bucket must be there.
+    ``client`` is the result of ``boto3.client("s3", ..)``, which repeats failed requests as its
+    configuration says. Keys begin with ``prefix``, random if none is given, and are deleted at the
+    close; the bucket must exist.
     """
 
     def __init__(self, client: Any, bucket: str, prefix: str | None = None) -> None:

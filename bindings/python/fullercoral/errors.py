@@ -3,7 +3,7 @@
 >>> raise NoColumn(column="prize", columns=("sku", "price"))
 Traceback (most recent call last):
     ...
-fullercoral.errors.NoColumn: there is no column 'prize'; there are sku, price [4]
+fullercoral.errors.NoColumn: there is no column 'prize'; the columns are sku, price [4]
 """
 
 from __future__ import annotations
@@ -14,8 +14,8 @@ from typing import Any, ClassVar
 class Refused(Exception):
     """A call that was refused: it changed no row, no aggregate and no object.
 
-    ``number`` and ``name`` are those of the library; ``sentence`` says what is the matter, with
-    names of columns. What else is known stands in ``details``.
+    ``number`` and ``name`` are the library's; ``sentence`` says what is wrong, with the
+    names of columns. ``details`` has whatever else is known.
 
     A reply of the script language begins with the same number and name:
 
@@ -62,23 +62,23 @@ class Refused(Exception):
 
     @property
     def inserted(self) -> int | None:
-        """How many rows of many went in before the one that was refused, or None."""
+        """How many rows were inserted before the one that was refused, or None."""
         return self.details.get("inserted")
 
     @property
     def cells_set(self) -> int | None:
-        """How many cells of many were set before the one that was refused, or None."""
+        """How many cells were set before the one that was refused, or None."""
         return self.details.get("cells_set")
 
     def __str__(self) -> str:
-        behind = ""
+        done = ""
         if self.inserted is not None:
-            rows = "row" if self.inserted == 1 else "rows"
-            behind = f"; {self.inserted:,} {rows} went in before"
+            rows = "row was" if self.inserted == 1 else "rows were"
+            done = f"; {self.inserted:,} {rows} inserted before"
         elif self.cells_set is not None:
             cells = "cell was" if self.cells_set == 1 else "cells were"
-            behind = f"; {self.cells_set:,} {cells} set before"
-        return f"{self.sentence}{behind} [{self.number}]"
+            done = f"; {self.cells_set:,} {cells} set before"
+        return f"{self.sentence}{done} [{self.number}]"
 
     def __reduce__(self) -> Any:
         return _again, (type(self), self.sentence, self.details)
@@ -119,33 +119,33 @@ class NoColumn(Refused, KeyError):
         if self.column is None:
             return self.text
         names = self.details.get("columns", ())
-        behind = f"; there are {', '.join(map(str, names))}" if names else ""
-        return f"there is no column {self.column!r}{behind}"
+        known = f"; the columns are {', '.join(map(str, names))}" if names else ""
+        return f"there is no column {self.column!r}{known}"
 
 
 class WrongKind(Refused, TypeError):
-    """A cell, a constant or a column is of the other kind."""
+    """A cell, a constant or a column has the wrong kind."""
 
     number = 5
-    text = "a value is of the other kind than its column"
+    text = "a value does not have the kind of its column"
 
     def _sentence(self) -> str:
         if self.column is None:
             return self.text
         kind = {"int": "whole numbers of 64 bits", "str": "texts"}[self.details["kind"]]
         if "value" not in self.details:
-            return f"column {self.column} has {kind}, which this does not fit"
+            return f"column {self.column} holds {kind}, which this does not fit"
         value = repr(self.details["value"])
         shown = value if len(value) <= 60 else value[:57] + "..."
         where = "" if self.place is None else f" for place {self.place}"
-        return f"column {self.column} has {kind}, and {shown}{where} is none"
+        return f"column {self.column} holds {kind}, not {shown}{where}"
 
 
 class RowWidth(Refused, ValueError):
-    """A row has another number of cells than the table has columns."""
+    """A row does not have one cell for each column."""
 
     number = 6
-    text = "the row has another number of cells than the table has columns"
+    text = "the row does not have one cell for each column"
 
 
 class TextTooLong(Refused, ValueError):
@@ -159,7 +159,7 @@ class TextTooLong(Refused, ValueError):
             of = "" if self.column is None else f" for column {self.column}"
             return f"a text{of} has more than 4,096 bytes"
         where, length = f"place {self.place} of column {self.column}", len(self.details["value"])
-        return f"the text for {where} has {length:,} characters, and more than 4,096 bytes"
+        return f"the text for {where} has {length:,} characters, which take more than 4,096 bytes"
 
 
 class NoRow(Refused, IndexError):
@@ -199,7 +199,7 @@ class ChunkFull(Refused):
     number = 11
     text = (
         "the texts of a row group would not fit a segment of local memory: "
-        "smaller row groups (group=) or larger segments (text_size of Limits) help"
+        "use smaller row groups (group=) or larger segments (text_size of Limits)"
     )
 
 
@@ -253,6 +253,8 @@ class Absent(Refused):
     def _sentence(self) -> str:
         if self.column is None:
             return self.text
+        if self.details.get("evicting"):
+            return f"column {self.column} is away already in row group {self.group}"
         return f"column {self.column} is away in row group {self.group}; fetch it first"
 
 
@@ -278,28 +280,28 @@ class Pinned(Refused):
 
 
 class StaleJob(Refused):
-    """What the job or the scan rests on does not hold any more."""
+    """The data of a job changed since it began, or a row group to be scanned is not pending."""
 
     number = 20
-    text = "what this rests on does not hold any more"
+    text = "the job's data changed since it began, or the row group is not pending"
 
 
 class FarFault(Refused, OSError):
-    """A content did not come back, or is not the one that went out. Nothing was changed."""
+    """The engine returned other bytes than were put, or none. Nothing was changed."""
 
     number = 21
-    text = "a content that came back is not the one that went out; nothing was changed"
+    text = "the engine returned other bytes than were put; nothing was changed"
 
     def _sentence(self) -> str:
         if "engine" not in self.details:
             return self.text
         return (
-            f"{self.details['engine']} returns other bytes than it was given for {self._object()}: "
-            "put those back and call again; nothing was changed, and built answers stay exact"
+            f"{self.details['engine']} returns other bytes than were put for {self._object()}: "
+            "restore them and call again; nothing was changed, and existing answers stay exact"
         )
 
     def _object(self) -> str:
-        """Returns what did not come back, or could not go."""
+        """Names the object whose content the engine could not return or keep."""
         of_group = f" of row group {self.group}" if self.group is not None else ""
         return f"column {self.column}{of_group}" if self.column is not None else "a content"
 
@@ -314,7 +316,7 @@ class EngineError(FarFault):
             return self.text
         engine, act, cause = (self.details[name] for name in ("engine", "act", "cause"))
         said = f"{engine} cannot {act} {self._object()} ({cause})"
-        return f"{said}: nothing was changed, and the call works once it can"
+        return f"{said}: nothing was changed; call again once it can"
 
     @property
     def name(self) -> str:
@@ -351,10 +353,10 @@ class AlreadyOpen(Refused):
 
 
 class NoUtf8(Refused, ValueError):
-    """A text has no form in UTF-8: it holds half of a surrogate pair."""
+    """A text cannot be encoded in UTF-8: it holds half of a surrogate pair."""
 
     number = 102
-    text = "a text has no form in UTF-8"
+    text = "a text cannot be encoded in UTF-8"
 
     def _sentence(self) -> str:
         if self.column is None:
@@ -365,31 +367,31 @@ class NoUtf8(Refused, ValueError):
 
 
 class BadArgument(Refused, ValueError):
-    """A length, a kind, a fold or a comparison is none of those that there are."""
+    """An argument is invalid: a length, a kind, a fold or a comparison."""
 
     number = 103
-    text = "a length, a kind, a fold or a comparison is none of those that there are"
+    text = "a length, a kind, a fold or a comparison is invalid"
 
 
 class Nothing(Refused, LookupError):
-    """There is nothing of the kind asked for."""
+    """There is no such value, line, key or content."""
 
     number = 104
-    text = "there is nothing of the kind asked for"
+    text = "there is no such value, line, key or content"
 
 
 class ShortBuffer(Refused, ValueError):
     """A buffer is too short."""
 
     number = 105
-    text = "a buffer is shorter than what goes there"
+    text = "a buffer is too short for the result"
 
 
 class UsedUp(Refused):
     """2^62 faults were counted."""
 
     number = 106
-    text = "so many faults were counted that no job can be carried any more"
+    text = "too many faults were counted: the table carries no more jobs"
 
 
 BY_NUMBER: dict[int, type[Refused]] = {

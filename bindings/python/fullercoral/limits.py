@@ -1,4 +1,4 @@
-"""Limits of a table, and how they are chosen from an amount of local memory."""
+"""Limits of a table, chosen one by one or from an amount of local memory."""
 
 from __future__ import annotations
 
@@ -17,19 +17,19 @@ _LEAST_BYTES = 1 << 10
 _MOST_BYTES = header.NUMBER_BYTES * header.MAX_SEGMENTS * header.MAX_INT_SIZE
 _MOST_BYTES += header.MAX_SEGMENTS * header.MAX_TEXT_SIZE
 
-# An append of a text copies those of its row group, so groups with texts are smaller.
+# An append of a text copies the texts of its row group, so row groups with texts are smaller.
 _GROUP_OF_NUMBERS = 4096
 _GROUP_WITH_TEXTS = 512
-_TEXT_GUESS = 24  # what a text is taken to need in local memory, in bytes
+_TEXT_GUESS = 24  # the assumed local memory of a text, in bytes
 _LEAST_GROUP = 16
 _TEXT_SEGMENTS = 128
 
 
 def parse_bytes(amount: Union[int, str]) -> int:
-    """Reads an amount of memory: a number of bytes, or a text with a unit.
+    """Parses an amount of memory: a number of bytes, or a text with a unit.
 
-    A text without one is refused, and an amount that no table can have: less than 1 KiB, or more
-    than 32 GiB, of which 16 are for numbers and 16 for texts.
+    Refuses a text without a unit, and amounts that no table can have: less than 1 KiB, or more
+    than 32 GiB (16 for numbers and 16 for texts).
 
     >>> parse_bytes("64MB"), parse_bytes("1.5 GiB"), parse_bytes(4096)
     (64000000, 1610612736, 4096)
@@ -41,19 +41,19 @@ def parse_bytes(amount: Union[int, str]) -> int:
         if found is not None and not found[2]:
             raise BadSchema(f"{amount!r} has no unit; write '{found[1]}MB'")
         if found is None or found[2].upper() not in _UNITS:
-            raise BadSchema(f"{amount!r} is no amount of memory; write '64MB' or '1GiB'")
+            raise BadSchema(f"{amount!r} is not an amount of memory; write '64MB' or '1GiB'")
         number = float(found[1]) * _UNITS[found[2].upper()]
     if number < _LEAST_BYTES:
         raise BadSchema(f"{amount!r} is too little memory for a table; write '64MB'")
     if number > _MOST_BYTES:
         most = f"{_MOST_BYTES >> 30}GiB"
-        raise BadSchema(f"{amount!r} is more memory than cells of a table can take; write {most!r}")
+        raise BadSchema(f"{amount!r} is more memory than a table can use; write {most!r} or less")
     return int(number)
 
 
 @dataclass(frozen=True)
 class Limits:
-    """The limits of a table. All of its local memory is reserved when it is opened.
+    """The limits of a table, which reserves all of its local memory when it opens.
 
     >>> limits = Limits.for_local(Schema({"sku": str, "quantity": int}), "16MB")
     >>> limits.group, limits.local_bytes <= 16_000_000
@@ -61,19 +61,19 @@ class Limits:
     """
 
     group: int
-    """How many places a row group has: 1 to 65,536."""
+    """Places in a row group: 1 to 65,536."""
     int_segments: int
-    """How many segments there are for numbers: 1 to 1,024."""
+    """Segments for numbers: 1 to 1,024."""
     int_size: int
-    """How many numbers one of them holds, from ``group`` to 1,048,576; each takes 16 bytes."""
+    """Numbers in a segment, of 16 bytes each: ``group`` to 1,048,576."""
     text_segments: int
-    """How many segments there are for texts: 1 to 1,024."""
+    """Segments for texts: 1 to 1,024."""
     text_size: int
-    """How many bytes one of them holds: 64 to 16,777,216."""
+    """Bytes in a segment for texts: 64 to 16,777,216."""
     places: int = header.MAX_PLACES
-    """How many places the table may have, removed rows among them: 1 to 2^24."""
+    """Places of the table, with those of removed rows: 1 to 2^24."""
     edits: int = header.MAX_EDITS
-    """How many edits are accepted, and how many jobs: 1 to 2^40."""
+    """Edits that the table accepts, and jobs: 1 to 2^40 of each."""
 
     def __post_init__(self) -> None:
         for name in _BOUNDS:
@@ -83,7 +83,7 @@ class Limits:
 
     @property
     def local_bytes(self) -> int:
-        """How many bytes of local memory the cells of the table may take."""
+        """The bytes of local memory for the cells of the table."""
         numbers = header.NUMBER_BYTES * self.int_segments * self.int_size
         return numbers + self.text_segments * self.text_size
 
@@ -91,7 +91,7 @@ class Limits:
     def for_local(
         cls, schema: Schema, local: Union[int, str] = "64MB", group: int | None = None
     ) -> Limits:
-        """Chooses limits for a table with these columns in so much local memory."""
+        """Chooses limits for a table with these columns and this amount of local memory."""
         amount = parse_bytes(local)
         numbers, texts = schema.count(int), schema.count(str)
         place = numbers * header.NUMBER_BYTES + texts * _TEXT_GUESS
@@ -109,7 +109,7 @@ class Limits:
         return cls(group, int_segments, int_size, text_segments, text_size)
 
     def to_header(self) -> header.LimitsStruct:
-        """Returns the limits as the library takes them."""
+        """Returns the limits as an ``fc_limits``."""
         return header.LimitsStruct(**{f.name: getattr(self, f.name) for f in fields(self)})
 
 
@@ -131,7 +131,7 @@ def _check_bounds(name: str, value: object) -> None:
 
 
 def _group_for(amount: int, place: int, texts: int) -> int:
-    """Returns a size of row groups of which at least 32 fit into local memory."""
+    """Returns a row group size such that at least 32 row groups fit into local memory."""
     group = _GROUP_WITH_TEXTS if texts else _GROUP_OF_NUMBERS
     while group > _LEAST_GROUP and group * place * 32 > amount:
         group //= 2
@@ -139,9 +139,9 @@ def _group_for(amount: int, place: int, texts: int) -> int:
 
 
 def _int_segments(share: int, group: int) -> tuple[int, int]:
-    """Returns how many segments of which size to have: of one row group each, if so many may be.
+    """Returns the number and size of segments: one row group each, if the limit allows so many.
 
-    What goes away then leaves a whole segment, and nothing has to be compacted.
+    An eviction then frees a whole segment, and nothing has to be compacted.
     """
     together = max(1, -(-share // (header.NUMBER_BYTES * group * header.MAX_SEGMENTS)))
     size = min(group * together, header.MAX_INT_SIZE // group * group)

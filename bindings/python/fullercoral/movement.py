@@ -1,4 +1,4 @@
-"""Movement by hand: objects go away and come back, and row groups are built from far copies."""
+"""Moves objects: evicts them, fetches them, and builds row groups from far copies."""
 
 from __future__ import annotations
 
@@ -11,12 +11,12 @@ from ._handle import Handle
 from .engines import Engine, shown_engine
 from .errors import EngineError, FarFault, FarFull, Refused, RegionFull
 
-Where = Callable[[], tuple["str | None", "int | None"]]  # finds the column and the row group
+Where = Callable[[], tuple["str | None", "int | None"]]  # returns a content's column and row group
 
 
 @dataclass
 class Counters:
-    """What was moved since a table was opened."""
+    """Counts of movement since a table was opened."""
 
     evictions: int = 0
     fetches: int = 0
@@ -34,9 +34,9 @@ class Counters:
 class Mover:
     """Moves the objects of a table, and keeps their contents in an engine.
 
-    The library counts contents from 0 on, and again after each renewal. In the engine no number is
-    used twice: those of later contents begin at a base, and what a renewal found away keeps the
-    number that it had. The caller holds the table's lock.
+    The library numbers contents from 0, and again from 0 after each renewal. The engine never sees
+    a number twice: after a renewal, new contents are numbered from a base on, and objects that were
+    away keep their engine numbers. The caller holds the table's lock.
     """
 
     def __init__(self, handle: Handle, engine: Engine, contents: int) -> None:
@@ -64,7 +64,7 @@ class Mover:
         self.counters.bytes_put += len(content)
 
     def _get(self, number: int, where: Where) -> bytes:
-        """Returns the content of a number of the engine, of an object that is there if it fails."""
+        """Returns a content from the engine; ``where`` names its object in an error."""
         try:
             content = self.engine.get(number)
             length = len(content)
@@ -75,7 +75,7 @@ class Mover:
         return content
 
     def _discard(self, number: int) -> None:
-        """Tells the engine that a content is not needed any more. If it fails, nothing is lost."""
+        """Tells the engine to drop a content. A failure does no harm."""
         self._discard_from_engine(self._host_number(number))
 
     def _discard_from_engine(self, number: int) -> None:
@@ -89,11 +89,11 @@ class Mover:
     # One object
 
     def evict(self, column: int, group: int) -> None:
-        """Evicts an object: the engine keeps its content, and its local memory is free."""
+        """Evicts an object: the engine keeps its content, and its local memory is freed."""
         self._end_evict(self.handle.begin_evict(column, group))
 
     def evict_coldest(self) -> bool:
-        """Evicts the object that was used least lately; returns whether there was one."""
+        """Evicts the coldest object; returns whether there was one."""
         job = self.handle.begin_coldest()
         if job is None:
             return False
@@ -123,10 +123,10 @@ class Mover:
             raise
 
     def carry(self, job: int, group: int | None = None) -> int | None:
-        """Carries a job: its contents come from the engine, or its content is put there.
+        """Carries a job: gets its contents from the engine, or puts its content there.
 
-        Returns the number of the content that was put, if one was. An error names the column if the
-        row group of an offload is given.
+        Returns the number of the content that was put, or None. Give the row group of an offload,
+        so that an error can name the column.
         """
         handle = self.handle
         kind, carried, _, _ = handle.job(job)
@@ -144,11 +144,11 @@ class Mover:
         return content[0]
 
     def fetch(self, column: int, group: int) -> None:
-        """Fetches an object: it is local, and its far copy stays until it is written."""
+        """Fetches an object: it becomes local, and keeps its far copy until it is written."""
         self.end_fetch(self.begin_fetch(column, group))
 
     def begin_fetch(self, column: int, group: int) -> int:
-        """Begins a fetch and carries it; its end may have to wait until there is space."""
+        """Begins a fetch and carries it; `end_fetch` may have to wait for space."""
         job = self.handle.begin_fetch(column, group)
         try:
             self.carry(job)
@@ -158,7 +158,7 @@ class Mover:
         return job
 
     def end_fetch(self, job: int) -> None:
-        """Ends a carried fetch. If it is refused for lack of space, the job still waits."""
+        """Ends a carried fetch. If it is refused for lack of space, the job stays open."""
         try:
             self.handle.step("install", job)
         except RegionFull:
@@ -169,7 +169,7 @@ class Mover:
         self.counters.fetches += 1
 
     def _deliver_all(self, job: int, group: int | None) -> None:
-        """Has the engine give all contents that a job needs."""
+        """Gets all contents that a job needs from the engine."""
         for index in range(header.MAX_COLUMNS + 1):
             number = self.handle.wanted(job, index)
             if number is None:
@@ -191,7 +191,7 @@ class Mover:
             raise _other_bytes(self.engine, where) from None
 
     def _object(self, job: int, number: int, group: int | None) -> tuple[str | None, int | None]:
-        """Returns the column and the row group of a content of a job, as far as they are known."""
+        """Returns the column and the row group of a job's content, None if unknown."""
         kind, _, column, at = self.handle.job(job)
         names = self.handle.schema.names
         if kind != header.OFFLOAD:
@@ -208,7 +208,7 @@ class Mover:
         return self.counters.evictions - self.counters.fetches
 
     def absent_of(self, names: set[str]) -> tuple[str, int] | None:
-        """Returns the first object of some columns that is away, by row group, and None if none."""
+        """Returns the first object of these columns that is away, by row group, or None."""
         schema = self.handle.schema
         columns = [index for index, name in enumerate(schema) if name in names]
         for group in range(self.handle.groups() if self.away else 0):
@@ -218,7 +218,7 @@ class Mover:
         return None
 
     def next_segment(self, kind: int, segments: int) -> int:
-        """Returns the segment of a kind whose turn it is to be compacted."""
+        """Returns the next segment of a kind to compact, in turn."""
         self._segments[kind] = (self._segments.get(kind, -1) + 1) % segments
         return self._segments[kind]
 
@@ -243,7 +243,7 @@ class Mover:
     # All objects
 
     def _split(self) -> tuple[list[tuple[int, int]], list[int]]:
-        """Returns the objects that are away, and the copies of those that are local."""
+        """Returns the objects that are away, and the far copies of local objects."""
         away, copies = [], []
         for group in range(self.handle.groups()):
             for column in range(len(self.handle.schema)):
@@ -255,21 +255,21 @@ class Mover:
         return away, copies
 
     def renew(self, engine: Engine | None = None, contents: int | None = None) -> None:
-        """Goes on with new numbers of contents, and with another engine if one is given.
+        """Renumbers contents from 0, and moves them to another engine if one is given.
 
-        The contents of all objects that are away come into memory for a moment. If that is refused,
-        or an engine fails, all is as it was. All jobs are over.
+        The contents of all objects that are away are in memory for a moment. If an allocation or an
+        engine fails, nothing changes. A renewal ends all jobs.
         """
         capacity = self.contents if contents is None else contents
         away, spare = self._split()
         if len(away) > capacity:
-            raise FarFull(f"{len(away):,} objects are away, and {capacity:,} contents may be")
+            raise FarFull(f"{len(away):,} objects are away, but only {capacity:,} contents may be")
         kept_at = array("Q")
         for column, group in away:
             number = self._host_number(self.handle.object(column, group).copy)
             kept_at.append(self._copy_over(column, group, number, engine, len(kept_at)))
         self.handle.step("migrate", capacity)
-        for number in spare:  # what is local is kept anew when it goes away again
+        for number in spare:  # local objects are put again at their next eviction
             self._discard_from_engine(number)
         copies = [self.handle.object(column, group).copy for column, group in away]
         self._base = 0 if engine else self._base + self.contents
@@ -282,7 +282,7 @@ class Mover:
     def _copy_over(
         self, column: int, group: int, number: int, engine: Engine | None, index: int
     ) -> int:
-        """Delivers a content for a renewal; returns its number in the engine that is next."""
+        """Delivers a content for a renewal; returns its number in the next engine."""
         def where() -> tuple[str | None, int | None]:
             return self.handle.schema.names[column], group
 
@@ -301,7 +301,7 @@ class Mover:
 
 
 def _failed(engine: Engine, act: str, error: Exception, where: Where) -> EngineError:
-    """Returns the refusal of a call for which an engine raised an exception."""
+    """Returns the refusal for an exception of an engine."""
     column, group = where()
     cause = f"{type(error).__name__}: {error}"[:200]
     shown = shown_engine(engine)
@@ -309,6 +309,6 @@ def _failed(engine: Engine, act: str, error: Exception, where: Where) -> EngineE
 
 
 def _other_bytes(engine: Engine, where: Where) -> FarFault:
-    """Returns the refusal of a content that is not the one that went out."""
+    """Returns the refusal for a content that differs from the one put."""
     column, group = where()
     return FarFault(column=column, group=group, engine=shown_engine(engine))

@@ -1,4 +1,4 @@
-"""A map of row groups by columns: where each object is, in characters and as SVG."""
+"""A map of row groups by columns, in characters and as SVG, which shows where each object is."""
 
 from __future__ import annotations
 
@@ -13,12 +13,12 @@ CLEAN, DIRTY, AWAY, PINNED = "clean", "dirty", "away", "pinned"
 
 _MARKS = {DIRTY: "█", CLEAN: "▒", AWAY: "·", PINNED: "P"}
 _SAID = {
-    DIRTY: "local, written since it was kept",
+    DIRTY: "local, without a current copy",
     CLEAN: "local, with a far copy",
     AWAY: "away",
     PINNED: "pinned",
 }
-# Colours for light and dark, which differ in lightness too, so that they can be told apart in grey.
+# Colours for light and dark pages. They differ in lightness too, for readers without colours.
 _COLOURS = {
     DIRTY: ("#c2410c", "#fb923c"),
     CLEAN: ("#5b9bd5", "#60a5fa"),
@@ -26,14 +26,14 @@ _COLOURS = {
     PINNED: ("#111827", "#f9fafb"),
 }
 _WEIGHT = {PINNED: 3, DIRTY: 2, CLEAN: 1, AWAY: 0}
-_MOST_OBJECTS = 50_000  # more are looked at in part, so that a picture takes no second
+_MOST_OBJECTS = 50_000  # of more objects only some are drawn, so that a map takes under a second
 
 
 @dataclass(frozen=True)
 class Map:
     """Where the objects of a table are: a state for each column and row group.
 
-    If there are very many row groups, one of several in a row stands for them: ``step`` of them.
+    If there are very many row groups, the map has only every ``step``-th one.
     """
 
     names: tuple[str, ...]
@@ -42,15 +42,15 @@ class Map:
     step: int = 1
 
     def counts(self) -> dict[str, int]:
-        """Returns how many objects are in each state, of those that were looked at."""
+        """Returns how many of the objects on the map are in each state."""
         many = Counter(state for row in self.states for state in row)
         return {state: many[state] for state in _MARKS}
 
     def text(self, width: int = 64) -> str:
         """Returns the map in characters, a line for each column.
 
-        A character stands for several row groups if they are more than the width. It is that of
-        most of them, and ``P`` if one is pinned.
+        If there are more row groups than the width, a character stands for several: it shows the
+        state of most of them, or ``P`` if one is pinned.
         """
         longest = max(len(name) for name in self.names)
         lines = [
@@ -67,7 +67,7 @@ class Map:
         return self.text()
 
     def svg(self, width: int = 720, in_page: bool = False) -> str:
-        """Returns the map as SVG, for light and dark pages. ``in_page`` leaves out the XML head."""
+        """Returns the map as SVG for light and dark pages; ``in_page`` omits the XML head."""
         return _Drawing(self, width).svg(in_page)
 
     def _repr_svg_(self) -> str:
@@ -88,7 +88,7 @@ def _drawn(row: Sequence[str], width: int) -> list[str]:
 
 
 def read_map(handle: Handle) -> Map:
-    """Looks at the objects of a table."""
+    """Makes the map of a table."""
     groups, names = handle.groups(), handle.schema.names
     step = max(1, -(-groups * len(names) // _MOST_OBJECTS))
     states = tuple(
@@ -108,7 +108,7 @@ def _state(handle: Handle, column: int, group: int) -> str:
 
 
 class _Drawing:
-    """The picture of a map."""
+    """Draws a map as SVG."""
 
     _ROW, _GAP, _MOST_CELLS, _LETTER = 16, 4, 240, 7.2
 
@@ -187,7 +187,7 @@ def counted(count: int, what: str) -> str:
 
 
 def _style() -> str:
-    """Returns colours for light pages, for dark ones, and for notebooks that say which they are."""
+    """Returns the colours for light pages, dark pages, and notebooks that set their theme."""
 
     def rules(dark: bool, inside: str = "") -> str:
         page = f"{inside} .fc-map .fc-page{{fill:{'#111827' if dark else '#ffffff'}}}"

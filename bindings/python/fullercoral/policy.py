@@ -1,4 +1,4 @@
-"""The policy: what is done when a call is refused for lack of space, or of an object."""
+"""The policy: what to do when local memory is full, or an object is away."""
 
 from __future__ import annotations
 
@@ -10,17 +10,17 @@ from .errors import Absent, FarFull, Refused, RegionFull, StaleJob
 from .movement import Mover
 
 _REGION_FULL, _ABSENT = RegionFull.number, Absent.number
-_MOST_COMPACTED = 8  # segments, of a kind, each time that space is made
+_MOST_COMPACTED = 8  # the most segments of a kind to compact each time
 
 
 class Policy:
-    """Has a table larger than its local memory just work. It is the default of every table.
+    """Moves objects as calls need them, so a table may exceed its local memory. The default.
 
-    - If local memory is full, the coldest objects are evicted, and the call is made again.
-    - If an object is away, it is fetched, and the call is made again. With ``prefetch``, the next
-      two of a stride are fetched with it.
-    - At the first question, pending row groups are scanned, or built from their far copies.
-    - If the numbers of contents are used up, the table goes on with new ones.
+    - If local memory is full, it evicts the coldest objects and repeats the call.
+    - If an object is away, it fetches it and repeats the call. With ``prefetch``, it also fetches
+      the next two of a stride.
+    - At the first question, it scans pending row groups, or builds them from their far copies.
+    - If the content numbers are used up, it renews the table, which continues with new ones.
 
     >>> Policy()
     Policy(prefetch=True)
@@ -34,10 +34,10 @@ class Policy:
 
 
 class Helper:
-    """Helps one call until it is done: ``with Helper(..) as helper: helper.until_done(call)``.
+    """Repeats one call until it is done: ``with Helper(..) as helper: helper.until_done(call)``.
 
-    What is fetched for the call is pinned until it ends, so that nothing else takes its space: each
-    object is fetched once, and each round without a fetch evicts something. So it ends.
+    It pins what it fetches until the call ends. So it fetches each object once, and each round
+    without a fetch evicts something: the rounds end.
     """
 
     def __init__(self, mover: Mover, policy: Policy | None) -> None:
@@ -64,9 +64,9 @@ class Helper:
         self._pinned.clear()
 
     def until_done(self, call: Callable[..., int], *arguments: Any, code: int = 0) -> int:
-        """Makes a call until it is done, or refused for what the policy cannot help.
+        """Repeats a call until it is done, or the policy cannot help; returns its last code.
 
-        ``code`` is that of a first try. Returns the code of the last one.
+        ``code`` is the code of a first call that the caller made.
         """
         code = code or call(*arguments)
         while code and self.has_helped(code):
@@ -75,7 +75,7 @@ class Helper:
         return code
 
     def has_helped(self, code: int) -> bool:
-        """Does what a refused call needs; whether it was something that the policy can do."""
+        """Does what a refused call needs; returns False if the policy cannot."""
         if self._policy is None:
             return False
         if code == _REGION_FULL:
@@ -85,7 +85,7 @@ class Helper:
         return False
 
     def make_space(self) -> bool:
-        """Evicts the coldest objects, twice as many as the time before; False if none may go."""
+        """Evicts the coldest objects, twice as many as before; returns False if none can go."""
         gone = 0
         while gone < self._evict_next and self._evict_coldest():
             gone += 1
@@ -101,7 +101,7 @@ class Helper:
             return self._mover.evict_coldest()
 
     def _compact(self) -> None:
-        """Closes gaps in segments that have several objects, while a segment is free for it."""
+        """Compacts segments with several objects, while a free segment is there to copy into."""
         schema, limits = self._handle.schema, self._handle.limits
         if schema.count(str):
             self._compact_some(header.TEXT)
@@ -109,7 +109,7 @@ class Helper:
             self._compact_some(header.INT)
 
     def _compact_some(self, kind: int) -> None:
-        """Compacts one segment after the other, until a quarter of one is gained."""
+        """Compacts segments in turn, until a compaction frees a quarter of a segment."""
         space = self._handle.space(kind)
         for _ in range(min(space.segments, _MOST_COMPACTED)):
             segment = self._mover.next_segment(kind, space.segments)
@@ -124,7 +124,7 @@ class Helper:
             space = after
 
     def bring(self, column: int, group: int) -> bool:
-        """Fetches an object for the call, and what is proposed behind it; False if it did."""
+        """Fetches and pins an object, and prefetches; returns False if it is pinned already."""
         if (column, group) in self._pinned:
             return False
         self.fetch(column, group)
@@ -135,13 +135,13 @@ class Helper:
         return True
 
     def fetch(self, column: int, group: int) -> None:
-        """Fetches an object, and makes space for it if need be."""
+        """Fetches an object, and makes space for it if needed."""
         while True:
             job = self._mover.begin_fetch(column, group)
             try:
                 return self._install(job)
             except StaleJob:
-                continue  # a renewal came between, which ends all jobs
+                continue  # a renewal meanwhile ended all jobs
             except BaseException:
                 self._handle.give_up(job)
                 raise
@@ -155,7 +155,7 @@ class Helper:
                     raise
 
     def _prefetch(self, column: int) -> None:
-        """Fetches what is proposed; what does not fit or fails is left until it is due."""
+        """Fetches the objects to be used next, until one does not fit or fails."""
         for group in self._handle.proposals(column):
             try:
                 self.fetch(column, group)
@@ -172,7 +172,7 @@ def build(
     aggregate: int,
     progress: Callable[[int, int], Any] | None = None,
 ) -> None:
-    """Builds all row groups that are pending in an aggregate."""
+    """Builds all pending row groups into an aggregate."""
     pending, first = mover.handle.pending(aggregate)
     total = pending
     while pending:

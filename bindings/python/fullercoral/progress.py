@@ -1,4 +1,4 @@
-"""Progress of long work: a bar on a terminal, a call of one's own, or nothing."""
+"""Shows the progress of long work: by a bar on a terminal, by a callback, or not at all."""
 
 from __future__ import annotations
 
@@ -7,12 +7,12 @@ import time
 from types import TracebackType
 from typing import Any, Callable, TextIO, Union
 
-_EVERY = 0.1  # seconds between two pictures of the bar
+_EVERY = 0.1  # seconds between two updates of the bar
 _WIDTH = 30
 
 
 class Bar:
-    """A bar on a terminal, with what is done, its rate and the time that is left."""
+    """A progress bar on a terminal, with the percentage, the rate and the time left."""
 
     def __init__(self, label: str, unit: str = "B", stream: TextIO | None = None) -> None:
         self.label, self.unit = label, unit
@@ -40,7 +40,7 @@ class Bar:
         self._drawn = True
 
     def close(self) -> None:
-        """Takes the bar from the terminal."""
+        """Erases the bar."""
         if self._drawn:
             self._stream.write("\r\x1b[K")
             self._stream.flush()
@@ -55,7 +55,7 @@ def _amount(number: float, unit: str) -> str:
 
 
 class Shown:
-    """What ``progress=`` says: True is a bar if standard error is a terminal, else nothing."""
+    """Handles ``progress=``: a callable, or True for a bar if standard error is a terminal."""
 
     def __init__(
         self, progress: Union[bool, Callable[[int, int], Any], None], label: str, unit: str = "B"

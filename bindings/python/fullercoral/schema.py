@@ -1,4 +1,4 @@
-"""Columns: names and kinds, and the value that stands for none."""
+"""The names and kinds of columns, and the value of a missing cell."""
 
 from __future__ import annotations
 
@@ -10,7 +10,7 @@ from .errors import BadSchema, NoColumn
 
 
 class _Missing:
-    """A cell without a value. ``None`` means the same, and is what reading returns."""
+    """The class of ``NA``, a missing cell. ``None`` means the same, and is what reads return."""
 
     _only: _Missing | None = None
 
@@ -46,7 +46,7 @@ class Schema:
     >>> schema.index("quantity"), schema["sku"], list(schema)
     (1, <class 'str'>, ['sku', 'quantity'])
 
-    The script language's words for kinds do, too:
+    The script language's words for kinds work too:
 
     >>> Schema([("sku", "text"), ("quantity", "int")]) == schema
     True
@@ -87,7 +87,7 @@ class Schema:
         return zip(self.names, self.kinds)
 
     def codes(self) -> list[int]:
-        """Returns the columns' kinds as the library numbers them."""
+        """Returns the library's numbers for the columns' kinds."""
         return [header.INT if kind is int else header.TEXT for kind in self.kinds]
 
     def count(self, kind: type) -> int:
@@ -120,7 +120,7 @@ class Schema:
 
 
 def _pairs(columns: Any) -> list[tuple[str, Kind]]:
-    """Returns names with kinds; refuses names alone, and a DataFrame."""
+    """Returns pairs of names and kinds; refuses names without kinds, and a DataFrame."""
     if hasattr(columns, "dtypes"):
         raise BadSchema("a table is made of names and kinds; Table.from_pandas takes a DataFrame")
     pairs = list(columns)
@@ -142,7 +142,7 @@ def _kind(name: str, kind: Kind) -> type:
 
 
 def parse_schema(text: str) -> Schema:
-    """Reads a schema as the shell has it: ``sku:text,quantity:int``.
+    """Parses a schema as the shell writes it: ``sku:text,quantity:int``.
 
     >>> parse_schema("sku:text, quantity:int")
     Schema({'sku': str, 'quantity': int})
@@ -151,6 +151,6 @@ def parse_schema(text: str) -> Schema:
     for part in text.split(","):
         found = re.fullmatch(r"\s*(.+?)\s*:\s*(\w+)\s*", part)
         if found is None:
-            raise BadSchema(f"{part.strip()!r} is no column: write NAME:int or NAME:text")
+            raise BadSchema(f"{part.strip()!r} is not a column: write NAME:int or NAME:text")
         pairs.append((found[1], found[2]))
     return Schema(pairs)

@@ -1,4 +1,4 @@
-"""The script language of ``docs/SCRIPT.md``, over a table of this package.
+"""The script language of ``docs/SCRIPT.md``, served by a table of this package.
 
 >>> Script().run("schema 4 int\\nwatch totals 0\\ninsert 5\\ninsert 7\\nask 0\\n")
 'ok\\naggregate 0\\nplace 0\\nplace 1\\ncount 2 sum 12\\n'
@@ -39,11 +39,11 @@ Rows = Callable[[int], str]
 
 
 class NoCommand(Exception):
-    """A line that spells no command."""
+    """The line is not a command of the language."""
 
 
 class _Words:
-    """The words of a line behind the first, one space between each two."""
+    """The words of a line after the first, each after one space."""
 
     def __init__(self, line: str) -> None:
         self._left: str | None = line
@@ -57,21 +57,21 @@ class _Words:
         return word
 
     def number(self, below: int = 1 << 32) -> int:
-        """Takes the next word, which is a number without a sign."""
+        """Takes the next word as an unsigned number below a bound."""
         word = self.word()
         if not (word.isascii() and word.isdigit()) or len(word) > 400 or int(word) >= below:
             raise NoCommand
         return int(word)
 
     def rest(self) -> str:
-        """Takes all that is left, spaces among it."""
+        """Takes the rest of the line, with its spaces."""
         if self._left is None:
             raise NoCommand
         rest, self._left = self._left, None
         return rest
 
     def next_is(self, word: str) -> bool:
-        """Whether the next word is this one; then it is taken."""
+        """Takes the next word if it is this one; returns whether it did."""
         if self._left is not None and self._left.partition(" ")[0] == word:
             self.word()
             return True
@@ -83,16 +83,16 @@ class _Words:
         return self._left is not None
 
     def end(self) -> None:
-        """Sees to it that no word is left."""
+        """Raises `NoCommand` if a word is left."""
         if self._left is not None:
             raise NoCommand
 
 
 class Script:
-    """Serves the commands of the script language, one line after the other.
+    """Serves the commands of the script language, line by line.
 
-    Each is served as the language says: nothing is moved but what a command moves. Only a `recount`
-    of what is away takes numbers of jobs, and fetches objects of a row group of which others were
+    It follows the language, and moves only what a command moves, with one exception. A `recount` of
+    objects that are away takes job numbers, and fetches objects of a row group if its others were
     written since. The first command is ``schema``, unless a table is given.
     """
 
@@ -133,7 +133,7 @@ class Script:
             return self.refusal_text(error)
 
     def refusal_text(self, error: Refused) -> str:
-        """Returns a refusal as ``farframe`` prints it."""
+        """Formats a refusal as ``farframe`` prints it."""
         carried = ""
         if error.pending is not None:
             carried = f" {error.pending}"
@@ -142,7 +142,7 @@ class Script:
         return f"refused {error.number} {error.name}{carried}"
 
     def serve(self, line: str, rows: Rows | None = None) -> str:
-        """Serves a line, and returns its reply: raises `NoCommand`, or the refusal."""
+        """Serves a line, and returns its reply; raises `NoCommand` or the refusal."""
         if not line:
             return ""
         self.commands += 1
@@ -236,7 +236,7 @@ class Script:
         return "ok"
 
     def _wrong_kind(self, values: list[Value]) -> None:
-        """Raises the refusal of a value that its column cannot hold, with its name."""
+        """Raises the refusal of a value that its column cannot hold, naming the column."""
         schema = self.table.schema
         for name, kind, value in zip(schema.names, schema.kinds, values):
             if value is not None and not isinstance(value, kind):
@@ -330,13 +330,13 @@ class Script:
         if self.table._mover.absent_of(watched.spec.columns()) is None:
             self._check(handle.lib.fc_recount(handle.at, number, watched._size_at))
             return _answer_text(watched, watched._size.value)
-        beside = Watched(self.table, watched.spec, handle.watch(watched._struct[0]))
+        second = Watched(self.table, watched.spec, handle.watch(watched._struct[0]))
         try:
-            build(self.table._mover, Policy(prefetch=False), beside.number)
-            self._check(handle.lib.fc_ask(handle.at, beside.number, beside._size_at))
-            return _answer_text(beside, beside._size.value)
+            build(self.table._mover, Policy(prefetch=False), second.number)
+            self._check(handle.lib.fc_ask(handle.at, second.number, second._size_at))
+            return _answer_text(second, second._size.value)
         finally:
-            handle.step("unwatch", beside.number)
+            handle.step("unwatch", second.number)
 
     # Parts of columns
 
@@ -429,7 +429,7 @@ class Script:
         return "ok"
 
     def _step(self, name: str, *arguments: Any) -> None:
-        """Makes a call with numbers, once the line is at its end."""
+        """Makes a call with numbers, after checking that the line has ended."""
         *numbers, words = arguments
         words.end()
         self.table._handle.step(name, *numbers)
@@ -443,7 +443,7 @@ class Script:
 
 
 def _answer_text(watched: Watched[Any], lines: int) -> str:
-    """Returns the answer that stays in the handle, as a script shows it."""
+    """Formats the answer that the handle holds as a script shows it."""
     shown = []
     for key, line in watched._lines.first(lines):
         first = "" if key is None else record_text([key]) + " "

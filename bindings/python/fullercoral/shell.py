@@ -1,4 +1,4 @@
-"""The shell: named columns, CSV files and a map of memory around the script language."""
+"""The shell: the script language with named columns, CSV files and a map of memory."""
 
 from __future__ import annotations
 
@@ -19,28 +19,28 @@ from .script import NoCommand, Script
 from .table import Table
 
 HELP = """\
-Commands of the shell. Words in capitals are yours. A column is a name, "in quotes" if it has
+Commands of the shell. Replace the words in capitals. A column is a name, "in quotes" if it has
 spaces, or a number.
   .open NAME:KIND,NAME:KIND .. [local=64MB] [far=FILE] [group=N]
                           a new table; a KIND is int or text
   .import FILE.csv [local=64MB] [far=FILE] [scaled=price:2,tax:2] [delimiter=;] [encoding=latin-1]
-                          appends the rows of a CSV file; opens a table for it if none is open;
-                          reads 1.99 as 199 in columns that are scaled by 2 decimals
+                          appends the rows of a CSV file; opens a table first if none is open;
+                          reads 1.99 as 199 in columns scaled by 2 decimals
   .export FILE.csv        writes the live rows
   .rows [FROM [TO]]       shows rows, or the first and the last ones
   .watch totals quantity by sku if quantity > 0
                           registers an aggregate and shows its answer
-  .ask N                  shows the answer of aggregate N, and builds it first if need be
-  .status                 where objects are, memory, faults, aggregates
+  .ask N                  shows the answer of aggregate N; builds pending row groups first
+  .status                 shows where objects are, memory, faults, aggregates
   .evict [COLUMN [GROUP]] evicts an object, a column or all of the table
   .plot FILE.svg          writes the map of .status as a picture
-  .policy on|off          whether commands fetch and evict what they need by themselves
-  .time on|off            whether each reply is followed by its time
+  .policy on|off          lets commands fetch and evict what they need, or not
+  .time on|off            shows the time of each command, or not
   .close  .quit  help [WORD]
 
 Commands of the script language (docs/SCRIPT.md):
   insert CSV              set PLACE COLUMN CSV      remove PLACE          dump
-  watch totals COLUMN [by COLUMN] [if COLUMN OP VALUE]..   (or extrema)   unwatch N
+  watch totals COLUMN [by COLUMN] [if COLUMN OP VALUE].. (or extrema)     unwatch N
   scan N GROUP            ask N                     recount N             lend COLUMN FROM TO
   pin COLUMN GROUP        unpin COLUMN GROUP        evac COLUMN GROUP     fetch COLUMN GROUP
   offload N GROUP         carry JOB                 commit JOB            install JOB   merge JOB
@@ -52,7 +52,7 @@ _SCRIPT_WORDS = (
     "carry commit install merge compact prefetch renew load dump"
 ).split()
 
-# Which words behind a command name columns, counted from 0.
+# Which words after a command name columns, counted from 0.
 _COLUMN_WORDS = {
     "set": (1,),
     "lend": (0,),
@@ -74,7 +74,7 @@ class Shell:
         self.timed = False
         self.policy: Any = None
         self.done = False
-        self.failed = False  # whether a line was refused, or was no command
+        self.failed = False  # whether a line was refused or not a command
 
     @property
     def table(self) -> Table | None:
@@ -83,7 +83,7 @@ class Shell:
         return table
 
     def words(self) -> list[str]:
-        """Returns the words that a line may begin with."""
+        """Returns the words that a line can begin with."""
         return [*(f".{name}" for name in _DOTTED), "help", *_SCRIPT_WORDS]
 
     def line(self, line: str, rows: Callable[[int], str] | None = None) -> None:
@@ -128,7 +128,7 @@ class Shell:
         return self._scripted(self._with_numbers(line), rows)
 
     def _scripted(self, line: str, rows: Callable[[int], str] | None) -> str:
-        """Has the script language serve a line; by policy again, once what it needs is local."""
+        """Serves a line as a script; with a policy, fetches what it needs and repeats it."""
         table = self.table
         if table is None or self.policy is None:
             return self.script.serve(line, rows)
@@ -153,7 +153,7 @@ class Shell:
     # Names for numbers
 
     def _with_numbers(self, line: str) -> str:
-        """Returns a line with the numbers of columns in place of their names."""
+        """Returns a line with names of columns replaced by their numbers."""
         verb, space, rest = line.partition(" ")
         places = _COLUMN_WORDS.get(verb, ())
         if verb != "watch" and not places:
@@ -194,12 +194,12 @@ class Shell:
             return f"syntax command {self.script.commands}"
         word = line.split()[0]
         if word in _SCRIPT_WORDS or word[1:] in _DOTTED:
-            return f"this is no {word} command. {_help(word)}"
+            return f"this is not a valid {word} command: {_form(word)}"
         return f"there is no command {word!r}; try help"
 
     def _open(self) -> Table:
         if self.table is None:
-            said = "no table is open: .open NAME:KIND,.. or .import FILE.csv, or help"
+            said = "no table is open: use .open NAME:KIND,.. or .import FILE.csv, or help"
             raise ValueError(said)
         return self.table
 
@@ -270,7 +270,7 @@ class Shell:
             name = table.schema.names[int(word)]
             if table.schema[name] is not int:
                 raise ValueError(
-                    f"column {name} has texts, and only numbers are summed or compared; "
+                    f"column {name} holds texts, but only numbers can be summed or compared; "
                     f'if they are like 1.99: .close, then .import FILE.csv scaled="{name}:2"'
                 )
         number = self.script.serve(line).split()[1]
@@ -298,7 +298,7 @@ class Shell:
         column = self._open().schema.names[int(words[0])] if words and words[0].isdigit() else None
         column = column or (words[0] if words else None)
         gone = self._open().evict(column, int(words[1]) if len(words) > 1 else None)
-        return f"{counted(gone, 'object')} went away"
+        return f"evicted {counted(gone, 'object')}"
 
     def _plot(self, rest: str) -> str:
         if not rest:
@@ -345,7 +345,7 @@ def _switch(text: str, name: str) -> bool:
 
 
 def _words(text: str, most: int) -> list[str]:
-    """Splits a text at its spaces, ``most`` times at most, but not within quotes."""
+    """Splits a text at spaces outside quotes, at most ``most`` times."""
     if '"' not in text:
         return text.split(" ", most)
     words: list[str] = []
@@ -369,7 +369,7 @@ def _options(text: str, known: tuple[str, ...]) -> tuple[str, dict[str, str]]:
 
 
 def _conversions(text: str) -> dict[str, Any]:
-    """Reads ``price:2,tax:2``: which columns are scaled by how many decimals."""
+    """Parses ``price:2,tax:2``: columns, and the decimals to scale each by."""
     pairs = [part.rpartition(":") for part in text.split(",") if part]
     if not all(name and digits.isdigit() for name, _, digits in pairs):
         raise ValueError("write scaled=COLUMN:DECIMALS, as scaled=price:2")
@@ -382,6 +382,12 @@ def _help(word: str) -> str:
     lines = [line.strip() for line in HELP.splitlines()]
     found = [line for line in lines if re.search(rf"(^|\s)\.?{re.escape(word)}(\s|$)", line)]
     return "\n".join(found) or f"no help on {word!r}; help alone shows all"
+
+
+def _form(word: str) -> str:
+    """Returns how a command is written, without the other commands of its line of the help."""
+    forms = (form for line in HELP.splitlines() for form in re.split(r"\s{2,}", line.strip()))
+    return next((form for form in forms if form.split(" ")[0] == word), _help(word))
 
 
 def _duration(seconds: float) -> str:

@@ -33,7 +33,7 @@ _BATCH = 8192
 
 
 class Table(Editing, Moving):
-    """A table whose aggregates stay exact while it is edited, and which may exceed local memory.
+    """A table whose aggregates stay exact under edits, and whose rows may exceed local memory.
 
     >>> import fullercoral as fc
     >>> with fc.Table({"sku": str, "quantity": int}, local="1MB") as table:
@@ -44,17 +44,17 @@ class Table(Editing, Moving):
     ...     sold.items()
     [('bread', Total(count=2, sum=7)), ('rye', Total(count=1, sum=9))]
 
-    - ``columns``: their names and kinds, ``int`` (64 bits, signed) or ``str``.
-    - ``local``: how much memory its cells may take, as ``"64MB"``. ``group``: how many rows a row
-      group has. ``limits`` sets all of it one by one instead.
-    - ``far``: the engine that keeps what is away, in this process if none is given. The table
-      closes it in the end, and it serves one table at a time.
-    - ``policy``: what moves objects when it is due; None if nothing but your own calls may.
-    - ``contents``: how many contents may go out before the table goes on with new numbers.
+    - ``columns``: names and kinds, ``int`` (64 bits, signed) or ``str``.
+    - ``local``: the memory for its cells, as ``"64MB"``. ``group``: the rows of a row group.
+      ``limits`` sets each limit by itself instead.
+    - ``far``: the engine that keeps what is away, `Memory` by default. The table closes it in the
+      end. An engine has one table at a time.
+    - ``policy``: moves objects when calls need it; with None only your own calls move them.
+    - ``contents``: how many contents may be put before the table renews their numbers.
 
-    Rows stand at places 0, 1, 2, .. in the order in which they came; a removed row keeps its place.
-    A row is a named tuple; ``row._asdict()`` has names that are no identifiers, as "Order ID".
-    Several threads may use a table: each call is made under its lock.
+    Rows have places 0, 1, 2, .. in the order of insertion; a removed row's place is never reused.
+    A row is a named tuple; ``row._asdict()`` has names that are not identifiers, as "Order ID".
+    Several threads may use a table: each call holds its lock.
     """
 
     def __init__(
@@ -80,7 +80,7 @@ class Table(Editing, Moving):
             raise
         self._mover = Mover(self._handle, engine, contents)
         self._watched: list[Watched[Any]] = []
-        self._answer: Watched[Any] | None = None  # whose answer, as rows are now, is in the handle
+        self._answer: Watched[Any] | None = None  # whose current answer the handle holds
         self._places = 0
         self._live = 0
         self._kind_of = {name: (at, kind) for at, (name, kind) in enumerate(self.schema.pairs())}
@@ -89,7 +89,7 @@ class Table(Editing, Moving):
         self._prepare_rows()
 
     def _prepare_rows(self) -> None:
-        """Makes what every reading of a row uses again."""
+        """Allocates what every read of a row reuses."""
         no_cell = bytes(8) + bytes(header.Bytes(EMPTY_AT, 0)) + bytes(8)
         self._no_lent = no_cell * self._width
         lent = (header.Cell * self._width).from_buffer_copy(self._no_lent)
@@ -138,31 +138,31 @@ class Table(Editing, Moving):
             try:
                 self.close()
             except Exception:
-                pass  # an engine that cannot be closed is nobody's concern any more
+                pass  # nobody is left to be told that the engine cannot be closed
 
     def __reduce_ex__(self, protocol: SupportsIndex) -> NoReturn:
         """Refuses a copy, which would close the table that it shares, and a pickle."""
-        raise TypeError("a table cannot be copied or pickled; to_csv or to_pandas gives its rows")
+        raise TypeError("a table cannot be copied or pickled; use to_csv or to_pandas")
 
     # Rows
 
     def __len__(self) -> int:
-        """How many rows are alive."""
+        """The number of live rows."""
         self._open_handle()
         return self._live
 
     @property
     def places(self) -> int:
-        """How many places there are, removed rows among them."""
+        """The number of places, with those of removed rows."""
         self._open_handle()
         return self._places
 
     def _column(self, name: str) -> tuple[int, type]:
-        """Returns the index and the kind of a column; refuses a name that is none."""
+        """Returns the index and the kind of a column; refuses an unknown name."""
         try:
             return self._kind_of[name]
         except (KeyError, TypeError):
-            self._open_handle()  # a closed table knows no column
+            self._open_handle()  # a closed table raises Closed, not NoColumn
             raise NoColumn(column=name, columns=self.schema.names) from None
 
     @property
@@ -177,7 +177,7 @@ class Table(Editing, Moving):
 
     @property
     def shape(self) -> tuple[int, int]:
-        """How many rows are alive, and how many columns there are."""
+        """The number of live rows, and the number of columns."""
         return len(self), len(self.schema)
 
     @overload
@@ -216,7 +216,7 @@ class Table(Editing, Moving):
             code = self._fc_row(*arguments)
             if code:
                 self._go_on(code, self._fc_row, *arguments)
-                self._lent_bytes[:] = self._no_lent  # what was lent ended with the next call
+                self._lent_bytes[:] = self._no_lent  # the loan ends with the next call
                 self._handle.check(self._fc_row(*arguments))
             words: Any = self._lent_words
             row: list[Value] = []
@@ -243,7 +243,7 @@ class Table(Editing, Moving):
         self.remove(place)
 
     def is_alive(self, place: int) -> bool:
-        """Whether the row of a place is there, and was not removed."""
+        """Whether the place has a row that was not removed."""
         with self._lock:
             return self._handle.is_alive(self._place_of(place))
 
@@ -303,10 +303,10 @@ class Table(Editing, Moving):
 
     @classmethod
     def from_pandas(cls, frame: Any, **options: Any) -> Table:
-        """Makes a table of a DataFrame of pandas; options are as of `Table`. Its index is left out.
+        """Makes a table from a DataFrame of pandas, without its index; options are as for `Table`.
 
-        Columns of whole numbers, of flags, and of floats with whole values are ``int``; those of
-        texts ``str``. Others are refused, with what may be done.
+        Columns of whole numbers, of flags, and of floats with whole values become ``int``; columns
+        of texts become ``str``. Others are refused; the error says how to convert them.
         """
         made = cls(schema_of_frame(frame), **options)
         try:
@@ -326,9 +326,9 @@ class Table(Editing, Moving):
     # Aggregates
 
     def watch(self, spec: Spec) -> Watched[Any]:
-        """Registers an aggregate (`totals` or `extrema`), which every edit keeps exact from now on.
+        """Registers an aggregate (`totals` or `extrema`), which every later edit updates.
 
-        Row groups that are there already are built into it at the first question, or by `build`.
+        The first question, or `build`, counts the rows that the table has already.
 
         >>> table.extend([("bread", 5), ("rye", 3)])
         range(0, 2)
@@ -340,7 +340,7 @@ class Table(Editing, Moving):
             handle = self._open_handle()
             if not isinstance(spec, Spec):
                 said = "watch takes fc.totals(..) or fc.extrema(..)"
-                raise WrongKind(f"{said}, and not {spec!r:.60}")
+                raise WrongKind(f"{said}, not {spec!r:.60}")
             struct, kept = spec_struct(self.schema, spec)
             number = handle.watch(struct)
             del kept
@@ -349,7 +349,7 @@ class Table(Editing, Moving):
             return watched
 
     def unwatch(self, watched: Watched[Any]) -> None:
-        """Forgets an aggregate; its number is used again.
+        """Forgets an aggregate; a later one may get its number.
 
         >>> sold = table.watch(totals("quantity"))
         >>> table.unwatch(sold)
@@ -366,11 +366,11 @@ class Table(Editing, Moving):
             self._answer = None
 
     def _check_watched(self, watched: Any) -> None:
-        """Refuses what is no aggregate of this table."""
+        """Refuses anything but an aggregate of this table."""
         if not isinstance(watched, Watched):
-            raise WrongKind(f"give what watch returned, and not {watched!r:.60}")
+            raise WrongKind(f"give the aggregate that watch returned, not {watched!r:.60}")
         if watched.table is not self:
-            raise NoAggregate("this aggregate is of another table")
+            raise NoAggregate("this aggregate belongs to another table")
 
     @property
     def watched(self) -> tuple[Watched[Any], ...]:
@@ -378,10 +378,10 @@ class Table(Editing, Moving):
         return tuple(self._watched)
 
     def recount(self, watched: Watched[Any]) -> dict[Key, Any]:
-        """Computes an aggregate from scratch, whatever is pending in it, as a dict.
+        """Computes an aggregate from all rows, and returns it as a dict from keys to lines.
 
-        An aggregate without key has the key None. If columns are away, the policy builds a second
-        aggregate beside it, row group by row group.
+        The only key of an aggregate without a key column is None. If columns are away, the policy
+        builds a second aggregate, row group by row group.
 
         >>> sold = table.watch(totals("quantity", by="sku"))
         >>> table.extend([("bread", 5), ("rye", 3)])
@@ -399,12 +399,12 @@ class Table(Editing, Moving):
                 return dict(watched._lines.first(watched._size.value))
             if self.policy is None:
                 raise Absent(column=absent[0], group=absent[1])
-            beside = self.watch(watched.spec)
+            second = self.watch(watched.spec)
             try:
-                build(self._mover, self.policy, beside.number)
-                return beside.to_dict()
+                build(self._mover, self.policy, second.number)
+                return second.to_dict()
             finally:
-                self.unwatch(beside)
+                self.unwatch(second)
 
     # CSV
 
@@ -415,7 +415,7 @@ class Table(Editing, Moving):
         progress: Union[bool, Progress] = False,
         **options: Any,
     ) -> range:
-        """Appends the rows of a CSV file, and returns their places; options are as of `read_csv`.
+        """Appends the rows of a CSV file, and returns their places; options are as for `read_csv`.
 
         The header's names must be those of the table, in any order.
 
@@ -439,8 +439,8 @@ class Table(Editing, Moving):
     ) -> int:
         """Writes the live rows as CSV, and returns how many they are.
 
-        ``missing`` stands for a missing cell. By default that is an empty field, which an empty
-        text has too; with ``missing="\\\\N"`` here and in `read_csv` each cell comes back.
+        ``missing`` is the field written for a missing cell. By default it is empty, as for an empty
+        text; with ``missing="\\\\N"`` here and in `read_csv` each cell is read back unchanged.
 
         >>> import sys
         >>> place = table.append(("bread", None))
@@ -452,7 +452,7 @@ class Table(Editing, Moving):
         with Shown(progress, str(path), " rows") as shown:
             return write_csv(self, path, delimiter, header, missing, shown)
 
-    # To look at
+    # Display
 
     def plot(self, path: Union[str, os.PathLike[str]], width: int = 720) -> None:
         """Writes the map of row groups by columns as an SVG file."""

@@ -1,6 +1,6 @@
-"""A process that may have so many bytes of address space, and holds a table of 8 times as many.
+"""A process with limited address space, which holds a table of 8 times as many bytes.
 
-Its argument is how many. It prints what the table has, and how much memory the process had.
+Its argument is the limit in bytes. It prints the table's state, and the process's peak memory.
 """
 
 from __future__ import annotations
@@ -18,7 +18,7 @@ TIMES = 8
 
 
 def main(most: int, path: str) -> None:
-    sys.modules["numpy"] = None  # type: ignore[assignment]  # it needs more memory than there is
+    sys.modules["numpy"] = None  # type: ignore[assignment]  # it needs more memory than the limit
     library()
     resource.setrlimit(resource.RLIMIT_AS, (most, most))
     rows = TIMES * most // (8 * len(COLUMNS)) // ROWS_AT_ONCE * ROWS_AT_ONCE + ROWS_AT_ONCE
@@ -44,7 +44,7 @@ def main(most: int, path: str) -> None:
 
 
 def peak() -> int:
-    """Returns how much memory this process had at most (getrusage counts its parent's, too)."""
+    """Returns the peak memory of this process (getrusage would include its parent's)."""
     with open("/proc/self/status") as file:
         line = next(line for line in file if line.startswith("VmHWM:"))
     return 1024 * int(line.split()[1])

@@ -1,4 +1,4 @@
-"""Engines that fail and lie, for tests."""
+"""Engines that fail and return wrong bytes, for tests."""
 
 from __future__ import annotations
 
@@ -6,11 +6,11 @@ import random
 
 
 class Broken(Exception):
-    """What a failing engine raises."""
+    """The exception of a failing engine."""
 
 
 class Faulty:
-    """Keeps contents in a dict; by chance it fails, forgets, or gives other bytes than were put."""
+    """Keeps contents in a dict; by chance it fails, forgets, or returns wrong bytes."""
 
     def __init__(self, seed: int, chance: float) -> None:
         self.random = random.Random(seed)

@@ -1,4 +1,4 @@
-"""A plain table of lists: what the table of the package must be like."""
+"""A plain table of lists, the model for the package's table."""
 
 from __future__ import annotations
 
@@ -19,7 +19,7 @@ _TESTS = {
 
 
 class PlainTable:
-    """Rows as lists, None for those that were removed; each answer is folded anew."""
+    """Rows as lists, None for removed ones; each answer is computed from all rows."""
 
     def __init__(self, kinds: dict[str, type]) -> None:
         self.names = list(kinds)

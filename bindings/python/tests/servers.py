@@ -1,4 +1,4 @@
-"""Redis servers on loopback for tests, and a client of a few lines where redis-py is missing."""
+"""Redis servers on loopback for tests, and a small client in case redis-py is missing."""
 
 from __future__ import annotations
 
@@ -15,7 +15,7 @@ from typing import Any, Iterator
 
 
 def free_port() -> int:
-    """Returns a free port; the one 10,000 above it, for a cluster's bus, is free too."""
+    """Returns a free port such that port + 10,000, for a cluster's bus, is free too."""
     while True:
         with socket.socket() as one:
             one.bind(("127.0.0.1", 0))
@@ -27,11 +27,11 @@ def free_port() -> int:
 
 
 class ReplyError(Exception):
-    """A reply of a server that says what is the matter."""
+    """An error reply of a server."""
 
 
 class TinyRedis:
-    """A client of a server, or of a cluster: it follows the server that a reply names."""
+    """A client of a server or a cluster, which follows redirections."""
 
     def __init__(self, ports: list[int]) -> None:
         self._ports = ports
@@ -61,7 +61,7 @@ class TinyRedis:
                 if said[0] not in ("MOVED", "ASK"):
                     raise
                 port = int(said[2].rpartition(":")[2])
-        raise ReplyError("it moves and moves")
+        raise ReplyError("too many redirections")
 
     def _call(self, port: int, words: tuple[str | bytes, ...]) -> Any:
         if port not in self._links:
@@ -79,7 +79,7 @@ class TinyRedis:
     def _reply(self, file: Any) -> Any:
         line = file.readline()
         if not line.endswith(b"\r\n"):
-            raise ConnectionError("the server hung up")
+            raise ConnectionError("the server closed the connection")
         kind, rest = line[:1], line[1:-2]
         if kind == b"-":
             raise ReplyError(rest.decode())
@@ -103,12 +103,12 @@ _LIBC = ctypes.CDLL(None)
 
 
 def _end_with_parent() -> None:
-    """Has a server end with the process of the tests, however that ends."""
+    """Lets a server end with the process of the tests, however that ends."""
     _LIBC.prctl(_PR_SET_PDEATHSIG, signal.SIGTERM)
 
 
 class Server:
-    """A redis-server on loopback, which keeps its contents when it is stopped and started."""
+    """A redis-server on loopback, which keeps its contents over a restart."""
 
     def __init__(self, folder: Path, cluster: bool = False) -> None:
         self.port = free_port()
@@ -141,14 +141,14 @@ class Server:
 
 
 def patiently(is_done: Any, seconds: float = 10.0) -> None:
-    """Waits until something is so."""
+    """Waits until a condition holds."""
     end = time.monotonic() + seconds
     while True:
         with contextlib.suppress(OSError, ReplyError):
             if is_done():
                 return
         if time.monotonic() > end:
-            raise TimeoutError("a redis-server does not come up")
+            raise TimeoutError("a redis-server does not start")
         time.sleep(0.02)
 
 
@@ -158,7 +158,7 @@ def has_redis_server() -> bool:
 
 @contextlib.contextmanager
 def one_server() -> Iterator[Server]:
-    """A server of its own."""
+    """Starts one server."""
     with tempfile.TemporaryDirectory() as folder:
         server = Server(Path(folder))
         try:
@@ -170,7 +170,7 @@ def one_server() -> Iterator[Server]:
 
 @contextlib.contextmanager
 def cluster_of_three() -> Iterator[list[Server]]:
-    """A cluster of three servers without replicas."""
+    """Starts a cluster of three servers without replicas."""
     with tempfile.TemporaryDirectory() as folder:
         servers = [Server(Path(folder), cluster=True) for _ in range(3)]
         try:
@@ -195,7 +195,7 @@ def _join(servers: list[Server]) -> None:
 
 
 def wait_for_cluster(server: Server) -> None:
-    """Waits until a server says that all of its cluster is there."""
+    """Waits until a server reports its whole cluster as up."""
     client = TinyRedis([server.port])
     patiently(lambda: b"cluster_state:ok" in client.call("CLUSTER", "INFO"))
     client.close()

@@ -1,4 +1,4 @@
-"""Many rows by columns: lists, arrays, buffers, and numpy and pandas where they are installed."""
+"""Many rows by columns: lists, arrays, buffers, and numpy and pandas if they are installed."""
 
 from __future__ import annotations
 
@@ -76,7 +76,7 @@ class Lists(Case):
         self.texts_come_back((t for t in "xyz"), ["x", "y", "z"])
         self.texts_come_back([], [])
 
-    def test_a_cell_alone_and_in_a_list_is_taken_by_one_rule(self) -> None:
+    def test_a_single_cell_and_one_in_a_list_follow_one_rule(self) -> None:
         nan, numbers, texts = float("nan"), self.numbers, self.texts
         cells: list[tuple[Any, Any]] = [(5.0, 5), (-0.0, 0), (True, 1), (nan, None), (fc.NA, None)]
         cells += [(-(2.0**63), -(2**63))]
@@ -106,11 +106,11 @@ class Lists(Case):
         self.assertEqual(total.sum, 8 * len(cells))
 
     def test_what_does_not_fit_is_named_and_nothing_goes_in(self) -> None:
-        self.refused(errors.WrongKind, "column n has whole numbers", n=[1, "x"])
+        self.refused(errors.WrongKind, "column n holds whole numbers", n=[1, "x"])
         self.refused(errors.WrongKind, "1.5", n=[1, 1.5])
         self.refused(errors.WrongKind, str(2**63), n=[1, 2**63])
         self.refused(errors.WrongKind, "'12'", n="12")
-        self.refused(errors.WrongKind, "column t has texts, and 5", t=["a", 5])
+        self.refused(errors.WrongKind, "column t holds texts, not 5", t=["a", 5])
         self.refused(errors.WrongKind, "one text", t="abc")
         self.refused(errors.NoUtf8, "surrogate", t=["a", "\ud800"])
 
@@ -139,7 +139,7 @@ class Lists(Case):
             self.assertGreater(table.stats().away, 100)
         self.assertEqual(calls, [(65_536, 150_001), (131_072, 150_001), (150_001, 150_001)])
 
-    def test_what_is_empty_lies_where_a_number_may_lie(self) -> None:
+    def test_an_empty_buffer_has_an_aligned_address(self) -> None:
         for buffer in (array("q"), bytes(), bytearray(), array("Q", [])):
             self.assertEqual(address_of(buffer) % 8, 0)
 
@@ -174,7 +174,7 @@ class Numpy(Case):
         self.refused(errors.WrongKind, "1.5", n=numpy.array([1.0, 1.5]))
         self.refused(errors.WrongKind, "1e+300", n=numpy.array([1e300]))
         self.refused(errors.WrongKind, str(2**63), n=numpy.array([2**63], dtype="uint64"))
-        self.refused(errors.BadArgument, "2 dimensions", n=numpy.zeros((2, 2), dtype="int64"))
+        self.refused(errors.BadArgument, "1 dimension, not 2", n=numpy.zeros((2, 2), dtype="int64"))
 
     def test_texts(self) -> None:
         self.texts_come_back(numpy.array(["a", "é"]), ["a", "é"])
@@ -245,7 +245,7 @@ class Pandas(Case):
             again.close()
         for values, said in (
             ([1.5, 2], r"column n has decimals.*\* 100\).round"),
-            (pandas.to_datetime(["2024-01-01"]), r"datetime64.*astype\(str\) is texts"),
+            (pandas.to_datetime(["2024-01-01"]), r"datetime64.*astype\(str\) makes texts"),
             ([b"x", 1], "is of object"),
         ):
             with self.assertRaisesRegex(errors.WrongKind, said):
@@ -272,7 +272,7 @@ class Pandas(Case):
 
 
 class Addresses(unittest.TestCase):
-    def test_where_bytes_lie(self) -> None:
+    def test_the_address_of_bytes(self) -> None:
         for content in (b"x", b"bread", bytes(1000)):
             self.assertEqual(id(content) + BYTES_AT, address_of(content))
 

@@ -1,4 +1,4 @@
-"""CSV files: read and written, guessed, broken in many ways."""
+"""CSV files: reading, writing, guessed kinds, and invalid files."""
 
 from __future__ import annotations
 
@@ -86,7 +86,7 @@ class Reading(unittest.TestCase):
         for digits in (-1, "2", 19, 1.0):
             with self.assertRaisesRegex(ValueError, "scaled takes 0 to 18 decimals"):
                 fc.scaled(digits)
-        for wrong, said in (("x", "'x' is no decimal number"), ("1.999", "more than 2 decimals")):
+        for wrong, said in (("x", "'x' is not a decimal"), ("1.999", "more than 2 decimals")):
             with self.assertRaises(fc.CsvError) as caught:
                 self.rows(text + f"cake,{wrong}\n", convert={"price": fc.scaled(2)})
             self.assertIn(said, str(caught.exception))
@@ -101,11 +101,11 @@ class Reading(unittest.TestCase):
             self.assertEqual(table[-2:], [(150,), (225,)])
         with self.assertRaises(fc.CsvError) as caught:
             read(text, convert={"a": fc.scaled(1)})
-        self.assertTrue(str(caught.exception).endswith("more than 1 decimals: scaled(2) reads it"))
-        with self.assertRaisesRegex(TypeError, "convert of column a: 'cents' is no function"):
+        self.assertTrue(str(caught.exception).endswith("more than 1 decimals: use scaled(2)"))
+        with self.assertRaisesRegex(TypeError, "convert of column a: 'cents' is not a function"):
             read(text, convert={"a": "cents"})
 
-    def test_a_file_of_a_header_alone(self) -> None:
+    def test_a_file_with_only_a_header(self) -> None:
         self.assertEqual(self.rows(HEAD), [])
 
     def test_many_rows_in_chunks_with_progress(self) -> None:
@@ -137,7 +137,7 @@ class Reading(unittest.TestCase):
 
 
 class Broken(unittest.TestCase):
-    """Each says where the fault is: line, column, text."""
+    """Each error names the place: line, column, text."""
 
     def refused(self, content: str | bytes, said: str, **due: Any) -> None:
         options = due.pop("options", {})
@@ -152,46 +152,46 @@ class Broken(unittest.TestCase):
         self.refused("", "the file is empty")
         self.refused("a,,c\n1,2,3\n", "column 2 has no name", line=1)
         self.refused("a,b,a\n1,2,3\n", "two columns are named 'a'", line=1)
-        self.refused(HEAD + "bread,5\nrye\n", "1 field, and there should be 2", line=3)
-        self.refused(HEAD + "bread,5,6\n", "3 fields, and there should be 2", line=2)
+        self.refused(HEAD + "bread,5\nrye\n", "1 field instead of 2", line=3)
+        self.refused(HEAD + "bread,5,6\n", "3 fields instead of 2", line=2)
         wide = ",".join(f"c{n}" for n in range(17))
-        self.refused(wide + "\n", "17 columns, and a table has at most 16")
+        self.refused(wide + "\n", "17 columns, but a table has at most 16")
 
     def test_quotes(self) -> None:
-        self.refused(HEAD + 'bread,5\n"rye,6\n', "a quote is opened, and never closed")
-        self.refused(HEAD + '"bread"s,5\n', "behind a closing quote", line=2)
+        self.refused(HEAD + 'bread,5\n"rye,6\n', "a quote is opened but never closed")
+        self.refused(HEAD + '"bread"s,5\n', "a closing quote is followed by neither", line=2)
 
     def test_numbers(self) -> None:
         many = HEAD + "bread,5\n" * 1500
         due = {"line": 1502, "column": "quantity"}
-        self.refused(many + "rye,six\n", "'six' is no whole number of 64 bits", text="six", **due)
+        self.refused(many + "rye,six\n", "'six' is not a whole number of 64", text="six", **due)
         self.refused(many + "rye,1e5\n", "int was guessed", text="1e5", **due)
-        self.refused(many + f"rye,{2**63}\n", "no whole number", text=str(2**63), **due)
-        self.refused(many + "rye,1_000\n", "no whole number", text="1_000", **due)
-        self.refused(many + "rye,5-\n", "no whole number", text="5-", **due)
+        self.refused(many + f"rye,{2**63}\n", "not a whole number", text=str(2**63), **due)
+        self.refused(many + "rye,1_000\n", "not a whole number", text="1_000", **due)
+        self.refused(many + "rye,5-\n", "not a whole number", text="5-", **due)
         options = {"types": {"sku": int}}
         self.refused(HEAD + "bread,5\n", "line 2, column sku: 'bread'", options=options)
 
     def test_texts(self) -> None:
         self.refused(
-            HEAD.encode() + b"bread,5\nr\xffe,6\n", "is not in UTF-8", line=3, column="sku"
+            HEAD.encode() + b"bread,5\nr\xffe,6\n", "is not valid UTF-8", line=3, column="sku"
         )
         long = "x" * 4097
         self.refused(HEAD + f"bread,5\n{long},6\n", "has 4,097 bytes", line=3, column="sku")
         self.refused(HEAD + "x" * 140_000 + ",6\n", "field larger than field limit", line=2)
 
-    def test_a_fault_behind_a_text_of_several_lines(self) -> None:
+    def test_a_fault_after_a_text_of_several_lines(self) -> None:
         self.refused(
             HEAD + '"a\nb\nc",5\nd,x\n', "'x' is no", line=5, options={"types": {"quantity": int}}
         )
 
-    def test_options_that_there_are_not(self) -> None:
+    def test_unknown_options(self) -> None:
         for option, said in (
             ("sep", "read_csv has no option sep; use delimiter"),
             ("dtype", "use types"),
             ("usecols", "use columns"),
             ("lokal", "use local"),
-            ("index_col", "there are delimiter, header, names"),
+            ("index_col", "its options are delimiter, header, names"),
         ):
             with self.assertRaisesRegex(TypeError, said):
                 read(HEAD, **{option: 1})
@@ -202,7 +202,7 @@ class Broken(unittest.TestCase):
     def test_another_delimiter(self) -> None:
         for mark in ";\t|":
             text = f"a{mark}b\n1{mark}2,5\n"
-            self.refused(text, f"delimiter={mark!r} cuts it, delimiter=',' leaves it whole", line=1)
+            self.refused(text, f"delimiter={mark!r} splits it, delimiter=',' keeps it", line=1)
             with read(text, delimiter=mark) as table:
                 self.assertEqual(list(table), [(1, "2,5")])
         self.refused("1;2\n", "the first row is one field, '1;2'", options={"header": False})
@@ -216,10 +216,10 @@ class Broken(unittest.TestCase):
             self.assertEqual(list(table), [("Müller", 5)])
         with read(text.encode("utf-16"), encoding="utf-16") as table:
             self.assertEqual(list(table), [("Müller", 5)])
-        said = "b'M\\xfcller' is not in UTF-8: encoding=\"latin-1\" may help"
+        said = "b'M\\xfcller' is not valid UTF-8: try encoding=\"latin-1\""
         self.refused(text.encode("latin-1"), said, line=2, column="sku")
-        self.refused("Größe\n5\n".encode("latin-1"), 'encoding="latin-1" may help', line=1)
-        self.refused(text, "there is no encoding 'utf8000'", options={"encoding": "utf8000"})
+        self.refused("Größe\n5\n".encode("latin-1"), 'try encoding="latin-1"', line=1)
+        self.refused(text, "unknown encoding 'utf8000'", options={"encoding": "utf8000"})
 
     def test_a_file_that_is_not_there(self) -> None:
         with self.assertRaises(FileNotFoundError):

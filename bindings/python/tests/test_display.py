@@ -1,4 +1,4 @@
-"""What is shown: reprs, HTML, and the map of row groups by columns."""
+"""Display: reprs, HTML, and the map of row groups by columns."""
 
 from __future__ import annotations
 
@@ -15,7 +15,7 @@ KINDS = {"sku": str, "quantity": int}
 
 
 def cells_of(svg: str) -> list[str]:
-    """Returns the states of the cells of a picture, without those of its legend and its page."""
+    """Returns the states of the cells of a picture, without its legend and its page."""
     rects = xml.fromstring(svg).iter(f"{SVG}rect")
     return [rect.attrib["class"][3:] for rect in rects if rect.attrib.get("height") == "16"]
 
@@ -73,7 +73,7 @@ class Texts(unittest.TestCase):
             self.assertIn("&lt;1&gt;", html)
             self.assertIn("and 10 lines more", html)
             self.assertIn('<td class="n">49</td>', plain._repr_html_())
-        self.assertIn("not watched", keyed._repr_html_())
+        self.assertIn("no longer watched", keyed._repr_html_())
 
     def test_reprs_can_be_pasted(self) -> None:
         values = [

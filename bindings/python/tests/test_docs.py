@@ -1,4 +1,4 @@
-"""The examples of docstrings, README.md and docs/TUTORIAL.md run as they stand."""
+"""Runs the examples of docstrings, README.md and docs/TUTORIAL.md."""
 
 from __future__ import annotations
 

@@ -1,4 +1,4 @@
-"""The package says of the library what include/fullercoral.h says."""
+"""Compares the package's declarations with include/fullercoral.h."""
 
 from __future__ import annotations
 
@@ -29,7 +29,7 @@ STRUCTS = {
     "fc_object": _header.ObjectStruct,
     "fc_space": _header.SpaceStruct,
 }
-# Fields of an fc_bytes inside another structure, which Python has in its place.
+# Fields of an fc_bytes inside another structure, which Python has instead of it.
 _PARTS = {"text_at": "text.at", "text_len": "text.len", "key_at": "key_text.at"}
 _PARTS["key_len"] = "key_text.len"
 

@@ -1,4 +1,4 @@
-"""A process that may have little memory holds a table of 8 times as much."""
+"""A process with little memory holds a table of 8 times as much."""
 
 from __future__ import annotations
 

@@ -1,4 +1,4 @@
-"""Objects go away and come back; aggregates stay exact; engines fail and nothing is lost."""
+"""Evictions and fetches; aggregates stay exact; engines fail and nothing is lost."""
 
 from __future__ import annotations
 
@@ -18,7 +18,7 @@ SMALL = fc.Limits(group=16, int_segments=4, int_size=16, text_segments=4, text_s
 
 
 class Dumb:
-    """An engine with nothing but put and get."""
+    """An engine with only put and get."""
 
     def __init__(self) -> None:
         self.contents: dict[int, bytes] = {}
@@ -160,8 +160,11 @@ class Aggregates(unittest.TestCase):
                     table.watch(fc.totals("quantity", where=where))
             with self.assertRaises(errors.BadSpec):
                 fc.totals("quantity", where=[("quantity", ">", 0)] * 5)
-            with self.assertRaises(errors.BadSpec):
-                fc.totals("quantity", where=("quantity", ">", 0))  # type: ignore[arg-type]
+            for where in (("quantity", ">", 0), "quantity > 0"):
+                with self.assertRaisesRegex(errors.BadSpec, "where is a list of tests"):
+                    fc.totals("quantity", where=where)  # type: ignore[arg-type]
+            with self.assertRaisesRegex(errors.BadSpec, "a test is "):
+                fc.totals("quantity", where=[("quantity", ">")])  # type: ignore[list-item]
 
     def test_at_most_32_and_numbers_are_used_again(self) -> None:
         with fc.Table(KINDS, local="1MB") as table:
@@ -247,7 +250,9 @@ class ByHand(unittest.TestCase):
             with self.assertRaises(errors.Absent) as caught:
                 table.set(3, "sku", "x")
             self.assertEqual((caught.exception.column, caught.exception.group), ("quantity", 0))
-            self.assertIn("column quantity is away in row group 0", str(caught.exception))
+            self.assertIn("column quantity is away in row group 0; fetch it", str(caught.exception))
+            with self.assertRaisesRegex(errors.Absent, "is away already in row group 0"):
+                table.evict("quantity", 0)
             for call in (lambda: table[3], lambda: table["quantity"][0:20], lambda: list(table)):
                 with self.assertRaises(errors.Absent):
                     call()
@@ -360,9 +365,9 @@ class Engines(unittest.TestCase):
             sold = table.watch(fc.totals("quantity", by="sku"))
             table.evict()
             right = dict(engine._contents)
-            said = r"Memory\(\) returns other bytes than it was given for column sku of row group 2"
+            said = r"Memory\(\) returns other bytes than were put for column sku of row group 2"
             for contents, kind, due in (
-                (dict.fromkeys(right, b"x"), fc.FarFault, said + ": put those back and call again"),
+                (dict.fromkeys(right, b"x"), fc.FarFault, said + ": restore them and call again"),
                 ({}, fc.EngineError, r"cannot return column sku of row group 2 \(KeyError: "),
             ):
                 engine._contents = contents
@@ -414,7 +419,7 @@ class Engines(unittest.TestCase):
         with tempfile.TemporaryDirectory() as folder:
             path = Path(folder, "orders.csv")
             path.write_text("sku,quantity\n")
-            with self.assertRaisesRegex(FileExistsError, "orders.csv is no file of contents"):
+            with self.assertRaisesRegex(FileExistsError, "orders.csv exists and was not made"):
                 filled(16, far=fc.Files(path))
             with filled(16) as table:
                 with self.assertRaisesRegex(FileExistsError, "give Files another path"):
@@ -434,7 +439,7 @@ class Engines(unittest.TestCase):
                 (f"{folder}/no/x.far", FileNotFoundError, f"there is no folder {folder}/no"),
                 (folder, IsADirectoryError, "is a folder: give Files the path of a file"),
                 ("/proc/x.far", OSError, "/proc/x.far"),
-                ("/dev/null", FileExistsError, "left as it is"),
+                ("/dev/null", FileExistsError, "not changed"),
             ):
                 engine = fc.Files(path)
                 for _ in range(2):

@@ -1,4 +1,4 @@
-"""Large pages for local memory: which memory is new, and what is asked for it."""
+"""Large pages for local memory: finding the new memory, and asking for large pages."""
 
 from __future__ import annotations
 
@@ -14,7 +14,7 @@ _SWITCH = Path("/sys/kernel/mm/transparent_hugepage/enabled")
 
 
 def _asked() -> int:
-    """Returns for how many bytes of this process large pages are asked."""
+    """Returns for how many bytes this process has asked for large pages."""
     size = total = 0
     for line in Path("/proc/self/smaps").read_text().splitlines():
         if line.startswith("Size:"):

@@ -1,4 +1,4 @@
-"""Progress: a bar on a terminal, nothing elsewhere, or a call."""
+"""Progress: a bar on a terminal, nothing elsewhere, or a callback."""
 
 from __future__ import annotations
 
@@ -30,7 +30,7 @@ class Progress(unittest.TestCase):
         self.assertEqual(second, f"orders.csv {'█' * 30} 100% 10 MB/s, 0 s left")
         self.assertEqual(last, "")
 
-    def test_true_is_a_bar_on_a_terminal_alone(self) -> None:
+    def test_true_is_a_bar_only_on_a_terminal(self) -> None:
         for stream, drawn in ((Terminal(), True), (io.StringIO(), False)):
             with contextlib.redirect_stderr(stream), Shown(True, "x") as shown:
                 shown(1, 1)

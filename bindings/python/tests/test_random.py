@@ -1,4 +1,4 @@
-"""Random operations, each compared with a plain table of lists, also over engines that lie."""
+"""Random operations, each compared with a plain table of lists, also over faulty engines."""
 
 from __future__ import annotations
 
@@ -71,7 +71,7 @@ class Run:
         return self.random.randrange(len(self.plain.rows) + 2)
 
     def both(self, real: Any, plain: Any) -> None:
-        """Does the same to both tables; a plain refusal must be the table's, too."""
+        """Makes a call on both tables; if the plain one refuses, the table must too."""
         try:
             due, error = plain(), None
         except fc.Refused as refused:
@@ -82,7 +82,7 @@ class Run:
             with self.test.assertRaises(type(error)):
                 real()
 
-    # Edits: of the plain table second, since the table may be refused by its engine
+    # Edits: the plain table comes second, since the other may fail by its engine
 
     def do_append(self) -> None:
         if len(self.plain.rows) > 1500:
@@ -256,7 +256,7 @@ def _none(row: list[Any]) -> list[Any]:
 
 
 class RandomOperations(unittest.TestCase):
-    """``FULLERCORAL_TIMES`` multiplies how many there are."""
+    """``FULLERCORAL_TIMES`` multiplies the number of operations."""
 
     def run_many(self, count: int, chance: float, policy: Any, seed: int) -> Run:
         count *= int(os.environ.get("FULLERCORAL_TIMES", "1"))

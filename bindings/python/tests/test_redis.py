@@ -1,4 +1,4 @@
-"""Tables over redis-servers on loopback: one, and a cluster of three of which one is stopped."""
+"""Tables over redis-servers on loopback: one, and a cluster of three, one of which is stopped."""
 
 from __future__ import annotations
 
@@ -20,7 +20,7 @@ ROWS = 4000
 
 
 def client_of(ports: list[int]) -> Any:
-    """Returns a client of redis-py, or the one of these tests where it is missing."""
+    """Returns a client of redis-py, or that of these tests if redis-py is missing."""
     if redis is None:
         return servers.TinyRedis(ports)
     if len(ports) == 1:

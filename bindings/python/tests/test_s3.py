@@ -1,4 +1,4 @@
-"""A table over a server that speaks S3: moto's, where it and boto3 are installed."""
+"""A table over a server that speaks S3: moto's, if it and boto3 are installed."""
 
 from __future__ import annotations
 

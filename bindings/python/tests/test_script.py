@@ -1,4 +1,4 @@
-"""The scripts of examples/ get the replies that stand beside them."""
+"""The scripts of examples/ get the replies of their .out files."""
 
 from __future__ import annotations
 
@@ -8,7 +8,7 @@ from pathlib import Path
 from fullercoral.script import Script
 
 EXAMPLES = Path(__file__).resolve().parents[3] / "examples"
-# A recount of what is away takes numbers of jobs, and in these scripts a later reply shows one.
+# A recount of objects that are away takes job numbers, which a later reply of these scripts shows.
 SHOWS_JOBS = {
     "a_recount_between_the_phases_of_jobs",
     "offloads_build_what_is_away",

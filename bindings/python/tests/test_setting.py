@@ -1,4 +1,4 @@
-"""Many cells of a column at once: all forms of places and values, refusals, and what is away."""
+"""Many cells of a column at once: all forms of places and values, refusals, and objects away."""
 
 from __future__ import annotations
 
@@ -33,7 +33,7 @@ class Case(unittest.TestCase):
         self.table.extend((f"sku{n}", n) for n in range(ROWS))
 
     def sets(self, places: Any, values: Any, due: dict[int, Any], column: str = "quantity") -> None:
-        """Sets cells, finds those that are due and no other changed, and sets them back."""
+        """Sets cells, checks that only the expected ones changed, and sets them back."""
         before = self.table[column].to_list()
         with self.subTest(places=type(places), values=type(values)):
             self.table.set_column(column, places, values)
@@ -71,8 +71,8 @@ class Places(Case):
         mask = [place in (2, 7) for place in range(ROWS)]
         self.sets(mask, [20, 70], {7: 70, 2: 20})
         self.sets(tuple(mask), 5, {7: 5, 2: 5})
-        self.refused(errors.BadArgument, "2 flags, and the table has 10", "quantity", mask[:2], 5)
-        self.refused(errors.BadArgument, "7 is none", "quantity", [*mask[:-1], 7], 5)
+        self.refused(errors.BadArgument, "2 flags, but the table has 10", "quantity", mask[:2], 5)
+        self.refused(errors.BadArgument, "True and False, not 7", "quantity", [*mask[:-1], 7], 5)
 
     def test_the_last_of_a_place_counts(self) -> None:
         self.sets([3, 3, 3], [1, None, 33], {3: 33})
@@ -86,9 +86,9 @@ class Places(Case):
         for place in (10, -11, 2**32, 2**70, -(2**70)):
             error = self.refused(errors.NoRow, "the last one is 9", "quantity", [1, place], [5, 5])
             self.assertEqual((error.place, error.cells_set), (place, None))
-        self.refused(errors.BadArgument, "'x' is none", "quantity", ["x"], [5])
-        self.refused(errors.BadArgument, "1.5 is none", "quantity", [1, 1.5], [5, 5])
-        self.refused(errors.BadArgument, "None is none", "quantity", [None], [5])
+        self.refused(errors.BadArgument, "not 'x'", "quantity", ["x"], [5])
+        self.refused(errors.BadArgument, "not 1.5", "quantity", [1, 1.5], [5, 5])
+        self.refused(errors.BadArgument, "not None", "quantity", [None], [5])
         self.as_at_first()
 
 
@@ -134,22 +134,22 @@ class Values(Case):
             self.assertEqual((error.place, error.cells_set), (4, None))
 
         wrong, places = errors.WrongKind, [0, 4]
-        refused(wrong, "quantity has whole numbers of 64 bits, and 'x' for place 4 is none",
+        refused(wrong, "quantity holds whole numbers of 64 bits, not 'x' for place 4",
                 "quantity", places, [1, "x"])  # fmt: skip
         refused(wrong, "1.5 for place 4", "quantity", places, [None, 1.5])
         refused(wrong, f"{2**63} for place 4", "quantity", [-10, -6], [1, 2**63])
-        refused(wrong, "column sku has texts, and 5 for place 4", "sku", places, ["x", 5])
+        refused(wrong, "column sku holds texts, not 5 for place 4", "sku", places, ["x", 5])
         refused(wrong, "b'x' for place 4", "sku", places, [None, b"x"])
         refused(errors.NoUtf8, "for place 4 holds half", "sku", places, ["x", "\ud800"])
-        self.refused(wrong, "'x' is none", "quantity", places, "x")
-        self.refused(wrong, "1.5 is none", "quantity", places, 1.5)
-        self.refused(wrong, "5 is none", "sku", places, 5)
+        self.refused(wrong, "not 'x'", "quantity", places, "x")
+        self.refused(wrong, "not 1.5", "quantity", places, 1.5)
+        self.refused(wrong, "not 5", "sku", places, 5)
         self.refused(errors.NoColumn, "no column 'prize'", "prize", places, 5)
         self.as_at_first()
 
     def test_as_many_values_as_places(self) -> None:
         for values in ([], [1], [1, 2, 3], array("q", [1, 2, 3]), (1,)):
-            said = f"{len(values)} values are given for 2 places of column quantity"
+            said = f"there are {len(values)} values for 2 places of column quantity"
             self.refused(errors.BadArgument, said, "quantity", [0, 1], values)
         self.refused(errors.BadArgument, "1 values", "sku", slice(0, 2), ["x"])
         self.as_at_first()
@@ -173,7 +173,7 @@ class Refusals(Case):
         self.assertEqual(sold.sum, sum(range(ROWS)) - 4 - 3 + 140)
 
     def test_too_many_bytes_of_few_characters(self) -> None:
-        self.ended(errors.TextTooLong, "2,049 characters, and more than 4,096 bytes",
+        self.ended(errors.TextTooLong, "2,049 characters, which take more than 4,096 bytes",
                    "sku", [1, 2, 4], ["a", "b", "é" * 2049])  # fmt: skip
 
     def test_the_limit_of_edits(self) -> None:
@@ -201,7 +201,7 @@ class Refusals(Case):
 
 
 class Arrays(Case):
-    """Places and numbers as arrays, which go to the library as they are."""
+    """Places and numbers as arrays, which the library reads without a copy."""
 
     def arrays(self, places: Any, values: Any) -> tuple[Any, Any]:
         return array("I", places), array("q", values)
@@ -240,7 +240,7 @@ class Arrays(Case):
             error = self.refused(errors.NoRow, "the last one is 9", "quantity", *arguments)
             self.assertEqual((error.place, error.cells_set), (place, None))
         uneven = self.arrays([1, 2], [5])
-        self.refused(errors.BadArgument, "1 values are given for 2", "quantity", *uneven)
+        self.refused(errors.BadArgument, "there are 1 values for 2", "quantity", *uneven)
         self.refused(errors.WrongKind, "5 for place 1", "sku", *self.arrays([1, 2], [5, 5]))
         self.refused(errors.NoColumn, "no column 'prize'", "prize", *self.arrays([1], [5]))
         self.as_at_first()
@@ -426,8 +426,8 @@ class Numpy(Case):
         mask[[2, 7]] = True
         self.sets(mask, [20, 70], due)
         self.refused(errors.BadArgument, "9 flags", "quantity", mask[:9], 5)
-        self.refused(errors.BadArgument, "2 dimensions", "quantity", numpy.zeros((1, 1), int), 5)
-        self.refused(errors.BadArgument, "1.5 is none", "quantity", numpy.array([1.5]), 5)
+        self.refused(errors.BadArgument, "array of 1", "quantity", numpy.zeros((1, 1), int), 5)
+        self.refused(errors.BadArgument, "not 1.5", "quantity", numpy.array([1.5]), 5)
         for place, kind in ((10, "int64"), (-11, "int8"), (2**64 - 1, "uint64"), (200, "uint8")):
             places = numpy.array([0, place], dtype=kind)
             error = self.refused(errors.NoRow, "the last one is 9", "quantity", places, 5)

@@ -1,4 +1,4 @@
-"""The shell: its replies, its completion, and a terminal that it runs in."""
+"""The shell: its replies, its completion, and a run in a terminal."""
 
 from __future__ import annotations
 
@@ -67,7 +67,7 @@ class Replies(unittest.TestCase):
         self.says("insert cake,1,", "place 3")
         self.says("remove 0", "ok")
         self.says("lend quantity 0 4", "piece -+++ 5,30,2,1")
-        self.says(".evict", "3 objects went away")
+        self.says(".evict", "evicted 3 objects")
         self.says_like(
             ".status", "quantity ·", "3 rows at 4 places", "policy on", "aggregate 0: totals"
         )
@@ -89,8 +89,8 @@ class Replies(unittest.TestCase):
 
     def test_files_of_other_kinds(self) -> None:
         self.path.write_bytes("sku;quantity\nBrötchen;5\n".encode("latin-1"))
-        self.says_like(f".import {self.path} local=1MB", "delimiter=';' cuts it")
-        self.says_like(f".import {self.path} local=1MB delimiter=';'", 'encoding="latin-1" may')
+        self.says_like(f".import {self.path} local=1MB", "delimiter=';' splits it")
+        self.says_like(f".import {self.path} local=1MB delimiter=';'", 'try encoding="latin-1"')
         self.says(".close", "ok")
         self.says_like(f".import {self.path} delimiter=; encoding=latin-1", "quantity int")
         self.says_like(".rows 0", "0  Brötchen         5")
@@ -98,7 +98,7 @@ class Replies(unittest.TestCase):
     def test_names_with_spaces(self) -> None:
         self.path.write_text("Store,Unit Price,Qty\nBerlin,1.99,5\nWien,2.50,3\n")
         self.says_like(f".import {self.path} local=1MB", "Unit Price str")
-        self.says_like('.watch totals "Unit Price" by Store', "has texts.*scaled=.Unit Price:2")
+        self.says_like('.watch totals "Unit Price" by Store', "holds texts.*scaled=.Unit Price:2")
         self.says(".close", "ok")
         self.says_like(f'.import {self.path} local=1MB scaled="Unit Price:2"', "Unit Price int")
         self.says_like('.watch totals "Unit Price" by Store', "Berlin +1 +199")
@@ -107,9 +107,9 @@ class Replies(unittest.TestCase):
         self.says("ask 0", '"Bern, ""Stadt""" count 1 sum 300\nWien count 1 sum 250')
         self.says('lend "Unit Price" 0 2', "piece ++ 300,250")
         self.says_like(
-            "watch totals Unit Price", "no column 'Unit'; there are Store, Unit Price, Qty"
+            "watch totals Unit Price", "no column 'Unit'; the columns are Store, Unit Price, Qty"
         )
-        self.says_like(".watch sum Qty", r"this is no \.watch command")
+        self.says_like(".watch sum Qty", r"this is not a valid \.watch command: \.watch totals")
 
     def test_open_and_options(self) -> None:
         far = self.folder / "x.far"
@@ -118,27 +118,29 @@ class Replies(unittest.TestCase):
         self.assertEqual(
             (self.shell.table.limits.group, self.shell.table.columns), (16, ("sku", "quantity"))
         )
-        self.says_like(".open nonsense", "no column")
+        self.says_like(".open nonsense", "not a column")
         self.says_like(".open a:float", "a column holds int")
-        self.says_like(".open a:int local=much", "no amount of memory")
+        self.says_like(".open a:int local=much", "not an amount of memory")
         self.says(
             "schema 4 int",
-            "this is no schema command. schema GROUP KINDS      "
-            "opens a table without names, as a script's first line does",
+            "this is not a valid schema command: schema GROUP KINDS",
         )
 
     def test_refusals_are_sentences_with_their_number(self) -> None:
         self.says(".open sku:text,quantity:int local=1MB", "ok")
         self.says(
             "insert bread,x",
-            "refused: column quantity has whole numbers of 64 bits, and 'x' is none [5]",
+            "refused: column quantity holds whole numbers of 64 bits, not 'x' [5]",
         )
         self.says("set 7 quantity 5", "refused: there is no place 7; the table is empty [8]")
         self.says("ask 3", "refused: there is no such aggregate (any more) [12]")
         self.says(
             "insert",
-            "this is no insert command. insert CSV              set PLACE COLUMN CSV"
-            "      remove PLACE          dump",
+            "this is not a valid insert command: insert CSV",
+        )
+        self.says(
+            "set quantity 0 9",
+            "this is not a valid set command: set PLACE COLUMN CSV",
         )
         self.says("fly", "there is no command 'fly'; try help")
         self.says(".fly", "there is no command '.fly'; try help")
@@ -146,7 +148,7 @@ class Replies(unittest.TestCase):
         self.says_like(".watch totals price", "no column 'price'")
         self.says(".policy off", "ok")
         self.says("insert bread,5", "place 0")
-        self.says(".evict quantity 0", "1 object went away")
+        self.says(".evict quantity 0", "evicted 1 object")
         self.says(
             "set 0 sku rye", "refused: column quantity is away in row group 0; fetch it first [16]"
         )
@@ -226,8 +228,8 @@ class Processes(unittest.TestCase):
         wrong += "exit\nfly\n"
         status, said, _ = self.piped(wrong)
         self.assertEqual(status, 1)
-        self.assertIn("quantity has whole numbers of 64 bits, and 'x' is none [5]\n", said)
-        self.assertIn("no column 'nope'; there are sku, quantity [4]\n", said)
+        self.assertIn("quantity holds whole numbers of 64 bits, not 'x' [5]\n", said)
+        self.assertIn("no column 'nope'; the columns are sku, quantity [4]\n", said)
         self.assertNotIn("fly", said)
         self.assertEqual(self.piped("\n.open a:int\ninsert 5\n"), (0, "ok\nplace 0\n", ""))
 

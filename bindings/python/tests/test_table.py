@@ -1,4 +1,4 @@
-"""The table: rows, cells, columns, and what is refused."""
+"""The table: rows, cells, columns, and refusals."""
 
 from __future__ import annotations
 
@@ -34,7 +34,7 @@ class Rows(Case):
         self.assertEqual((table[1].sku, table[-1].quantity), ("", 2**63 - 1))
         self.assertEqual(repr(table[0]), "Row(sku='bread', quantity=5)")
 
-    def test_names_that_are_no_identifiers(self) -> None:
+    def test_names_that_are_not_identifiers(self) -> None:
         with fc.Table({"Order ID": int, "class": str, "n": int}, local="1MB") as table:
             table.append({"n": 3, "Order ID": 7, "class": "x"})
             for row in (table[0], *table, *table.head(1)):
@@ -116,7 +116,7 @@ class Rows(Case):
         self.assertEqual(table.head(2), [("sku1", 1), ("sku3", 3)])
         self.assertEqual(table.tail(2), [("sku997", 997), ("sku999", 999)])
 
-    def test_extend_counts_what_went_in_before_a_refusal(self) -> None:
+    def test_extend_counts_the_rows_inserted_before_a_refusal(self) -> None:
         table = self.table
         with self.assertRaises(errors.TextTooLong) as caught:
             table.extend([("bread", 5), ("rye", 3), ("x" * 4097, 1), ("oat", 1)])
@@ -134,7 +134,7 @@ class Rows(Case):
             before = len(table)
             with self.subTest(rows=rows), self.assertRaises(kind) as caught:
                 table.extend(rows)
-            self.assertIn("; 1 row went in before", str(caught.exception))
+            self.assertIn("; 1 row was inserted before", str(caught.exception))
             self.assertEqual((len(table), table[-1]), (before + 1, ("oat", 5)))
         self.assertEqual(table.extend([]), range(8, 8))
         self.assertEqual(table.extend(iter([("cake", 1)])), range(8, 9))
@@ -159,30 +159,30 @@ class Refusals(Case):
             call()
         self.assertIn(said, str(caught.exception))
 
-    def test_each_names_what_is_the_matter(self) -> None:
+    def test_each_refusal_names_its_cause(self) -> None:
         table = self.table
         table.append(("bread", 5))
         self.refused(
             errors.NoColumn,
-            "no column 'prize'; there are sku, quantity [4]",
+            "no column 'prize'; the columns are sku, quantity [4]",
             lambda: table.set(0, "prize", 1),
         )
         self.refused(errors.NoColumn, "no column 'prize'", lambda: table["prize"])
         self.refused(
             errors.WrongKind,
-            "column sku has texts, and 5 is none [5]",
+            "column sku holds texts, not 5 [5]",
             lambda: table.set(0, "sku", 5),
         )
         self.refused(
             errors.WrongKind,
-            "quantity has whole numbers of 64 bits, and 'x' is none",
+            "quantity holds whole numbers of 64 bits, not 'x'",
             lambda: table.append(("bread", "x")),
         )
         self.refused(errors.WrongKind, "1.5", lambda: table.set(0, "quantity", 1.5))
-        self.refused(errors.WrongKind, "is none", lambda: table.set(0, "quantity", 2**63))
-        self.refused(errors.WrongKind, "is none", lambda: table.append((b"bread", 1)))
-        self.refused(errors.RowWidth, "3 cells, and the table 2", lambda: table.append((1, 2, 3)))
-        self.refused(errors.RowWidth, "no value of sku", lambda: table.append({"quantity": 1}))
+        self.refused(errors.WrongKind, f"not {2**63}", lambda: table.set(0, "quantity", 2**63))
+        self.refused(errors.WrongKind, "not b'bread'", lambda: table.append((b"bread", 1)))
+        self.refused(errors.RowWidth, "but the table has 2", lambda: table.append((1, 2, 3)))
+        self.refused(errors.RowWidth, "the row lacks sku", lambda: table.append({"quantity": 1}))
         self.refused(errors.NoColumn, "prize", lambda: table.append({"prize": 1}))
         long = "a text for column sku has more than 4,096 bytes"
         for call in (
@@ -200,7 +200,7 @@ class Refusals(Case):
         table.set(0, "quantity", 6)
         self.assertEqual(list(table), [("bread", 6)])
 
-    def test_row_groups_that_there_are_not(self) -> None:
+    def test_row_groups_that_do_not_exist(self) -> None:
         table = self.table
         self.refused(errors.OutOfRange, "it has none yet", lambda: table.evict("sku", 0))
         table.append(("bread", 5))
@@ -209,21 +209,21 @@ class Refusals(Case):
             self.refused(errors.OutOfRange, said, lambda: call("sku", 1))  # noqa: B023
         self.refused(errors.OutOfRange, "no row group 'x'", lambda: table.evict("sku", "x"))
 
-    def test_what_is_of_another_kind_than_an_argument(self) -> None:
+    def test_arguments_of_wrong_types(self) -> None:
         table = self.table
         table.append(("bread", 5))
         sold = table.watch(fc.totals("quantity"))
         for kind, said, call in (
             (TypeError, "watch takes fc.totals(..) or", lambda: table.watch("quantity")),
-            (TypeError, "what watch returned, and not 'x'", lambda: table.recount("x")),
-            (TypeError, "what watch returned", lambda: table.build(5)),
-            (TypeError, "what watch returned", lambda: table.unwatch(None)),
-            (TypeError, "'quantity' is none: table[place]", lambda: table.set("quantity", 0, 1)),
-            (TypeError, "1.5 is none: table[place]", lambda: table.set(0.0 + 1.5, "sku", "x")),
-            (TypeError, "0.0 is none: table[place]", lambda: table.set(0.0, "sku", "x")),
-            (TypeError, "None is none", lambda: table[None]),
+            (TypeError, "aggregate that watch returned, not 'x'", lambda: table.recount("x")),
+            (TypeError, "that watch returned", lambda: table.build(5)),
+            (TypeError, "that watch returned", lambda: table.unwatch(None)),
+            (TypeError, "not 'quantity': table[place]", lambda: table.set("quantity", 0, 1)),
+            (TypeError, "not 1.5: table[place]", lambda: table.set(0.0 + 1.5, "sku", "x")),
+            (TypeError, "not 0.0: table[place]", lambda: table.set(0.0, "sku", "x")),
+            (TypeError, "not None", lambda: table[None]),
             (TypeError, "a row is a list, a tuple or a dict", lambda: table.append(5)),
-            (TypeError, "of cells, and 0 is none", lambda: table.extend(n for n in range(3))),
+            (TypeError, "of cells, not 0", lambda: table.extend(n for n in range(3))),
             (ValueError, "at least 1 place, and size is 0", lambda: list(table.batches(size=0))),
             (ValueError, "extend_columns takes a dict", lambda: table.extend({"sku": ["x"]})),
             (TypeError, "table['sku'][:] = values", lambda: table.__setitem__("sku", "x")),
@@ -265,13 +265,13 @@ class Refusals(Case):
         ):
             self.refused(errors.BadSchema, said, lambda: fc.Table(columns))  # noqa: B023
         self.refused(
-            errors.BadSchema, "no amount of memory", lambda: fc.Table(COLUMNS, local="much")
+            errors.BadSchema, "not an amount of memory", lambda: fc.Table(COLUMNS, local="much")
         )
         for local, said in (
             ("64", "'64' has no unit; write '64MB'"),
             (64, "64 is too little memory for a table"),
             (0, "0 is too little"),
-            ("100TB", "is more memory than cells of a table can take; write '32GiB'"),
+            ("100TB", "is more memory than a table can use; write '32GiB'"),
         ):
             with self.subTest(local=local), self.assertRaisesRegex(errors.BadSchema, said):
                 fc.Table(COLUMNS, local=local)
@@ -308,7 +308,7 @@ class Refusals(Case):
             with self.assertRaises(errors.Closed):
                 call()
         self.assertIn("closed", repr(table))
-        self.assertIn("not watched", repr(sold))
+        self.assertIn("no longer watched", repr(sold))
         self.assertIn("of a closed table", repr(sku))
         self.assertIn("closed", table._repr_html_())
 
@@ -317,7 +317,7 @@ class Life(unittest.TestCase):
     def test_a_table_that_is_dropped_frees_its_engine(self) -> None:
         engine = fc.Memory()
         table = fc.Table(COLUMNS, far=engine)
-        with self.assertRaisesRegex(errors.BadArgument, "the engine of another table"):
+        with self.assertRaisesRegex(errors.BadArgument, "another open table uses"):
             fc.Table(COLUMNS, far=engine)
         del table
         gc.collect()
@@ -329,7 +329,7 @@ class Life(unittest.TestCase):
             table.move_to(fc.Files(Path(folder, "x.far")))
             table.evict()
             for call in (copy.copy, copy.deepcopy, pickle.dumps):
-                with self.assertRaisesRegex(TypeError, "copied or pickled; to_csv or to_pandas"):
+                with self.assertRaisesRegex(TypeError, "copied or pickled; use to_csv or"):
                     call(table)
                 with self.assertRaisesRegex(TypeError, "Files cannot be copied"):
                     call(table.engine)
@@ -337,8 +337,10 @@ class Life(unittest.TestCase):
             self.assertEqual(list(table), [("bread", 5)])
 
     def test_no_engine(self) -> None:
-        with self.assertRaisesRegex(TypeError, "no engine"):
+        with self.assertRaisesRegex(TypeError, "is not an engine"):
             fc.Table(COLUMNS, far=object())  # type: ignore[arg-type]
+        with self.assertRaisesRegex(TypeError, r"for a file, write fc.Files\('x.far'\)"):
+            fc.Table(COLUMNS, far="x.far")  # type: ignore[arg-type]
 
     def test_threads_share_a_table(self) -> None:
         with fc.Table(COLUMNS, local="64KB") as table:

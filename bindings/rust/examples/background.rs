@@ -1,8 +1,8 @@
 //! Three threads insert 1,500,000 sales into one table, while a fourth evicts in the background:
 //! `cargo run --release --example background`.
 //!
-//! The table is under a lock, which the fourth thread holds to begin an eviction and to commit it. The
-//! files are written between, under a lock of their own.
+//! The table is under a lock, which the fourth thread holds only to begin an eviction and to commit it.
+//! Between, it writes the files, under a lock of their own.
 
 use std::env;
 use std::error::Error;
@@ -18,8 +18,8 @@ const ROWS: u32 = 500_000;
 
 type Far = Arc<Mutex<Files>>;
 
-/// Evicts whenever more than three quarters of the local memory are in use. If that is too late, the
-/// insert that needs the space evicts by itself. Returns how many objects went away so.
+/// Evicts while more than three quarters of the local memory are in use. If that is too late, the
+/// insert that needs the space evicts by itself. Returns how many objects this thread evicted.
 fn evict(table: &Mutex<Table<Far>>, mut far: Far, inserting: &AtomicU32) -> u32 {
     let mut evicted = 0;
     while inserting.load(Ordering::Relaxed) > 0 {
@@ -34,7 +34,7 @@ fn evict(table: &Mutex<Table<Far>>, mut far: Far, inserting: &AtomicU32) -> u32 
             continue;
         };
         if let Ok(stored) = outgoing.put(&mut far) {
-            // It is refused as stale if the object was written meanwhile, and then stays.
+            // Refused as stale if the object was written meanwhile: it stays local.
             let committed = table.lock().expect("no thread panics").commit(stored);
             evicted += u32::from(committed.is_ok());
         }

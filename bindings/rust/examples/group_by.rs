@@ -1,6 +1,6 @@
 //! A group-by over 5,000,000 sales in 64 MB of local memory: `cargo run --release --example group_by`.
 //!
-//! The rows take 220 MB. What is not local lies in files.
+//! The rows take 220 MB. Those that are not local are in files.
 
 use std::env;
 use std::error::Error;
@@ -38,12 +38,12 @@ fn main() -> Result<(), Box<dyn Error>> {
     fill(&mut table)?;
     println!("{ROWS} rows in {:.1?}", start.elapsed());
 
-    // This aggregate was registered first, and followed every row.
+    // This aggregate was registered first, and every insert updated it.
     let start = Instant::now();
     let best = table.ask(by_shop)?.max_by_key(|line| line.sum);
     println!("best shop: {best:?}, in {:.1?}", start.elapsed());
 
-    // This one comes late: it is built when it is asked, mostly from far copies.
+    // This one is registered late: the first ask builds it, mostly from far copies.
     let start = Instant::now();
     let spec = extrema("cents").by("article").only("cents", Op::Ge, 0);
     let ends = table.watch(spec)?;

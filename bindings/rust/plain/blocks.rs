@@ -1,8 +1,8 @@
-//! The least and the greatest of blocks of 64 rows, with a tree of their least and greatest above.
+//! The least and the greatest value of each block of 64 rows, and a tree over these.
 
 pub const BLOCK: usize = 64;
 
-/// The least and the greatest of nothing.
+/// The least and the greatest of no values.
 pub const NOTHING: (i64, i64) = (i64::MAX, i64::MIN);
 
 fn join(a: (i64, i64), b: (i64, i64)) -> (i64, i64) {
@@ -11,7 +11,7 @@ fn join(a: (i64, i64), b: (i64, i64)) -> (i64, i64) {
 
 #[derive(Debug)]
 pub struct Blocks {
-    /// The root at 1; the leaves are the second half.
+    /// The nodes of the tree: the root at 1, the leaves in the second half.
     nodes: Vec<(i64, i64)>,
 }
 

@@ -25,7 +25,7 @@ impl Sum {
     }
 }
 
-/// Values, with how often each is there.
+/// A multiset of values: how often each occurs.
 type Bag = BTreeMap<i64, u32>;
 
 fn add_to(bag: &mut Bag, value: i64) {
@@ -72,7 +72,7 @@ impl Fold {
         }
     }
 
-    /// Folds a row in that is alive.
+    /// Adds a live row.
     #[inline]
     pub fn add(&mut self, spec: &PlainSpec, rows: &Rows, place: usize) {
         let Some(value) = rows.columns[spec.value].int(place) else {
@@ -97,7 +97,7 @@ impl Fold {
         }
     }
 
-    /// Takes a row out that was folded in. Least and greatest without a key are then repaired.
+    /// Removes a row that was added. Call `repair` afterwards for extrema without a key.
     #[inline]
     pub fn retract(&mut self, spec: &PlainSpec, rows: &Rows, place: usize) {
         let Some(value) = rows.columns[spec.value].int(place) else {
@@ -135,7 +135,7 @@ impl Fold {
         }
     }
 
-    /// Looks at the rows of a block again from which an end was taken, and behind which at most the row
+    /// Scans a block again from which the least or greatest value was removed. Since then, at most the row
     /// at `place` was added.
     #[inline]
     pub fn repair(&mut self, spec: &PlainSpec, rows: &Rows, place: usize) {

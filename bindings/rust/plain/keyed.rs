@@ -1,10 +1,10 @@
-//! Values by key: slots behind a hash map, and their order, made when it is asked for.
+//! Values by key: a hash map of slots, sorted when the order is needed.
 
 use std::borrow::Borrow;
 use std::collections::HashMap;
 use std::hash::{BuildHasherDefault, Hash, Hasher};
 
-/// A hash by multiplication, for keys that no stranger chose.
+/// A hash by multiplication, for keys that no adversary chooses.
 #[derive(Debug, Default, Clone)]
 pub struct Quick(u64);
 
@@ -51,7 +51,7 @@ impl<K: Hash + Ord + Clone, V: Default> Keyed<K, V> {
         }
     }
 
-    /// What stands under a key, which is new if it was not there.
+    /// The value of a key, which is inserted if it is new.
     #[inline]
     pub fn at<Q: ?Sized + Hash + Eq>(&mut self, key: &Q) -> &mut V
     where
@@ -69,7 +69,7 @@ impl<K: Hash + Ord + Clone, V: Default> Keyed<K, V> {
         &mut self.slots[slot].1
     }
 
-    /// All keys in order, with what stands under them.
+    /// All keys in order, with their values.
     pub fn sorted(&mut self) -> impl Iterator<Item = &(K, V)> {
         let slots = &self.slots;
         if self.order.len() < slots.len() {

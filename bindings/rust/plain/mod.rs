@@ -1,5 +1,5 @@
-//! A plain table: vectors and maps, all in memory, written by hand and proved by nobody. Tests compare
-//! each reply of a table with its reply, and the benchmarks compare times.
+//! A plain table: vectors and maps, all in memory, written by hand and not proved. Tests compare each
+//! reply of a table with its reply, and the benchmarks compare times.
 #![allow(dead_code)]
 
 use fullercoral::{Cell, Key, Kind, Op, Refusal};
@@ -10,7 +10,7 @@ mod keyed;
 
 use fold::Fold;
 
-/// What a plain aggregate computes.
+/// The fold of a plain aggregate.
 #[derive(Debug, Clone, Copy, PartialEq, Eq)]
 pub enum What {
     Totals,
@@ -33,7 +33,7 @@ pub struct PlainSpec {
     pub tests: Vec<Test>,
 }
 
-/// A line of an answer: of its numbers those count that the aggregate has.
+/// A line of an answer. The aggregate's fold says which of its numbers are used.
 #[derive(Debug, Clone, Copy, PartialEq, Eq)]
 pub struct PlainLine<'a> {
     pub key: Key<'a>,
@@ -263,7 +263,7 @@ impl Plain {
         }
     }
 
-    /// Registers an aggregate, and folds all rows into it. Its number is the lowest free one.
+    /// Registers an aggregate under the lowest free number, and folds all rows into it.
     pub fn watch(&mut self, spec: PlainSpec) -> Result<usize, Refusal> {
         let number = self.aggregates.iter().position(Option::is_none);
         let number = number.unwrap_or(self.aggregates.len());

@@ -8,14 +8,14 @@ use crate::spec::Aggregate;
 use crate::sys::{FC_INT, FC_TEXT, fc_line, sum_of};
 use crate::{Key, cell};
 
-/// The last answer of a table, copied out of it. Its memory is used again by the next one.
+/// A copy of a table's last answer. The next answer reuses its memory.
 #[derive(Debug, Default)]
 pub struct Answer {
     lines: Vec<StoredLine>,
     texts: String,
 }
 
-/// A line of an answer: of its numbers those count that the aggregate's fold has.
+/// A line of an answer. The aggregate's fold says which of its numbers are used.
 #[derive(Debug, Clone, Default)]
 pub struct StoredLine {
     key: StoredKey,
@@ -30,7 +30,7 @@ enum StoredKey {
     #[default]
     None,
     Int(i64),
-    /// Where it lies in the answer's texts.
+    /// Its range in the answer's texts.
     Text(Range<usize>),
 }
 
@@ -94,8 +94,8 @@ impl Answer {
 
 /// The lines of an answer, sorted by key: numbers by value, texts by bytes.
 ///
-/// [`Table::ask`](crate::Table::ask) returns it. It borrows the table, whose next answer uses the same
-/// memory: what is to outlive the next call is copied, as `key.to_string()`.
+/// [`Table::ask`](crate::Table::ask) returns it. It borrows the table, whose next answer reuses the
+/// memory: to keep a key past the next call, copy it, as by `key.to_string()`.
 ///
 /// ```
 /// use fullercoral::{Limits, Memory, Schema, Table, row, totals};
@@ -118,10 +118,10 @@ pub struct Lines<'a, A> {
 }
 
 impl<'a, A: Aggregate> Lines<'a, A> {
-    /// The line of a key, if there is one among the lines that are left. It is found by halving.
+    /// Finds the line of a key among the remaining lines, by binary search.
     ///
-    /// For one key, [`Table::ask_key`](crate::Table::ask_key) makes no other line. That refuses a key of the
-    /// other kind, for which this returns `None`.
+    /// For one key, [`Table::ask_key`](crate::Table::ask_key) is faster: it computes only that line. It
+    /// refuses a key of the other kind, for which this returns `None`.
     ///
     /// ```
     /// # use fullercoral::{Limits, Memory, Schema, Table, row, totals};

@@ -1,6 +1,6 @@
 use crate::Column;
 
-/// Which rows have a value: a bit for each, as a [`Column`] takes them.
+/// A validity mask, as a [`Column`] takes it: a bit for each row.
 #[derive(Debug, Clone, Default)]
 struct Bits {
     bytes: Vec<u8>,
@@ -33,8 +33,8 @@ impl Bits {
     }
 }
 
-/// Numbers of which some may be missing: what a [`Column`] of numbers borrows. If none is missing,
-/// [`Column::ints`] of a slice does.
+/// A buffer of numbers, some of them missing, for a [`Column`] to borrow. If none is missing, a slice
+/// and [`Column::ints`] are enough.
 ///
 /// ```
 /// use fullercoral::{IntBuffer, Limits, Memory, Schema, Table};
@@ -53,7 +53,7 @@ pub struct IntBuffer {
 }
 
 impl IntBuffer {
-    /// A buffer without numbers.
+    /// Makes an empty buffer.
     ///
     /// ```
     /// assert!(fullercoral::IntBuffer::new().column().is_empty());
@@ -63,7 +63,7 @@ impl IntBuffer {
         IntBuffer::default()
     }
 
-    /// Adds a number, or a row without one.
+    /// Appends a number, or a missing one.
     ///
     /// ```
     /// let mut prices = fullercoral::IntBuffer::new();
@@ -77,7 +77,7 @@ impl IntBuffer {
         self.valid.push(number.is_some());
     }
 
-    /// Removes all numbers, and keeps the memory.
+    /// Removes all numbers, and keeps the capacity.
     ///
     /// ```
     /// let mut prices: fullercoral::IntBuffer = [5].into_iter().collect();
@@ -89,7 +89,7 @@ impl IntBuffer {
         self.valid.clear();
     }
 
-    /// The numbers as a column.
+    /// Borrows the numbers as a column.
     ///
     /// ```
     /// let prices: fullercoral::IntBuffer = [5, 7].into_iter().collect();
@@ -115,8 +115,8 @@ impl<T: Into<Option<i64>>> Extend<T> for IntBuffer {
     }
 }
 
-/// Texts one behind the other, with their offsets: what a [`Column`] of texts borrows. It is made of
-/// whatever lends a `str`.
+/// A buffer of texts, some of them missing, for a [`Column`] to borrow. It stores them back to back,
+/// with offsets, and takes anything that implements `AsRef<str>`.
 ///
 /// ```
 /// use fullercoral::TextBuffer;
@@ -134,7 +134,7 @@ pub struct TextBuffer {
 }
 
 impl TextBuffer {
-    /// A buffer without texts.
+    /// Makes an empty buffer.
     ///
     /// ```
     /// assert!(fullercoral::TextBuffer::new().column().is_empty());
@@ -148,7 +148,7 @@ impl TextBuffer {
         }
     }
 
-    /// Adds a text.
+    /// Appends a text.
     ///
     /// ```
     /// let mut skus = fullercoral::TextBuffer::new();
@@ -160,7 +160,7 @@ impl TextBuffer {
         self.end_text(true);
     }
 
-    /// Adds a row without a text.
+    /// Appends a missing text.
     ///
     /// ```
     /// let mut skus = fullercoral::TextBuffer::new();
@@ -176,7 +176,7 @@ impl TextBuffer {
         self.offsets.push(self.bytes.len() as u64);
     }
 
-    /// Removes all texts, and keeps the memory.
+    /// Removes all texts, and keeps the capacity.
     ///
     /// ```
     /// let mut skus: fullercoral::TextBuffer = ["rye"].into_iter().collect();
@@ -189,7 +189,7 @@ impl TextBuffer {
         self.valid.clear();
     }
 
-    /// The texts as a column.
+    /// Borrows the texts as a column.
     ///
     /// ```
     /// let skus: fullercoral::TextBuffer = ["rye", "bread"].into_iter().collect();

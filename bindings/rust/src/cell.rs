@@ -4,10 +4,10 @@ use std::fmt;
 use crate::Kind;
 use crate::sys::{FC_INT, FC_MISSING, FC_TEXT, fc_bytes, fc_cell};
 
-/// A cell of a row: a number, a text, or nothing. It is made of a whole number that fits 64 bits signed,
-/// of a borrowed text, of an option of either, or of a reference to one.
+/// A cell of a row: a number, a text, or missing. It converts from integers that fit an `i64`, from
+/// borrowed texts, from an `Option` of either, and from references to these.
 ///
-/// `Display` writes the number or the text, and nothing if it is missing.
+/// `Display` writes the number or the text, and nothing for a missing cell.
 ///
 /// ```
 /// use fullercoral::Cell;
@@ -22,7 +22,7 @@ use crate::sys::{FC_INT, FC_MISSING, FC_TEXT, fc_bytes, fc_cell};
 /// ```
 #[derive(Debug, Clone, Copy, PartialEq, Eq, Default)]
 pub enum Cell<'a> {
-    /// No value. It fails every test, and an aggregate passes over it.
+    /// No value. It fails every test, and aggregates skip it.
     #[default]
     Missing,
     /// A number.
@@ -58,7 +58,7 @@ impl<'a> Cell<'a> {
         }
     }
 
-    /// Its kind, unless it is missing.
+    /// Its kind, or `None` if it is missing.
     ///
     /// ```
     /// use fullercoral::{Cell, Kind};
@@ -75,7 +75,7 @@ impl<'a> Cell<'a> {
         }
     }
 
-    /// The cell as the library reads it.
+    /// The cell for the library to read.
     pub(crate) fn raw(self) -> fc_cell {
         match self {
             Cell::Missing => fc_cell::MISSING,
@@ -92,7 +92,7 @@ impl<'a> Cell<'a> {
         }
     }
 
-    /// The cell that the library wrote.
+    /// A cell that the library wrote.
     ///
     /// # Safety
     /// A call wrote `raw`, and by rule 3 no other call with that handle is made within `'a`.
@@ -100,23 +100,23 @@ impl<'a> Cell<'a> {
         match raw.kind {
             FC_MISSING => Cell::Missing,
             FC_INT => Cell::Int(raw.number),
-            // SAFETY: the caller keeps to rule 3, and what is lent as a text is UTF-8.
+            // SAFETY: the caller keeps rule 3, and texts that the library lends are UTF-8.
             _ => Cell::Text(unsafe { text_of(raw.text) }),
         }
     }
 }
 
-/// The text that the library lent.
+/// A text that the library lent.
 ///
 /// # Safety
 /// A call wrote `bytes` as a text, and by rule 3 no other call with that handle is made within `'a`.
 pub(crate) unsafe fn text_of<'a>(bytes: fc_bytes) -> &'a str {
-    // fc_insert, fc_set, fc_insert_columns and fc_set_column refuse all that is not UTF-8.
-    // SAFETY: so a text of a table is UTF-8, and the caller keeps to rule 3.
+    // fc_insert, fc_set, fc_insert_columns and fc_set_column refuse texts that are not valid UTF-8.
+    // SAFETY: so the texts of a table are UTF-8, and the caller keeps rule 3.
     unsafe { std::str::from_utf8_unchecked(bytes.get()) }
 }
 
-/// Makes a type with a variant `Int` of all numbers that fit it, and of references to them.
+/// Implements `From` for a type with a variant `Int`: from integers that fit, and references to them.
 macro_rules! from_number {
     ($type:ty: $($number:ty),*) => { $(
         impl From<$number> for $type {
@@ -179,14 +179,14 @@ impl fmt::Display for Cell<'_> {
     }
 }
 
-/// An array of cells, made of whatever a [`Cell`] is made of.
+/// Makes an array of cells from values that convert to a [`Cell`].
 ///
 /// ```
 /// use fullercoral::{Cell, row};
 ///
 /// let price: Option<i64> = None;
 /// assert_eq!(row!["rye", 5, price], [Cell::Text("rye"), Cell::Int(5), Cell::Missing]);
-/// // What is missing needs a type, and a number beyond 32 bits too.
+/// // A missing cell needs a type, and so does a number beyond 32 bits.
 /// assert_eq!(row![None::<&str>, 5_000_000_000_i64], [Cell::Missing, Cell::Int(5_000_000_000)]);
 /// // Cells borrow their texts.
 /// let sku = format!("rye {}", 5);

@@ -3,7 +3,7 @@ use std::ptr::NonNull;
 use crate::Kind;
 use crate::sys::fc_column;
 
-/// A column of rows that are inserted together, as Arrow lays columns out. It borrows its data.
+/// A column of rows to insert together, in the layout of Arrow. It borrows its data.
 ///
 /// ```
 /// use fullercoral::{Column, Limits, Memory, Schema, Table};
@@ -41,8 +41,8 @@ impl<'a> Column<'a> {
         }
     }
 
-    /// A column of texts, one behind the other in `bytes`. `offsets` has where each begins, and where
-    /// the last one ends: so one more than there are texts. [`TextBuffer`](crate::TextBuffer) makes both.
+    /// A column of texts, back to back in `bytes`. `offsets` has the start of each text and the end of
+    /// the last: one more than there are texts. [`TextBuffer`](crate::TextBuffer) makes both.
     ///
     /// ```
     /// assert_eq!(fullercoral::Column::texts(&[0, 3, 8], b"ryebread").len(), 2);
@@ -55,8 +55,8 @@ impl<'a> Column<'a> {
         }
     }
 
-    /// Which rows have a value: a bit for each, the lowest first, set if it has one.
-    /// [`IntBuffer`](crate::IntBuffer) and [`TextBuffer`](crate::TextBuffer) keep such bits by themselves.
+    /// Adds a validity mask: a bit for each row, the lowest first, set if the row has a value.
+    /// [`IntBuffer`](crate::IntBuffer) and [`TextBuffer`](crate::TextBuffer) keep such a mask themselves.
     ///
     /// ```
     /// let column = fullercoral::Column::ints(&[3, 0, 5]).valid(&[0b101]);
@@ -68,7 +68,7 @@ impl<'a> Column<'a> {
         self
     }
 
-    /// How many rows it has.
+    /// The number of rows.
     ///
     /// ```
     /// assert_eq!(fullercoral::Column::ints(&[3, 5]).len(), 2);
@@ -81,7 +81,7 @@ impl<'a> Column<'a> {
         }
     }
 
-    /// Whether it has no row.
+    /// Whether the column has no rows.
     ///
     /// ```
     /// assert!(fullercoral::Column::ints(&[]).is_empty());
@@ -98,7 +98,7 @@ impl<'a> Column<'a> {
         }
     }
 
-    /// How many bytes the texts of these rows take in the local region.
+    /// The bytes of local memory that the texts of these rows take.
     pub(crate) fn text_bytes(&self, from: usize, to: usize) -> u64 {
         match self.data {
             Data::Ints(_) => 0,
@@ -109,7 +109,7 @@ impl<'a> Column<'a> {
         }
     }
 
-    /// How many bytes the text of a row has; 0 if it is missing.
+    /// The length of a row's text in bytes; 0 if it is missing.
     pub(crate) fn text_len(&self, row: usize) -> u64 {
         let is_valid = |bits: &[u8]| bits[row / 8] >> (row % 8) & 1 == 1;
         match self.data {
@@ -120,17 +120,17 @@ impl<'a> Column<'a> {
         }
     }
 
-    /// The first row for which offsets or bits are missing, with the rule that this breaks.
+    /// The first row without an offset or a bit, with the rule that this breaks.
     pub(crate) fn broken_rule(&self) -> Option<(usize, &'static str)> {
         if let Data::Texts { offsets: [], .. } = self.data {
-            return Some((0, "there is one offset more than texts"));
+            return Some((0, "there must be one offset more than texts"));
         }
         let bits = self.valid.map(|bits| bits.len().saturating_mul(8));
         let short = bits.filter(|bits| *bits < self.len());
-        short.map(|row| (row, "there is a bit for each row"))
+        short.map(|row| (row, "there must be a bit for each row"))
     }
 
-    /// The bytes of the text of a row, if its offsets ascend within the bytes.
+    /// The bytes of a row's text, if its offsets ascend and are within the bytes.
     fn bytes_at(&self, row: usize) -> Option<&'a [u8]> {
         match self.data {
             Data::Ints(_) => Some(&[]),
@@ -142,19 +142,19 @@ impl<'a> Column<'a> {
         }
     }
 
-    /// Whether the offsets of the text of a row descend or leave the bytes.
+    /// Whether the offsets of a row's text descend or are past the end of the bytes.
     pub(crate) fn has_bad_offsets(&self, row: usize) -> bool {
         self.bytes_at(row).is_none()
     }
 
-    /// Whether the text of a row is no UTF-8.
+    /// Whether the text of a row is not valid UTF-8.
     pub(crate) fn has_no_utf8(&self, row: usize) -> bool {
         let text = self.bytes_at(row).unwrap_or_default();
         self.text_len(row) > 0 && std::str::from_utf8(text).is_err()
     }
 
-    /// The rows from `from` up to `to` as the library takes them. The bits are copied to `bits` if
-    /// they do not begin with a byte.
+    /// The rows from `from` up to `to` as an `fc_column`. It copies the mask to `bits` if the first row's
+    /// bit is not the first of a byte.
     pub(crate) fn raw(&self, from: usize, to: usize, bits: &mut Vec<u8>) -> fc_column {
         let valid = match self.valid {
             None => &[],

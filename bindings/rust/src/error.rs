@@ -7,9 +7,9 @@ use crate::Refusal;
 /// Why a call failed: the table refused it, or the engine failed. `E` defaults to `std::io::Error`, the
 /// error of [`Files`](crate::Files) and `Resp`.
 ///
-/// `Display` is the sentence of the refusal, or that the storage failed and why; `source` has the engine's
-/// error too. Either way the call changed no row and no answer. By an automatic policy some objects may have been
-/// evicted or fetched meanwhile.
+/// `Display` writes the refusal's sentence, or that the storage failed and why; `source` has the engine's
+/// error too. Either way the call changed no row and no answer. An automatic policy may have evicted or
+/// fetched objects meanwhile.
 ///
 /// ```
 /// use std::io;
@@ -39,7 +39,7 @@ pub enum Error<E = io::Error> {
 }
 
 impl<E> Error<E> {
-    /// The refusal, if it is one.
+    /// The refusal, if the table refused the call.
     ///
     /// ```
     /// use fullercoral::{Error, Refusal};
@@ -62,7 +62,7 @@ impl<E> From<Refusal> for Error<E> {
     }
 }
 
-/// So `?` takes the error of [`Files::create`](crate::Files::create) too.
+/// Lets `?` convert the error of [`Files::create`](crate::Files::create) too.
 impl From<io::Error> for Error {
     fn from(error: io::Error) -> Error {
         Error::Engine(error)

@@ -1,11 +1,10 @@
-//! Fullercoral: a columnar table with live aggregates, larger than its memory, over storage that nobody
-//! has to trust.
+//! Fullercoral: a columnar table with live aggregates. It may be larger than memory, and need not trust
+//! its storage.
 //!
-//! A [`Table`] has columns of 64-bit numbers and of texts. Registered aggregates, counts and sums or
-//! least and greatest values, by a key column if wanted, stay exact under every edit. Chunks of columns
-//! that are cold leave local memory: the table puts their bytes into an [`Engine`], a folder, a server or
-//! a type of your own, and gets them back when they are needed. Whatever an engine does wrong, the table
-//! notices.
+//! A [`Table`] has columns of 64-bit numbers and of texts. Registered aggregates (counts and sums, or
+//! least and greatest values, optionally by a key column) stay exact under every edit. The table evicts
+//! cold chunks of columns from local memory: it puts their bytes into an [`Engine`] (a folder, a server or
+//! a type of your own) and gets them back when needed. It notices whatever an engine does wrong.
 //!
 //! ```
 //! use fullercoral::{Files, Limits, Op, Schema, Table, row, totals};
@@ -27,18 +26,19 @@
 //! # What is proved, and what is not
 //!
 //! The table itself is a static library whose code is proved, for all inputs, to do what its contracts
-//! say: each answer is the fold over the rows as they are, whichever objects are away; a refused call
-//! changes no row, no answer and no object. What an engine returns is compared with the length and the
-//! digest of what was put, by SHA-256. One premise is left: no two contents that meet have one digest.
+//! say: each answer is the fold over the current rows, whichever objects are away; a refused call
+//! changes no row, no answer and no object. The library compares the bytes that an engine returns with
+//! the length and the SHA-256 of the bytes put. One premise remains: no engine returns other bytes with
+//! the same length and digest.
 //!
-//! This crate is the thin layer in front of it, ordinary Rust that is tested and not proved. It moves
-//! bytes between the library and the engine, decides when to move what, and turns codes into errors. A
-//! bug in it may make a call fail or a table slow. It does no arithmetic on any answer.
+//! This crate is a thin layer over it, in ordinary Rust that is tested, not proved. It moves bytes
+//! between the library and the engine, decides when to move which object, and turns codes into errors. A
+//! bug in it may make a call fail or a table slow. It does no arithmetic on answers.
 //!
 //! # Larger than memory
 //!
-//! By the default [`Policy`] a table evicts and fetches by itself. Then nothing needs to be said but how
-//! much memory it may have:
+//! With the default [`Policy`] a table evicts and fetches by itself. You only say how much memory it may
+//! have:
 //!
 //! ```
 //! use fullercoral::{Column, Files, Limits, Schema, Table, totals};
@@ -58,7 +58,7 @@
 //!
 //! # Threads
 //!
-//! A table is `Send` and not `Sync`. Threads share it under a lock:
+//! A table is `Send` but not `Sync`. Threads share it under a lock:
 //!
 //! ```
 //! use std::sync::Mutex;
@@ -82,9 +82,9 @@
 //! # Ok::<(), Box<dyn std::error::Error>>(())
 //! ```
 //!
-//! An eviction in phases holds the lock only to begin and to commit. The engine works meanwhile, so here
-//! it is shared too. (`examples/background.rs` is a whole program over files, which evicts while more
-//! than three quarters of the local memory are in use.)
+//! An eviction in phases holds the lock only to begin and to commit. The engine works between, so here
+//! the threads share it too. (`examples/background.rs` is a whole program over files, which evicts while
+//! more than three quarters of the local memory are in use.)
 //!
 //! ```
 //! use std::sync::{Arc, Mutex};
@@ -103,7 +103,7 @@
 //!             let begun = table.lock().unwrap().begin_evict_coldest().unwrap();
 //!             let Some(outgoing) = begun else { break };
 //!             let stored = outgoing.put(&mut engine).unwrap();
-//!             // It is refused as stale if the object was written meanwhile, and then stays.
+//!             // Refused as stale if the object was written meanwhile: it stays local.
 //!             let _ = table.lock().unwrap().commit(stored);
 //!         }
 //!     });

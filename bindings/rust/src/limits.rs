@@ -8,32 +8,32 @@ const MOST_SEGMENTS: usize = 1_024;
 const MOST_INT_SIZE: usize = 1 << 20;
 const MOST_TEXT_SIZE: usize = 1 << 24;
 
-/// A number takes 16 bytes in the local region.
+/// The bytes of local memory for a number.
 const INT_BYTES: usize = 16;
 
-/// The most bytes that the segments of numbers, and those of texts, can have.
+/// The most bytes for the segments of numbers, and for the segments of texts.
 const MOST_INTS: usize = MOST_SEGMENTS * MOST_INT_SIZE * INT_BYTES;
 const MOST_TEXTS: usize = MOST_SEGMENTS * MOST_TEXT_SIZE;
 
-/// The fewest bytes that a segment of texts has.
+/// The fewest bytes of a segment of texts.
 const LEAST_TEXTS: usize = 64;
 
-/// How many row groups of each column are local, if the size of a row group is left to the table.
+/// How many row groups of each column are local if the table chooses the size of a row group.
 const LOCAL_GROUPS: usize = 32;
 
-/// How much memory a table's local region has, how many rows a row group, and the table.
+/// The limits of a table: its local memory, the rows of a row group and of the table, and more.
 ///
 /// ```
 /// use fullercoral::Limits;
 ///
-/// // 16 MB of cells are local. All else lies in the engine.
+/// // 16 MB of cells are local. The engine has all others.
 /// let limits = Limits::new().local_memory(16 << 20).group(1_024);
 /// # let _ = limits;
 /// ```
 ///
-/// Local memory is what the cells take that are local: 16 bytes for a number, and for a text its own
-/// bytes and 4 more. It is allocated when the table is opened, and written as it is needed. What is
-/// not in it: for each content in the engine some 70 bytes, and what the aggregates keep. That is a line
+/// Local memory holds the local cells: 16 bytes for a number, and for a text its own bytes and 4 more.
+/// The table allocates it when it opens, and writes to it as needed. Not included are 56 bytes for each
+/// content in the engine, 60 for each object that is away, and the state of aggregates. That is a line
 /// for each key of [`totals`](crate::totals), and of [`extrema`](crate::extrema) some 24 bytes for each
 /// key in each row group: a table with many keys and extrema takes less with large row groups.
 #[derive(Debug, Clone, PartialEq, Eq)]
@@ -61,7 +61,7 @@ impl Default for Limits {
 }
 
 impl Limits {
-    /// 64 MB of local memory, up to 16,777,216 places, and row groups of a size that suits both.
+    /// The default: 64 MB of local memory, up to 16,777,216 places, and row groups of a fitting size.
     ///
     /// ```
     /// assert_eq!(fullercoral::Limits::new(), fullercoral::Limits::default());
@@ -70,11 +70,11 @@ impl Limits {
         Limits::default()
     }
 
-    /// How many bytes the local region has. Each column gets an equal share, unless
-    /// [`text_memory`](Limits::text_memory) says otherwise. It is rounded down to whole segments:
-    /// [`Stats::local_memory`](crate::Stats::local_memory) says what came of it.
+    /// Sets the bytes of local memory. Each column gets an equal share, unless
+    /// [`text_memory`](Limits::text_memory) says otherwise. The table rounds it down to whole segments:
+    /// [`Stats::local_memory`](crate::Stats::local_memory) has the result.
     ///
-    /// The share of numbers holds at least a row group of each of their columns, which takes
+    /// The share of numbers must hold at least a row group of each of their columns, at
     /// 16 bytes for each number; it should hold several. The share of texts has at least 64 bytes.
     /// Each share has at most 16 GiB.
     ///
@@ -87,8 +87,8 @@ impl Limits {
         self
     }
 
-    /// How many bytes of the local memory are for texts. If there are columns of both kinds, neither may
-    /// be left without.
+    /// Sets how many bytes of the local memory are for texts. If there are columns of both kinds, both
+    /// need some.
     ///
     /// ```
     /// let limits = fullercoral::Limits::new().local_memory(64 << 20).text_memory(48 << 20);
@@ -99,10 +99,10 @@ impl Limits {
         self
     }
 
-    /// How many places a row group has: 1 to 65,536. A column's chunk of a row group is evicted and
-    /// fetched as a whole. By default it is a power of two of which some 32 row groups are
-    /// local, and at most 4,096, or 512 with a column of texts: to append a text costs time in
-    /// proportion to the row group.
+    /// Sets the places of a row group: 1 to 65,536. The table evicts and fetches a column's chunk of a
+    /// row group as a whole. The default is a power of two such that some 32 row groups are local, at
+    /// most 4,096, or 512 with a column of texts: appending a text takes time in proportion to the row
+    /// group.
     ///
     /// ```
     /// let limits = fullercoral::Limits::new().group(1_024);
@@ -113,7 +113,7 @@ impl Limits {
         self
     }
 
-    /// How many places the table may have, removed rows among them: 1 to 16,777,216.
+    /// Sets the most places of the table, with those of removed rows: 1 to 16,777,216.
     ///
     /// ```
     /// let limits = fullercoral::Limits::new().places(1_000_000);
@@ -124,7 +124,7 @@ impl Limits {
         self
     }
 
-    /// How many edits, and how many jobs, are accepted: 1 to 2^40. The default is 2^40.
+    /// Sets how many edits, and how many jobs, the table accepts: 1 to 2^40. The default is 2^40.
     ///
     /// ```
     /// let limits = fullercoral::Limits::new().edits(1_000_000);
@@ -135,10 +135,10 @@ impl Limits {
         self
     }
 
-    /// How many numbers for contents there are: one is spent whenever an object is evicted that was
-    /// written since the last time. There is one at least; the default is 2^32. Some 56 bytes are kept for
-    /// each that was spent. When all are spent the table goes on with new numbers and frees the old ones, if the
-    /// contents that are away fit half of its local memory; else it refuses with `FarFull`.
+    /// Sets how many content numbers there are, at least 1; the default is 2^32. Each eviction of an
+    /// object that was written since the last one uses up a number, and takes some 56 bytes. When all are
+    /// used up, the table renews its numbers and frees the old ones, if the contents that are away fit
+    /// half of its local memory; else it refuses with `FarFull`.
     ///
     /// ```
     /// let limits = fullercoral::Limits::new().contents(1 << 20);
@@ -149,13 +149,13 @@ impl Limits {
         self
     }
 
-    /// The rule that these limits break for a table with these columns, or that the columns break.
+    /// The rule that these limits or the columns break, if any.
     pub(crate) fn broken_rule(&self, schema: &Schema) -> Option<&'static str> {
         let rule = self.broken_rule_of_counts(schema);
         rule.or_else(|| self.broken_rule_of_memory(schema))
     }
 
-    // The same of the local memory, if all counts are right.
+    // The same for the local memory, if all counts are right.
     fn broken_rule_of_memory(&self, schema: &Schema) -> Option<&'static str> {
         let texts = self.text_bytes(schema);
         let (ints, columns) = (self.local_memory - texts, schema.count(Kind::Int));
@@ -163,11 +163,11 @@ impl Limits {
         let rules = [
             (
                 ints >= columns * group * INT_BYTES,
-                "the local memory for numbers holds a row group of each of their columns",
+                "the local memory for numbers must hold a row group of each of their columns",
             ),
             (
                 schema.count(Kind::Text) == 0 || texts >= LEAST_TEXTS,
-                "the local memory for texts has 64 bytes or more",
+                "the local memory for texts must have 64 bytes or more",
             ),
             (
                 columns == 0 || ints <= MOST_INTS,
@@ -207,13 +207,10 @@ impl Limits {
                 (1..=MOST_EDITS).contains(&self.edits),
                 "a table takes 1 to 2^40 edits",
             ),
-            (
-                self.contents > 0,
-                "there is a number for one content at least",
-            ),
+            (self.contents > 0, "a table has at least one content number"),
             (
                 texts.is_none_or(|texts| 0 < texts && texts < self.local_memory),
-                "text_memory is a part of the local memory, and numbers have the rest",
+                "text_memory is more than 0 and less than the local memory",
             ),
         ];
         let broken = rules.iter().find(|(holds, _)| !holds);
@@ -224,7 +221,7 @@ impl Limits {
         self.contents
     }
 
-    /// The limits as the library takes them, for a table with these columns.
+    /// The limits of a table with these columns as an `fc_limits`.
     pub(crate) fn for_schema(&self, schema: &Schema) -> fc_limits {
         let texts = self.text_bytes(schema);
         let ints = self.local_memory.saturating_sub(texts);
@@ -242,7 +239,7 @@ impl Limits {
         }
     }
 
-    /// How many bytes are for texts: an equal share for each column, if it is not said.
+    /// The bytes for texts: by default an equal share for each column.
     fn text_bytes(&self, schema: &Schema) -> usize {
         let texts = schema.count(Kind::Text);
         if texts == 0 {
@@ -256,7 +253,7 @@ impl Limits {
     }
 }
 
-/// The size of row groups that is taken if none is said.
+/// The default size of row groups.
 fn group_for(schema: &Schema, ints: usize, texts: usize) -> u32 {
     let most = if schema.count(Kind::Text) == 0 {
         4_096
@@ -274,8 +271,8 @@ fn group_for(schema: &Schema, ints: usize, texts: usize) -> u32 {
     1 << group.ilog2()
 }
 
-/// How many segments of numbers there are, and how many numbers one holds: as many as one row group
-/// has if that is possible, since then whatever goes away leaves a whole segment.
+/// The number of segments of numbers, and the numbers in each: one row group if that is possible, so that
+/// an eviction frees a whole segment.
 fn int_segments(bytes: usize, group: u32) -> (u32, u32) {
     let group = group.clamp(1, MOST_GROUP) as usize;
     let objects = (bytes / INT_BYTES / group).max(1);
@@ -285,8 +282,8 @@ fn int_segments(bytes: usize, group: u32) -> (u32, u32) {
     (segments as u32, (in_one * group) as u32)
 }
 
-/// How many segments of texts there are, and how many bytes one holds: large enough for a row group
-/// whose texts have 500 bytes each, and else so many that some of them are often empty.
+/// The number of segments of texts, and the bytes of each: enough for a row group whose texts have 500
+/// bytes each, but otherwise small, so that some segments are often empty.
 fn text_segments(bytes: usize, group: u32) -> (u32, u32) {
     let long_texts = (group as usize).saturating_mul(512);
     let size = (bytes / 256).max(long_texts.min(bytes / 8));

@@ -18,16 +18,15 @@
 #[derive(Debug, Clone, Copy, Default, PartialEq, Eq, Hash)]
 #[non_exhaustive]
 pub enum Policy {
-    /// The program moves objects. Calls that need one that is away are refused with `Absent`, calls
-    /// that need space with `RegionFull`, and an aggregate that is pending with `Building`.
+    /// Only the program moves objects. The table refuses calls that need an object that is away with
+    /// `Absent`, calls that need space with `RegionFull`, and asks of a pending aggregate with `Building`.
     Manual,
-    /// On `RegionFull` the coldest objects are evicted, on `Absent` the object is fetched, and the call
-    /// is tried again. Row groups that are pending are scanned, or built from far copies, when an
-    /// aggregate is asked. A call that would need more local memory than there is is refused with
-    /// `RegionFull`.
+    /// On `RegionFull` the table evicts the coldest objects, on `Absent` it fetches the object, and repeats
+    /// the call. An ask scans pending row groups, or builds them from far copies. A call that needs more
+    /// than all local memory is refused with `RegionFull`.
     Demand,
-    /// As `Demand`. Besides, when a read of a column had to fetch, the row groups are fetched that the
-    /// stride of the reads proposes next.
+    /// As `Demand`; also, when a read of a column had to fetch, the table fetches the next row groups of
+    /// the stride of the reads.
     #[default]
     Prefetch,
 }

@@ -6,8 +6,8 @@ use crate::{Kind, Op};
 
 /// Why a table refused a call. A refused call changes no row, no aggregate and no object.
 ///
-/// [`number`](Refusal::number) is its number in every other language. `Display` is a sentence, with
-/// the column's name where a column is at fault.
+/// [`number`](Refusal::number) is the same in every language. `Display` writes a sentence, which names
+/// the column if a column is the cause.
 ///
 /// ```
 /// use fullercoral::{Error, Kind, Limits, Memory, Refusal, Schema, Table, row};
@@ -47,11 +47,11 @@ pub enum Refusal {
         /// How many columns the table has.
         columns: usize,
     },
-    /// 5: a cell, a constant or a column is of the other kind.
+    /// 5: a cell, a constant or a column has the wrong kind.
     WrongKind {
         /// The column's name.
         column: Arc<str>,
-        /// What the column holds.
+        /// The kind that the column holds.
         kind: Kind,
     },
     /// 5: a comparison is not one for constants of this kind.
@@ -60,15 +60,15 @@ pub enum Refusal {
         column: Arc<str>,
         /// The comparison.
         op: Op,
-        /// What the column holds, and the constant is.
+        /// The kind of the column and of the constant.
         kind: Kind,
     },
-    /// 5: a key was asked for, and the aggregate has no key column; or none was, and it has one.
+    /// 5: an ask names a key, but the aggregate has no key column; or the other way round.
     WrongKey {
         /// The key column's name, if there is one.
         column: Option<Arc<str>>,
     },
-    /// 6: a row has another number of cells than there are columns.
+    /// 6: a row does not have one cell for each column.
     RowWidth {
         /// How many cells the row has.
         cells: usize,
@@ -84,7 +84,7 @@ pub enum Refusal {
     NoRow {
         /// The place.
         place: u32,
-        /// How many the table has.
+        /// How many places the table has.
         places: u32,
     },
     /// 9: the row of the place was removed.
@@ -101,7 +101,7 @@ pub enum Refusal {
     NoAggregate,
     /// 13: 32 aggregates are registered.
     TooManyAggregates,
-    /// 14: a range of places is not one of the table, or ends before it begins.
+    /// 14: a range of places is not within the table, or ends before it begins.
     OutOfRange {
         /// Where it begins.
         from: u32,
@@ -114,12 +114,12 @@ pub enum Refusal {
     NoGroup {
         /// The row group.
         group: u32,
-        /// How many the table has.
+        /// How many row groups the table has.
         groups: u32,
     },
     /// 15: row groups are pending in the aggregate.
     Building {
-        /// How many.
+        /// How many row groups are pending.
         pending: u32,
     },
     /// 16: an object that the call needs is not local.
@@ -135,10 +135,10 @@ pub enum Refusal {
     NotPinned,
     /// 19: the object has a pin.
     Pinned,
-    /// 20: what the job or the scan rests on does not hold any more: its object was written or moved, or
-    /// the row group is not pending.
+    /// 20: the job is out of date, since its object was written or moved; or the row group is not
+    /// pending.
     StaleJob,
-    /// 20: an object that is to be fetched is local.
+    /// 20: the object to fetch is local already.
     IsLocal {
         /// The object's column, by name.
         column: Arc<str>,
@@ -147,34 +147,34 @@ pub enum Refusal {
     },
     /// 21: the storage returned other bytes than were put.
     FarFault {
-        /// The column, by name, of the object whose bytes they should be.
+        /// The column of the object whose bytes are wrong, by name.
         column: Arc<str>,
         /// The object's row group.
         group: u32,
     },
-    /// 22: the numbers of contents are used up: see [`Limits::contents`](crate::Limits::contents).
+    /// 22: the content numbers are used up: see [`Limits::contents`](crate::Limits::contents).
     FarFull,
     /// 24: the limit of edits, of jobs or of pins is reached.
     EditsUsedUp,
-    /// 102: a text is no UTF-8. Only columns of rows can have such a text.
+    /// 102: a text is not valid UTF-8. Only [`Column::texts`](crate::Column::texts) can have such a text.
     NoUtf8 {
         /// The column's name.
         column: Arc<str>,
-        /// The row among those that are inserted.
+        /// The row among the rows to insert.
         row: usize,
     },
-    /// 103: columns of rows are of different lengths, or their offsets or bits are not as they should be.
+    /// 103: columns have different lengths, or their offsets or bits are invalid.
     BadArgument {
         /// The column's name.
         column: Arc<str>,
-        /// The first row among those that are inserted where it is not as it should be.
+        /// The first invalid row among the rows to insert.
         row: usize,
         /// The rule that the column breaks.
         rule: &'static str,
     },
-    /// 106: 2^62 faults were counted. The table can be read, and no job carried.
+    /// 106: 2^62 faults were counted. The table can be read, but not carry jobs.
     UsedUp,
-    /// Any other code. None is known to come.
+    /// Any other code. No call is known to return one.
     Other(u32),
 }
 
@@ -217,12 +217,12 @@ impl Refusal {
         }
     }
 
-    /// The refusal of a code that carries nothing, or [`Refusal::Other`].
+    /// The refusal of a code without details, or [`Refusal::Other`].
     pub(crate) fn of_code(code: u32) -> Refusal {
         match code {
             1 => Refusal::NoMemory,
             2 => Refusal::BadSchema {
-                rule: "each limit has its bounds",
+                rule: "a limit is out of its bounds",
             },
             10 => Refusal::TableFull,
             11 => Refusal::ChunkFull,
@@ -243,12 +243,12 @@ impl Refusal {
 impl fmt::Display for Refusal {
     fn fmt(&self, f: &mut fmt::Formatter<'_>) -> fmt::Result {
         match self {
-            Refusal::BadSchema { rule } => write!(f, "no table has such columns or limits: {rule}"),
-            Refusal::BadSpec { rule } => write!(f, "no table has such an aggregate: {rule}"),
+            Refusal::BadSchema { rule } => write!(f, "invalid columns or limits: {rule}"),
+            Refusal::BadSpec { rule } => write!(f, "invalid aggregate: {rule}"),
             Refusal::RowWidth { cells, columns } => {
                 write!(
                     f,
-                    "the row has {cells} cells, and the table {columns} columns"
+                    "the row has {cells} cells, but the table has {columns} columns"
                 )
             }
             Refusal::Building { pending } => write!(
@@ -277,7 +277,7 @@ impl fmt::Display for Refusal {
 }
 
 impl Refusal {
-    // The sentence of a refusal that is about a place or a row group.
+    // The sentence of a refusal about a place or a row group.
     fn fmt_place(&self, f: &mut fmt::Formatter<'_>) -> fmt::Result {
         match self {
             Refusal::NoRow { place, places } => {
@@ -304,7 +304,7 @@ impl Refusal {
         }
     }
 
-    // The sentence of a refusal of what is of another kind.
+    // The sentence of a refusal about a kind.
     fn fmt_kind(&self, f: &mut fmt::Formatter<'_>) -> fmt::Result {
         match self {
             Refusal::WrongKind { column, kind } => {
@@ -319,7 +319,7 @@ impl Refusal {
                 };
                 write!(
                     f,
-                    "`{op:?}` compares {other}: column `{column}` holds {own}, for which there are {ops}"
+                    "`{op:?}` compares {other}, but column `{column}` holds {own}: use {ops}"
                 )
             }
             Refusal::WrongKey { column: None } => {
@@ -329,13 +329,13 @@ impl Refusal {
                 column: Some(column),
             } => write!(
                 f,
-                "the aggregate has a line for each key of column `{column}`, and none without"
+                "the aggregate has a line for each key of column `{column}`: ask for one"
             ),
             plain => f.write_str(plain.sentence()),
         }
     }
 
-    // The sentence of a refusal that is about a column.
+    // The sentence of a refusal about a column.
     fn fmt_column(&self, f: &mut fmt::Formatter<'_>) -> fmt::Result {
         match self {
             Refusal::NoColumn { column } => write!(f, "there is no column `{column}`"),
@@ -349,13 +349,13 @@ impl Refusal {
                 write!(f, "the text for column `{column}` has more than 4096 bytes")
             }
             Refusal::NoUtf8 { column, row } => {
-                write!(f, "the text for column `{column}` at row {row} is no UTF-8")
-            }
-            Refusal::BadArgument { column, row, rule } => {
                 write!(
                     f,
-                    "column `{column}` is not as it should be at row {row}: {rule}"
+                    "the text for column `{column}` at row {row} is not valid UTF-8"
                 )
+            }
+            Refusal::BadArgument { column, row, rule } => {
+                write!(f, "column `{column}` is invalid at row {row}: {rule}")
             }
             plain => f.write_str(plain.sentence()),
         }
@@ -377,7 +377,7 @@ fn of_other_kind(kind: Kind) -> &'static str {
 }
 
 impl Refusal {
-    /// The sentence of a refusal that carries nothing.
+    /// The sentence of a refusal without details.
     fn sentence(&self) -> &'static str {
         match self {
             Refusal::NoMemory => "an allocation failed",
@@ -386,18 +386,18 @@ impl Refusal {
                 "the texts of the row group would not fit a segment: see Limits::text_memory"
             }
             Refusal::NoAggregate => "the table does not have this aggregate",
-            Refusal::TooManyAggregates => "32 aggregates are registered",
-            Refusal::RegionFull => "local memory has no space for it: see Limits::local_memory",
+            Refusal::TooManyAggregates => "32 aggregates are registered: unwatch one first",
+            Refusal::RegionFull => "local memory is full: see Limits::local_memory",
             Refusal::NotPinned => "the object has no pin",
             Refusal::Pinned => "the object has a pin",
             Refusal::StaleJob => {
                 "the object was written or moved since, or the row group is not pending"
             }
-            Refusal::FarFull => "the numbers of contents are used up: see Limits::contents",
+            Refusal::FarFull => "the content numbers are used up: see Limits::contents",
             Refusal::EditsUsedUp => {
                 "the limit of edits, of jobs or of pins is reached: see Limits::edits"
             }
-            Refusal::UsedUp => "too many faults were counted: no job is carried any more",
+            Refusal::UsedUp => "too many faults were counted: the table carries no more jobs",
             _ => "the call was refused",
         }
     }

@@ -28,7 +28,7 @@ impl Kind {
     }
 }
 
-/// The columns of a table: 1 to 16 of them, each with a name of its own.
+/// The columns of a table: 1 to 16, each with a different name.
 ///
 /// ```
 /// use fullercoral::Schema;
@@ -44,7 +44,7 @@ pub struct Schema {
 }
 
 impl Schema {
-    /// A schema without columns yet.
+    /// Makes a schema without columns.
     ///
     /// ```
     /// assert!(fullercoral::Schema::new().is_empty());
@@ -148,7 +148,7 @@ impl Schema {
         self.columns.get(index).map(|(_, kind)| *kind)
     }
 
-    /// How many columns are of a kind.
+    /// The number of columns of a kind.
     pub(crate) fn count(&self, kind: Kind) -> usize {
         self.columns.iter().filter(|(_, own)| *own == kind).count()
     }
@@ -158,7 +158,7 @@ impl Schema {
         (0..self.len()).any(twin)
     }
 
-    /// The refusal of what is not of a column's kind.
+    /// The refusal of a value that does not have a column's kind.
     pub(crate) fn wrong_kind(&self, index: u32) -> Refusal {
         Refusal::WrongKind {
             column: self.label(index),
@@ -212,7 +212,7 @@ impl<'s> IntoIterator for &'s Schema {
     }
 }
 
-/// What names a column in a call: its name, or its index in the schema, which saves the search.
+/// A column in a call: its name, or its index in the schema, which saves the search.
 ///
 /// Implemented for `usize`, and for names as `&str`, `&&str`, `String`, `&String`, `Arc<str>` and
 /// `&Arc<str>`. The trait is sealed: no other type can implement it.

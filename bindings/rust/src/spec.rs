@@ -8,7 +8,7 @@ use crate::schema::sealed::Find;
 use crate::sys::{FC_EXTREMA, FC_TOTALS, fc_bytes, fc_cell, fc_test};
 use crate::{Cell, Kind, Refusal, Schema};
 
-/// The comparison of a test: of a number with a constant, or of a text with one, by bytes.
+/// The comparison of a test, between a cell and a constant: of numbers, or of texts by bytes.
 ///
 /// A test of a missing cell is false.
 ///
@@ -35,12 +35,12 @@ pub enum Op {
     Ge,
     /// Equal to a number or a text, as [`Op::Eq`]: the script language has this word for texts.
     Is,
-    /// Begins with a text. Beside it, texts are compared by `Eq` alone.
+    /// Begins with a text. The only other comparisons of texts are `Eq` and `Is`.
     Begins,
 }
 
-/// The constant of a test, made of a whole number that fits 64 bits signed, of a `&str`, or of a `String`
-/// or a reference to one. A number beyond 32 bits that is written out needs its type.
+/// The constant of a test. It converts from integers that fit an `i64`, from `&str`, and from `String` or
+/// a reference to one. A literal beyond 32 bits needs its type.
 ///
 /// ```
 /// use fullercoral::Constant;
@@ -125,8 +125,8 @@ pub struct Totals(pub(crate) Id);
 #[must_use = "an aggregate that nobody has a handle of can be neither asked nor forgotten"]
 pub struct Extrema(pub(crate) Id);
 
-/// Which aggregate it is: its number in the table, and a stamp that no two registrations share, so
-/// that a number that was forgotten, or is of another table, is known.
+/// Identifies a registration: its number in the table, and a unique stamp, which tells forgotten
+/// aggregates and those of other tables.
 #[derive(Debug, Clone, Copy, PartialEq, Eq, Hash)]
 pub struct Id {
     pub(crate) number: u32,
@@ -141,8 +141,8 @@ impl Aggregate for Extrema {
     type Line<'a> = ExtremaLine<'a>;
 }
 
-/// What stands before a line of an answer: the key, if the aggregate has a key column. It is made of a
-/// whole number that fits 64 bits signed, or of a borrowed text.
+/// The key of a line of an answer, if the aggregate has a key column. It converts from integers that fit
+/// an `i64`, and from borrowed texts.
 ///
 /// ```
 /// use fullercoral::{Key, Limits, Memory, Schema, Table, row, totals};
@@ -193,7 +193,7 @@ impl<'a> Key<'a> {
         }
     }
 
-    /// The key as the library reads it.
+    /// The key for the library to read.
     pub(crate) fn raw(self) -> fc_cell {
         match self {
             Key::None => Cell::Missing,
@@ -240,9 +240,9 @@ impl fmt::Display for Key<'_> {
 pub struct TotalsLine<'a> {
     /// The key.
     pub key: Key<'a>,
-    /// How many values there are under the key.
+    /// The number of values of this key.
     pub count: u64,
-    /// Their sum. It cannot overflow.
+    /// The sum of the values. It cannot overflow.
     pub sum: i128,
 }
 
@@ -258,14 +258,14 @@ pub struct TotalsLine<'a> {
 pub struct ExtremaLine<'a> {
     /// The key.
     pub key: Key<'a>,
-    /// The least value under the key.
+    /// The least value of this key.
     pub min: i64,
-    /// The greatest value under the key.
+    /// The greatest value of this key.
     pub max: i64,
 }
 
-/// What to compute of which rows: made by [`totals`] or [`extrema`], registered by
-/// [`Table::watch`](crate::Table::watch).
+/// The specification of an aggregate: [`totals`] or [`extrema`] makes it, and
+/// [`Table::watch`](crate::Table::watch) registers it.
 ///
 /// ```
 /// use fullercoral::{Op, totals};
@@ -289,7 +289,7 @@ struct Test {
     constant: Constant,
 }
 
-/// Counts and sums the numbers of a column. A row without a value or a key is passed over.
+/// Counts and sums the numbers of a column. It skips rows without a value or a key.
 ///
 /// ```
 /// let spec = fullercoral::totals("quantity").by("sku");
@@ -300,11 +300,10 @@ pub fn totals(column: &str) -> Spec<Totals> {
     Spec::of(column)
 }
 
-/// Finds the least and the greatest number of a column. A row without a value or a key is passed
-/// over.
+/// Finds the least and the greatest number of a column. It skips rows without a value or a key.
 ///
-/// The table keeps both for each key in each row group, in some 24 bytes. They are beside the local
-/// memory, and fewer if row groups are larger: see [`Limits::group`](crate::Limits::group).
+/// The table keeps both for each key in each row group, in some 24 bytes that local memory does not
+/// include. Larger row groups need fewer: see [`Limits::group`](crate::Limits::group).
 ///
 /// ```
 /// let spec = fullercoral::extrema("price").by("sku");
@@ -337,7 +336,7 @@ impl<A> Spec<A> {
         self
     }
 
-    /// Keeps only rows that pass this test, and the others there are; at most 4.
+    /// Adds a test that rows must pass to count; at most 4.
     ///
     /// ```
     /// use fullercoral::{Op, totals};
@@ -356,7 +355,7 @@ impl<A> Spec<A> {
     }
 }
 
-/// A spec with its columns found: what the library takes, but for the addresses.
+/// A spec with its columns resolved: an `fc_spec` without the addresses.
 #[derive(Debug, Clone)]
 pub(crate) struct Resolved {
     pub value: u32,
@@ -366,7 +365,8 @@ pub(crate) struct Resolved {
 }
 
 impl<A: sealed::Numbered> Spec<A> {
-    /// Finds the columns. Refused with the first of `BadSpec`, `NoColumn`, and `WrongKind` or `WrongOp`, that applies.
+    /// Resolves the columns. Refuses with the first of `BadSpec`, `NoColumn`, and `WrongKind` or `WrongOp`
+    /// that applies.
     pub(crate) fn resolve(&self, schema: &Schema) -> Result<Resolved, Refusal> {
         let rules = [
             (self.tests.len() <= 4, "it has at most 4 tests"),
@@ -405,7 +405,7 @@ impl Test {
         matches!(&self.constant, Constant::Text(text) if text.len() > 4_096)
     }
 
-    // The number of the comparison. Refused if column, comparison and constant are not of one kind.
+    // The number of the comparison. Refuses a column, a comparison and a constant of different kinds.
     fn code(&self, schema: &Schema, column: u32) -> Result<u32, Refusal> {
         let kind = match self.constant {
             Constant::Int(_) => Kind::Int,
@@ -453,7 +453,7 @@ pub(crate) mod sealed {
     use super::{ExtremaLine, FC_EXTREMA, FC_TOTALS, Id, Key, TotalsLine};
     use crate::answer::StoredLine;
 
-    /// A handle that has a number and makes lines.
+    /// An aggregate's handle, which has a number and makes lines.
     pub trait Numbered: Sized {
         const FOLD: u32;
         fn of(id: Id) -> Self;

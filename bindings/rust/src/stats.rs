@@ -1,4 +1,4 @@
-/// What a table did since it was opened, and how full its local region is.
+/// Counts of what a table did since it was opened, and how full its local memory is.
 ///
 /// ```
 /// use fullercoral::{Limits, Memory, Schema, Table, row};
@@ -15,18 +15,18 @@
 pub struct Stats {
     /// Objects that were evicted.
     pub evictions: u64,
-    /// Contents that were put into the engine. An object that was not written since it came is evicted
-    /// without a put.
+    /// Contents that were put into the engine. The eviction of an object that was not written since its
+    /// fetch needs no put.
     pub puts: u64,
-    /// Contents that were got from the engine.
+    /// Contents that the table got from the engine.
     pub gets: u64,
     /// Bytes of contents that were put.
     pub bytes_put: u64,
-    /// Bytes of contents that were got.
+    /// Bytes of contents that the table got.
     pub bytes_got: u64,
     /// Objects that were fetched, including prefetches.
     pub fetches: u64,
-    /// Objects that were fetched since they were proposed.
+    /// Objects that were fetched ahead, as the stride of reads proposed.
     pub prefetches: u64,
     /// Row groups that were scanned into an aggregate.
     pub scans: u64,
@@ -34,14 +34,14 @@ pub struct Stats {
     pub builds: u64,
     /// Segments of the local region that were compacted.
     pub compactions: u64,
-    /// How often the table went on with new numbers of contents.
+    /// How often the table renewed its content numbers.
     pub migrations: u64,
     /// Calls of the engine that failed.
     pub engine_errors: u64,
-    /// Contents that were refused since they are not what was put, and calls of the engine that failed.
+    /// Contents that the table refused since they differ from the bytes put, and failed calls of the engine.
     pub faults: u64,
-    /// Bytes of the local region that are in use, gaps among them.
+    /// Bytes of local memory in use, including gaps.
     pub local_used: u64,
-    /// Bytes of the local region.
+    /// Bytes of local memory.
     pub local_memory: u64,
 }

@@ -1,4 +1,5 @@
-//! The header `include/fullercoral.h`, declared for Rust. Its comments say what each call does; "rule" below is one of its six.
+//! The header `include/fullercoral.h`, declared for Rust. The header's comments say what each call does, and
+//! list the five rules that comments here name.
 #![allow(non_camel_case_types)]
 
 use std::ptr::{NonNull, null_mut};
@@ -50,12 +51,12 @@ impl fc_bytes {
         }
     }
 
-    /// The bytes themselves.
+    /// The bytes as a slice.
     ///
     /// # Safety
     /// A call wrote `self`, and by rule 3 no other call with that handle is made within `'a`.
     pub unsafe fn get<'a>(self) -> &'a [u8] {
-        // SAFETY: the caller keeps to rule 3, and a lent address is never null.
+        // SAFETY: the caller keeps rule 3, and a lent address is never null.
         unsafe { std::slice::from_raw_parts(self.at.as_ptr(), self.len) }
     }
 }
@@ -187,7 +188,7 @@ pub struct fc_space {
     pub size: u32,
 }
 
-/// A number of 128 bits of its two words.
+/// Joins the two words of a number of 128 bits.
 pub fn sum_of(low: u64, high: i64) -> i128 {
     i128::from(high) << 64 | i128::from(low)
 }
@@ -361,7 +362,7 @@ mod tests {
 
     use super::*;
 
-    /// The sizes and offsets that a C compiler gives for the header.
+    /// Compares sizes and offsets with those of a C compiler for the header.
     #[test]
     fn structs_lie_as_in_c() {
         let sizes = [

@@ -1,4 +1,4 @@
-//! Calls that are made often allocate nothing on the side of Rust. (The library has malloc for itself.)
+//! Frequent calls allocate nothing in Rust. (The library calls malloc itself.)
 
 use std::alloc::{GlobalAlloc, Layout, System};
 use std::sync::atomic::{AtomicU64, Ordering};
@@ -9,16 +9,16 @@ struct Counting;
 
 static COUNT: AtomicU64 = AtomicU64::new(0);
 
-// SAFETY: all is left to the system's allocator.
+// SAFETY: the system's allocator does the work.
 unsafe impl GlobalAlloc for Counting {
     unsafe fn alloc(&self, layout: Layout) -> *mut u8 {
         COUNT.fetch_add(1, Ordering::Relaxed);
-        // SAFETY: the caller's.
+        // SAFETY: the caller's promise.
         unsafe { System.alloc(layout) }
     }
 
     unsafe fn dealloc(&self, at: *mut u8, layout: Layout) {
-        // SAFETY: the caller's.
+        // SAFETY: the caller's promise.
         unsafe { System.dealloc(at, layout) }
     }
 }
@@ -26,7 +26,7 @@ unsafe impl GlobalAlloc for Counting {
 #[global_allocator]
 static ALLOCATOR: Counting = Counting;
 
-/// How many allocations a second round of the calls makes: the first may make buffers.
+/// How many allocations a second round of the calls makes: the first may allocate buffers.
 fn second_round(mut calls: impl FnMut()) -> u64 {
     calls();
     let before = COUNT.load(Ordering::Relaxed);

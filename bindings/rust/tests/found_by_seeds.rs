@@ -1,4 +1,4 @@
-//! What the simulator found in the crate, each with as few calls as were needed (`examples/simulator`).
+//! Bugs that the simulator found in the crate, each with as few calls as possible (`examples/simulator`).
 
 use fullercoral::{Column, Error, Limits, Memory, Policy, Refusal, Schema, Table, TextBuffer, row};
 
@@ -6,12 +6,12 @@ type Outcome = Result<(), Box<dyn std::error::Error>>;
 
 #[test]
 fn a_fetch_goes_on_when_its_space_is_made_with_new_numbers() -> Outcome {
-    // Space for four objects of one number each, and five numbers of contents.
+    // Space for four objects of one number each, and five content numbers.
     let limits = Limits::new().local_memory(4 * 16).group(1).contents(5);
     let mut table = Table::open(Schema::new().int("n"), limits, Memory::new())?;
     table.set_policy(Policy::Demand);
     table.extend((0..5).map(|n| row![n]))?;
-    // Objects that are local, and spend the numbers that are left.
+    // Local objects, which use up the remaining numbers.
     while table.stats().migrations == 0 {
         for place in 0..5 {
             table.set("n", place, i64::from(place) + 10)?;

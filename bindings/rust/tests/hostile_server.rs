@@ -1,4 +1,4 @@
-//! Tables over a server that answers whatever it likes.
+//! Tables over a server that sends invalid replies.
 #![cfg(feature = "resp")]
 
 use std::io::{Read, Write};
@@ -8,7 +8,7 @@ use std::time::{Duration, Instant};
 
 use fullercoral::{Engine, Error, Limits, Policy, Resp, Schema, Table, row, totals};
 
-/// A server that takes every `SET`, and gives this answer to each `GET`, `times` times over.
+/// A server that accepts every `SET`, and replies to each `GET` with `answer`, `times` times over.
 fn server(answer: &'static [u8], times: usize) -> SocketAddr {
     let listener = TcpListener::bind("127.0.0.1:0").unwrap();
     let address = listener.local_addr().unwrap();
@@ -79,7 +79,7 @@ fn a_key_that_the_server_lacks_is_named() {
 
 #[test]
 fn an_answer_without_end_is_not_read() {
-    // 64 KB of zeros, again and again, behind a length that no content has.
+    // 64 KB of zeros, again and again, after a length that no content has.
     static ENDLESS: [u8; 1 << 16] = [b'0'; 1 << 16];
     static HEAD: &[u8] = b"$4000000000000\r\n";
     for (answer, times) in [(HEAD, 1), (&ENDLESS[..], usize::MAX)] {

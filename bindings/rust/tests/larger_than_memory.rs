@@ -1,4 +1,4 @@
-//! A table of eight times its local memory. It is the only test of its process, whose memory it measures.
+//! A table of eight times its local memory. This is the only test of its process, whose memory it measures.
 
 use std::env;
 use std::fs;
@@ -11,7 +11,7 @@ const LOCAL: u64 = 32 << 20;
 /// Rows of three numbers and a text: 64 bytes of local memory each.
 const ROWS: i64 = 4 << 20;
 
-/// The most memory that this process had, in bytes.
+/// The peak memory of this process, in bytes.
 fn peak() -> u64 {
     let status = fs::read_to_string("/proc/self/status").unwrap();
     let line = status

@@ -17,7 +17,7 @@ fn numbers() -> Schema {
 fn refusal<T: std::fmt::Debug, E: std::fmt::Debug>(result: Result<T, Error<E>>) -> Refusal {
     match result {
         Err(Error::Refused(refusal)) => refusal,
-        other => panic!("{other:?} is no refusal"),
+        other => panic!("{other:?} is not a refusal"),
     }
 }
 
@@ -312,7 +312,7 @@ fn evict_coldest(table: &Mutex<Table<Shared>>, mut engine: Shared) {
         let begun = table.lock().unwrap().begin_evict_coldest().unwrap();
         if let Some(outgoing) = begun {
             let stored = outgoing.put(&mut engine).unwrap();
-            // It is stale if the object was written meanwhile.
+            // Stale if the object was written meanwhile.
             let _ = table.lock().unwrap().commit(stored);
         }
     }
@@ -323,7 +323,7 @@ fn fetch_groups(table: &Mutex<Table<Shared>>, mut engine: Shared) {
         let begun = table.lock().unwrap().begin_fetch("n", round % 20);
         if let Ok(mut incoming) = begun {
             incoming.get(&mut engine).unwrap();
-            // It is stale if the object came back meanwhile.
+            // Stale if the object was fetched meanwhile.
             let _ = table.lock().unwrap().install(incoming);
         }
     }

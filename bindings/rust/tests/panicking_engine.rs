@@ -1,11 +1,11 @@
-//! Tables over an engine that panics: whoever catches that finds the table as it was.
+//! Tables over an engine that panics: after the panic is caught, the table is unchanged.
 
 use std::fmt::Debug;
 use std::panic::{self, AssertUnwindSafe};
 
 use fullercoral::{Engine, Limits, Memory, Op, Policy, Schema, Table, row, totals};
 
-/// An engine that panics in each call while it is told to.
+/// An engine that panics in each call while a switch is on.
 #[derive(Default)]
 struct Panicking {
     memory: Memory,
@@ -30,8 +30,8 @@ impl Engine for Panicking {
 
 type Tried = Table<Panicking>;
 
-/// Three row groups of which those of the first column are away, and those of the second local and
-/// not kept by the engine.
+/// Three row groups: the objects of the first column are away, those of the second are local and not in
+/// the engine.
 fn table() -> Tried {
     let schema = Schema::new().int("n").int("m").text("t");
     let limits = Limits::new().group(4).local_memory(1 << 14);
@@ -44,7 +44,7 @@ fn table() -> Tried {
     table
 }
 
-/// A call panics with the engine. Afterwards it does what it should.
+/// Makes a call that panics with the engine, and then makes it again without the panic.
 fn panics_and_works<T: Debug>(table: &mut Tried, call: impl Fn(&mut Tried) -> T) -> T {
     let places = table.places();
     table.engine_mut().panics = true;
@@ -94,6 +94,6 @@ fn no_number_is_lost_when_an_answer_is_computed_anew() {
     }
     let others: Vec<_> = (0..31).map(|_| table.watch(totals("m"))).collect();
     assert!(others.iter().all(Result::is_ok));
-    // No object that was fetched for a call has a pin of it.
+    // No object has a pin of the call that fetched it.
     (0..3).for_each(|group| assert!(table.unpin("n", group).is_err()));
 }

@@ -1,4 +1,5 @@
-//! Engines that panic, at each of their calls in turn: the call of the table fails, and the table goes on.
+//! Engines that panic, at each of their calls in turn: the call of the table fails, and the table stays
+//! usable.
 
 use std::convert::Infallible;
 use std::panic::{AssertUnwindSafe, catch_unwind, resume_unwind};
@@ -9,7 +10,7 @@ use fullercoral::{
 
 type Outcome = Result<(), Box<dyn std::error::Error>>;
 
-/// An engine whose call of a number panics, once.
+/// An engine whose n-th call panics, once.
 struct Panics {
     kept: Memory,
     calls: u32,
@@ -47,7 +48,7 @@ impl Engine for Panics {
 
 type Panicky = Table<Panics>;
 
-// Makes a call, and if the engine panics in it makes it again.
+// Makes a call, and repeats it if the engine panics.
 fn persist<T>(table: &mut Panicky, call: impl Fn(&mut Panicky) -> T) -> T {
     match catch_unwind(AssertUnwindSafe(|| call(table))) {
         Ok(value) => value,
@@ -55,7 +56,7 @@ fn persist<T>(table: &mut Panicky, call: impl Fn(&mut Panicky) -> T) -> T {
     }
 }
 
-// Opens a table of 40 rows whose engine panics at its call of this number. Every third `n` is 0.
+// Opens a table of 40 rows whose engine panics at its call number `at`. Every third `n` is 0.
 fn filled(at: u32) -> Result<Panicky, Box<dyn std::error::Error>> {
     let (kept, calls) = (Memory::new(), 0);
     let limits = Limits::new().group(8).contents(40);
@@ -98,7 +99,7 @@ fn run(at: u32) -> Result<bool, Box<dyn std::error::Error>> {
         })?;
         assert_eq!(read, Some(i64::from(due)));
     }
-    // The one panic may have left one content behind that is no object's.
+    // The panic may have left one content in the engine that belongs to no object.
     assert!(table.engine().kept.len() <= 10 + 1);
     Ok(table.engine().calls >= at)
 }

@@ -9,11 +9,11 @@ use fullercoral::{Engine, Limits, Resp, Retry, Schema, Table, TextBuffer, row, t
 
 type Outcome = Result<(), Box<dyn std::error::Error>>;
 
-/// A server to test with, or none, which is said.
+/// The server to test with. If there is none, says so.
 fn server(prefix: &str) -> Option<Resp> {
     let Ok(address) = env::var("FULLERCORAL_REDIS") else {
-        // Not by a macro, whose output is shown of failed tests alone.
-        let _ = writeln!(io::stderr(), "skipped: FULLERCORAL_REDIS names no server");
+        // Not by `eprintln!`, whose output a passed test does not show.
+        let _ = writeln!(io::stderr(), "skipped: FULLERCORAL_REDIS is not set");
         return None;
     };
     Some(Resp::connect(address, prefix, Duration::from_secs(5)).unwrap())

@@ -1,5 +1,5 @@
-//! The worked examples of the script language, through the crate: the replies are those of `examples/`
-//! of the repository.
+//! The worked examples of the script language, through the crate. They get the replies in the
+//! repository's `examples/`.
 
 use std::sync::Arc;
 
@@ -23,7 +23,7 @@ fn by_hand(schema: Schema) -> Table<Memory> {
 fn refusal<T: std::fmt::Debug, E: std::fmt::Debug>(result: Result<T, Error<E>>) -> Refusal {
     match result {
         Err(Error::Refused(refusal)) => refusal,
-        other => panic!("{other:?} is no refusal"),
+        other => panic!("{other:?} is not a refusal"),
     }
 }
 
@@ -305,7 +305,7 @@ fn one_key_is_asked() -> Outcome {
     let said = |refusal: Refusal| (refusal.number(), refusal.to_string());
     let kind = "column `t` holds texts, not numbers";
     assert_eq!(said(refusal(table.ask_key(by_text, 5))), (5, kind.into()));
-    let needed = "the aggregate has a line for each key of column `t`, and none without";
+    let needed = "the aggregate has a line for each key of column `t`: ask for one";
     let refused = refusal(table.ask_key(by_text, Key::None));
     assert_eq!(said(refused), (5, needed.into()));
     let keyless = "the aggregate has no key column: ask for Key::None";
@@ -380,7 +380,7 @@ fn what_a_refusal_says() -> Outcome {
     let said = |result: Result<u32, Error<_>>| refusal(result).to_string();
     assert_eq!(
         said(table.insert(row!["rye"])),
-        "the row has 1 cells, and the table 2 columns"
+        "the row has 1 cells, but the table has 2 columns"
     );
     assert_eq!(
         said(table.insert(row![1, 3])),
@@ -428,14 +428,13 @@ fn what_a_refused_registration_says() -> Outcome {
     assert_eq!(refusal(table.watch(totals("sku"))).number(), 5);
     let five = (0..5).fold(totals("price"), |spec, n| spec.only("quantity", Op::Eq, n));
     let said = |result: Result<Totals, Error<_>>| refusal(result).to_string();
-    let tests = "no table has such an aggregate: it has at most 4 tests";
+    let tests = "invalid aggregate: it has at most 4 tests";
     assert_eq!(said(table.watch(five)), tests);
     let long = totals("quantity").only("sku", Op::Is, "x".repeat(4_097));
-    let constant = "no table has such an aggregate: a text constant has at most 4,096 bytes";
+    let constant = "invalid aggregate: a text constant has at most 4,096 bytes";
     assert_eq!(said(table.watch(long)), constant);
     let greater = totals("quantity").only("sku", Op::Gt, "a");
-    let op =
-        "`Gt` compares numbers: column `sku` holds texts, for which there are Eq, Is and Begins";
+    let op = "`Gt` compares numbers, but column `sku` holds texts: use Eq, Is and Begins";
     assert_eq!(said(table.watch(greater)), op);
     table.set_policy(Policy::Manual);
     table.insert(row!["rye", 3])?;
@@ -457,23 +456,23 @@ fn refused_columns_name_the_column_and_the_row() {
     let three = Column::ints(&[1, 2, 3]);
     assert_eq!(
         said(&[0, 1, 2], b"ab", three),
-        "column `quantity` is not as it should be at row 2: all columns have one length"
+        "column `quantity` is invalid at row 2: all columns must have one length"
     );
     assert_eq!(
         said(&[], b"", Column::ints(&[])),
-        "column `sku` is not as it should be at row 0: there is one offset more than texts"
+        "column `sku` is invalid at row 0: there must be one offset more than texts"
     );
     assert_eq!(
         said(&[0, 1, 2, 3], b"abc", three.valid(&[])),
-        "column `quantity` is not as it should be at row 0: there is a bit for each row"
+        "column `quantity` is invalid at row 0: there must be a bit for each row"
     );
     assert_eq!(
         said(&[0, 1, 2, 9], b"abc", three),
-        "column `sku` is not as it should be at row 2: offsets ascend, up to the length of the bytes"
+        "column `sku` is invalid at row 2: offsets must ascend, up to the length of the bytes"
     );
     assert_eq!(
         said(&[0, 1, 2, 3], b"a\xffc", three),
-        "the text for column `sku` at row 1 is no UTF-8"
+        "the text for column `sku` at row 1 is not valid UTF-8"
     );
 }
 
@@ -482,7 +481,7 @@ fn rule(schema: Schema, limits: Limits) -> String {
     let refusal = refusal(Table::open(schema, limits, Memory::new()));
     assert_eq!(refusal.number(), 2);
     let said = refusal.to_string();
-    said.replace("no table has such columns or limits: ", "")
+    said.replace("invalid columns or limits: ", "")
 }
 
 fn one() -> Schema {
@@ -491,15 +490,15 @@ fn one() -> Schema {
 
 #[test]
 fn refused_memory_says_which_rule_it_breaks() {
-    let contents = "there is a number for one content at least";
+    let contents = "a table has at least one content number";
     assert_eq!(rule(one(), Limits::new().contents(0)), contents);
-    let group = "the local memory for numbers holds a row group of each of their columns";
+    let group = "the local memory for numbers must hold a row group of each of their columns";
     assert_eq!(rule(one(), Limits::new().local_memory(0)), group);
     let few = Limits::new().local_memory(1 << 10).group(65_536);
     assert_eq!(rule(one(), few), group);
     let few = Limits::new().local_memory(3 * 64 * 16 - 1).group(64);
     assert_eq!(rule(one().int("b").int("c"), few), group);
-    let few = "the local memory for texts has 64 bytes or more";
+    let few = "the local memory for texts must have 64 bytes or more";
     let text = || Schema::new().text("a");
     assert_eq!(rule(text(), Limits::new().local_memory(63)), few);
     let most = Limits::new().local_memory((16 << 30) + 1);
@@ -525,7 +524,7 @@ fn a_refused_schema_or_limit_says_which_rule_it_breaks() {
     assert_eq!(rule(one(), Limits::new().places((1 << 24) + 1)), places);
     let edits = "a table takes 1 to 2^40 edits";
     assert_eq!(rule(one(), Limits::new().edits(0)), edits);
-    let texts = "text_memory is a part of the local memory, and numbers have the rest";
+    let texts = "text_memory is more than 0 and less than the local memory";
     for bytes in [0, 64 << 20] {
         let limits = Limits::new().text_memory(bytes);
         assert_eq!(rule(one().text("b"), limits), texts);

@@ -3,7 +3,7 @@
 use std::fs;
 use std::time::{Duration, Instant};
 
-/// Measures the processor time of what lies between `start` and `stop`, and the time by the clock.
+/// Measures processor time and wall-clock time between `start` and `stop`.
 #[derive(Debug, Default)]
 pub struct Clock {
     begun: Option<(Duration, Instant)>,
@@ -34,7 +34,7 @@ unsafe extern "C" {
     fn clock_gettime(clock: i32, time: *mut TimeSpec) -> i32;
 }
 
-/// The clock of the processor time of this thread.
+/// The number of the clock of this thread's processor time.
 const THREAD_CLOCK: i32 = 3;
 
 fn processor() -> Duration {
@@ -42,12 +42,12 @@ fn processor() -> Duration {
         seconds: 0,
         nanoseconds: 0,
     };
-    // SAFETY: the C library writes a time there, of 16 bytes on x86-64.
+    // SAFETY: the C library writes a `timespec` there, which has 16 bytes on x86-64.
     unsafe { clock_gettime(THREAD_CLOCK, &mut time) };
     Duration::new(time.seconds as u64, time.nanoseconds as u32)
 }
 
-/// The most memory that this process had, in KB.
+/// The peak memory of this process, in KB.
 pub fn peak() -> u64 {
     let text = fs::read_to_string("/proc/self/status").unwrap_or_default();
     let line = text.lines().find_map(|line| line.strip_prefix("VmHWM:"));

@@ -12,7 +12,7 @@ use crate::random::Random;
 use crate::tables::{self, Far};
 use crate::work::spec;
 
-/// The local memory, and the rows: of two numbers, 32 bytes each.
+/// The local memory, and the number of rows. Each has two numbers, 32 bytes.
 const LOCAL: usize = 32 << 20;
 const ROWS: u32 = 8 << 20;
 const SETS: u32 = 1_000;
@@ -57,7 +57,7 @@ fn over<E: Engine>(engine: E, clock: &mut Clock, digest: &mut Digest) -> Stats {
     far.table.stats()
 }
 
-/// The same rows and edits in a plain table, which has all of them in memory.
+/// The same rows and edits in a plain table, which keeps all rows in memory.
 pub fn plain<P: Program>(_: u32, clock: &mut Clock, digest: &mut Digest) {
     let mut program = P::open(&[Kind::Int, Kind::Int], 4_096);
     clock.start();
@@ -81,7 +81,7 @@ pub fn files(_: u32, clock: &mut Clock, digest: &mut Digest) {
     }
 }
 
-/// Over the server that `FULLERCORAL_REDIS` names.
+/// The table over the server that `FULLERCORAL_REDIS` names.
 pub fn redis(_: u32, clock: &mut Clock, digest: &mut Digest) {
     let address = env::var("FULLERCORAL_REDIS").unwrap_or_default();
     match Resp::connect(address, "bench", Duration::from_secs(10)) {

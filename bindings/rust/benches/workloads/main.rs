@@ -1,9 +1,9 @@
 //! `cargo bench` runs the workloads of docs/PERFORMANCE.md on a table and on a plain one, written by hand
-//! and without far memory, and prints times and memory of both. Their answers are compared.
+//! without far memory. It compares their answers, and prints times and memory of both.
 //!
-//! `cargo bench -- insert_0 scans` runs these alone, `--size 8` makes each eight times as large. Each run
-//! is a process of its own; of three runs the least processor time counts. The last rows are of a table
-//! of eight times its local memory, over files and, if `FULLERCORAL_REDIS` names a server, over that.
+//! `cargo bench -- insert_0 scans` runs only these, `--size 8` makes each eight times as large. Each run
+//! has its own process; the least processor time of three runs counts. The last rows are of a table of
+//! eight times its local memory, over files and over the server that `FULLERCORAL_REDIS` names, if any.
 
 use std::env;
 use std::process::{Command, ExitCode};
@@ -27,7 +27,7 @@ use tables::Far;
 
 type Run = fn(u32, &mut Clock, &mut Digest);
 
-/// A workload, how many units it has, and what it does on the table and on the plain one.
+/// A workload: its number of units, and its functions for the table and the plain one.
 struct Row {
     name: &'static str,
     units: u32,
@@ -60,7 +60,7 @@ fn rows(factor: u32) -> Vec<Row> {
     rows
 }
 
-/// What a run came to.
+/// The measurements of a run.
 #[derive(Debug, Clone, Copy)]
 struct Measured {
     processor_us: u64,
@@ -69,7 +69,7 @@ struct Measured {
     digest: u64,
 }
 
-// Runs one workload in this process, and prints what it came to.
+// Runs one workload in this process, and prints its measurements.
 fn run_here(run: Run, units: u32) {
     let (mut clock, mut digest) = (Clock::default(), Digest::default());
     run(units, &mut clock, &mut digest);
@@ -146,7 +146,7 @@ fn compare(row: &Row, factor: u32) -> bool {
     table.digest == plain.digest
 }
 
-// Runs the workload that these words ask for, if they are those of a process of its own.
+// Runs the workload of these arguments, if this is the process of one workload.
 fn is_run_here(words: &[String]) -> bool {
     let [flag, name, program, factor] = words else {
         return false;

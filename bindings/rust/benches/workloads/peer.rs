@@ -1,4 +1,4 @@
-//! The plain table as a program under test. Its far contents lie in a map, without a digest.
+//! The plain table as a program under test. It keeps far contents in a map, without digests.
 
 use std::collections::HashMap;
 
@@ -111,7 +111,7 @@ impl Program for Peer {
         number
     }
 
-    // The contents are decoded and folded, and then dropped.
+    // Decodes the contents, folds them, and drops them.
     fn watch_far(&mut self, spec: &PlainSpec) -> usize {
         let all: Vec<(usize, u32)> = self.shelf.keys().copied().collect();
         all.iter()
@@ -176,7 +176,7 @@ impl Program for Peer {
         }
     }
 
-    // A column of numbers, encoded in 8 bytes each.
+    // Encodes a column of numbers in 8 bytes each.
     fn evict(&mut self, column: usize, group: u32) {
         assert!(self.kinds[column] == Kind::Int);
         let range = self.range(group);

@@ -1,4 +1,4 @@
-//! What both programs can do, and how their answers are compared.
+//! The operations of both programs, and the checksum that compares their answers.
 
 use fullercoral::{Cell, Kind};
 
@@ -54,11 +54,11 @@ pub struct Batch {
 pub trait Program {
     fn open(kinds: &[Kind], group: u32) -> Self;
     fn insert(&mut self, row: &[Cell<'_>]);
-    /// Columns of numbers come first, and then at most one of texts.
+    /// Loads rows. The columns of numbers are first, and then at most one of texts.
     fn load(&mut self, batch: &Batch);
     fn set(&mut self, column: usize, place: u32, value: i64);
     fn remove(&mut self, place: u32);
-    /// Registers an aggregate, with all rows in it.
+    /// Registers an aggregate, and builds all rows into it.
     fn watch(&mut self, spec: &PlainSpec) -> usize;
     /// The same, if all rows are away.
     fn watch_far(&mut self, spec: &PlainSpec) -> usize {

@@ -160,7 +160,7 @@ impl Program for Far<Memory> {
     }
 }
 
-/// Registers an aggregate, and asks it once, so that all rows are in it.
+/// Registers an aggregate, and asks it once, which builds all rows into it.
 pub fn watch<E: Engine>(far: &mut Far<E>, spec: &PlainSpec) -> usize {
     let value = NAMES[spec.value];
     let handle = match spec.what {

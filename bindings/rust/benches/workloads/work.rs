@@ -1,4 +1,4 @@
-//! The workloads: those of docs/PERFORMANCE.md, as calls.
+//! The workloads of docs/PERFORMANCE.md, as calls.
 
 use fullercoral::{Cell, Kind, Op};
 
@@ -7,7 +7,7 @@ use crate::plain::{PlainSpec, Test, What};
 use crate::program::{Batch, Digest, Program};
 use crate::random::Random;
 
-/// The rows of a row group, but for the workloads that say otherwise.
+/// The rows of a row group, unless a workload says otherwise.
 const GROUP: u32 = 64;
 
 const WORDS: [&str; 8] = [
@@ -28,7 +28,7 @@ pub fn spec(what: What, key: Option<usize>, tests: &[(Op, i64)]) -> PlainSpec {
     }
 }
 
-/// The eight aggregates, of which a workload has as many as its name says.
+/// Eight aggregates. A workload registers as many of them as its name says.
 fn specs() -> [PlainSpec; 8] {
     [
         spec(What::Totals, None, &[]),
@@ -237,7 +237,7 @@ fn dump<P: Program>(units: u32, clock: &mut Clock, digest: &mut Digest) {
     clock.stop();
 }
 
-/// Asks of an aggregate of 50,000 rows, with a set before each tenth.
+/// Asks an aggregate of 50,000 rows, with a set before each tenth ask.
 fn extrema_asks<P: Program>(
     key: Option<usize>,
     units: u32,
@@ -266,7 +266,7 @@ fn asks_extrema_by<P: Program>(units: u32, clock: &mut Clock, digest: &mut Diges
     extrema_asks::<P>(Some(1), units, clock, digest);
 }
 
-/// A queue: the least value of the table is removed, a greater one comes, and the answer is asked for.
+/// A queue: removes the least value of the table, inserts a greater one, and asks for the answer.
 fn queue<P: Program>(key: Option<usize>, units: u32, clock: &mut Clock, digest: &mut Digest) {
     let mut program: P = watched(INT_INT, 0);
     let number = program.watch(&spec(What::Extrema, key, &[]));
@@ -289,7 +289,7 @@ fn least_goes_by<P: Program>(units: u32, clock: &mut Clock, digest: &mut Digest)
     queue::<P>(Some(1), units, clock, digest);
 }
 
-/// Four times an aggregate is registered over rows that are there.
+/// Registers an aggregate over existing rows, four times.
 fn builds<P: Program>(of: &PlainSpec, units: u32, clock: &mut Clock, digest: &mut Digest) {
     let mut program: P = watched(INT_INT, 0);
     program.load(&batch(12, units * GROUP, 2));
@@ -326,7 +326,7 @@ fn lend_text<P: Program>(units: u32, clock: &mut Clock, digest: &mut Digest) {
     clock.stop();
 }
 
-/// All row groups of a column go away and come back, four times; if written, each is written between.
+/// Evicts and fetches all row groups of a column, four times; if `written`, writes each between.
 fn moves<P: Program>(
     group: u32,
     written: bool,
@@ -364,7 +364,7 @@ fn move_written_4096<P: Program>(units: u32, clock: &mut Clock, digest: &mut Dig
     moves::<P>(4_096, true, units, clock, digest);
 }
 
-/// Four times an aggregate is registered over rows that are away.
+/// Registers an aggregate over rows that are away, four times.
 fn offloads<P: Program>(units: u32, clock: &mut Clock, digest: &mut Digest) {
     let mut program: P = watched(INT_INT, 0);
     program.load(&batch(15, units * GROUP, 2));

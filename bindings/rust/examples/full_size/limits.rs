@@ -1,4 +1,4 @@
-//! The limits that a program can reach, each met once.
+//! Reaches each limit of a table once.
 
 use std::env;
 use std::error::Error;
@@ -15,10 +15,10 @@ type Outcome = Result<Met, Box<dyn Error>>;
 
 const MOST_PLACES: u32 = 1 << 24;
 const MOST_TEXT: usize = 4_096;
-/// Rows are given in batches of so many.
+/// The rows of a batch.
 const BATCH: u32 = 65_536;
 
-/// The limits by name, in the order of the table that is made of them.
+/// The limits by name, in the order of the table in the documents.
 pub const LIMITS: &[(&str, Meet)] = &[
     ("places", places),
     ("columns", columns),
@@ -36,7 +36,7 @@ pub const LIMITS: &[(&str, Meet)] = &[
     ("all at once", all_at_once),
 ];
 
-// A refusal by its number and its name, which must be this one.
+// Checks the number of a refusal, and returns its number and name.
 fn refused<T: Debug, E: Debug>(
     result: Result<T, TableError<E>>,
     number: u32,
@@ -47,7 +47,7 @@ fn refused<T: Debug, E: Debug>(
             let end = name.find([' ', '{']).unwrap_or(name.len());
             Ok(format!("{number} {}", &name[..end]))
         }
-        other => Err(format!("{other:?} and not refusal {number}").into()),
+        other => Err(format!("{other:?} instead of refusal {number}").into()),
     }
 }
 
@@ -63,7 +63,7 @@ fn numbers(columns: u32) -> Schema {
     (0..columns).fold(Schema::new(), |schema, it| schema.int(&format!("n{it}")))
 }
 
-// Appends rows up to so many places, each with its place in all columns. Returns the first failure.
+// Appends rows up to a number of places, each with its place in all columns. Returns the first failure.
 fn fill<E: Engine>(
     table: &mut Table<E>,
     columns: u32,
@@ -76,7 +76,7 @@ fn fill<E: Engine>(
     Ok(())
 }
 
-// How many places there are, and the sum of their numbers.
+// The count of places, and the sum of their numbers.
 fn sum_of(places: u32) -> (u64, i128) {
     let count = u64::from(places);
     (count, i128::from(count) * (i128::from(count) - 1) / 2)
@@ -92,7 +92,7 @@ where
 {
     let line = table.ask(of).map_err(Into::into)?.next();
     let found = line.map(|line| (line.count, line.sum));
-    is_so(found == Some(sum_of(places)), "another answer than is due")
+    is_so(found == Some(sum_of(places)), "a wrong answer")
 }
 
 fn places() -> Outcome {
@@ -160,7 +160,7 @@ fn conditions() -> Outcome {
     })
 }
 
-// 1,024 segments of 65,536 numbers, so each holds one row group.
+// 1,024 segments of 65,536 numbers, one row group each.
 fn segments() -> Outcome {
     let limits = Limits::new().local_memory(1 << 30).group(65_536);
     let mut table = Table::open(numbers(8), limits, files()?)?;
@@ -177,8 +177,8 @@ fn segments() -> Outcome {
     })
 }
 
-// The largest region of numbers: 1,024 segments of 1,048,576, which is 16 GB. It is reserved at once,
-// and used as it fills. Here 1 GB of it is.
+// The largest region of numbers: 1,024 segments of 1,048,576, which is 16 GB. The table reserves it at
+// once, and uses it as it fills. This uses 1 GB.
 fn largest_segments() -> Outcome {
     let most = 1 << 34;
     let limits = Limits::new().local_memory(most).group(65_536);
@@ -224,7 +224,7 @@ fn texts() -> Outcome {
     }
     is_so(
         table.text("t", 0)? == Some(&*long),
-        "another text came back",
+        "the fetched text is wrong",
     )?;
     let longer = format!("{long}x");
     Ok(Met {
@@ -234,8 +234,8 @@ fn texts() -> Outcome {
     })
 }
 
-// A row group of the longest texts that just fits a segment of so many bytes, a 256th of the region. It
-// needs 4,100 for each text and 6.
+// The longest texts of a row group that just fit a segment of this size, a 256th of the region. Each text
+// needs 4,100 bytes, and the row group 6.
 fn chunk(segment: u32, group: u32) -> Outcome {
     let limits = Limits::new()
         .local_memory(256 * segment as usize)
@@ -252,7 +252,7 @@ fn chunk(segment: u32, group: u32) -> Outcome {
     table.evict("t", 0)?;
     is_so(
         table.text("t", fit - 1)? == Some(&*long),
-        "another text came back",
+        "the fetched text is wrong",
     )?;
     Ok(Met {
         met: format!("{fit} texts of 4096 bytes in a segment of {segment} evicted and fetched"),
@@ -265,12 +265,12 @@ fn chunks() -> Outcome {
     chunk(1 << 20, 512)
 }
 
-// Each text that is appended has its row group written anew, so this takes a minute and more.
+// Each append of a text writes its row group again, so this takes over a minute.
 fn largest_chunks() -> Outcome {
     chunk(1 << 24, 65_536)
 }
 
-// Each content is of one row, and all of them are away at once.
+// Row groups of one row, all of them away at once.
 fn contents() -> Outcome {
     let most = 1 << 20;
     let limits = Limits::new().group(1).contents(u64::from(most));
@@ -303,7 +303,7 @@ fn pins() -> Outcome {
     })
 }
 
-// The largest limit of edits, 2^40, would take days. A smaller one is met.
+// Reaching the largest limit of edits, 2^40, would take days. This reaches a smaller one.
 fn edits() -> Outcome {
     let limits = Limits::new().edits(1 << 20);
     let mut table = Table::open(numbers(1), limits, files()?)?;

@@ -1,11 +1,10 @@
-//! Meets each limit of a table once, and asks for one more: `full_size [--only NAMES] [--record FILE]`.
+//! Reaches each limit of a table once, and asks for one more: `full_size [--only NAMES] [--record FILE]`.
 //!
-//! Each limit is met in a process of its own, so that its processor time and its most memory are its
-//! own. A line of fields with tabs between them is printed for each: what it is called, what was met,
-//! what one more is and what it is refused with, by its number and name, the seconds of processor time,
-//! and the most memory in MB. Far contents lie in files, so that memory is the table's. --only takes
-//! names with commas between them. --record writes the lines into a file, over those of the same name;
-//! `tools/documents` makes a table of it.
+//! Each limit has its own process, to measure its processor time and peak memory. The program prints a
+//! line of tab-separated fields for each: the name, what was reached, what one more is, the number and
+//! name of its refusal, the seconds of processor time, and the peak memory in MB. Far contents are in
+//! files, so that the memory is the table's. --only takes names separated by commas. --record writes the
+//! lines into a file, and replaces lines with the same name; `tools/documents` makes a table of it.
 
 use std::collections::BTreeMap;
 use std::error::Error;
@@ -20,17 +19,17 @@ const HEAD: &str = "limit\tmet\tone more\trefusal\tseconds\tMB";
 /// No limit may take more memory, in MB.
 const MOST_MEMORY: u64 = 6_000;
 
-/// What a limit says: what was met, what one more is, and the refusal of that.
+/// The result of a limit: what was reached, what one more is, and its refusal.
 pub struct Met {
     pub met: String,
     pub more: &'static str,
     pub refusal: String,
 }
 
-/// How a limit is met.
+/// A function that reaches a limit.
 pub type Meet = fn() -> Result<Met, Box<dyn Error>>;
 
-// The processor time of this process: its 14th and 15th field, in hundredths of a second.
+// The processor time of this process: fields 14 and 15 of its stat file, in hundredths of a second.
 fn seconds() -> Result<f64, Box<dyn Error>> {
     let stat = fs::read_to_string("/proc/self/stat")?;
     let behind_name = stat.rsplit(')').next().unwrap_or_default();
@@ -39,7 +38,7 @@ fn seconds() -> Result<f64, Box<dyn Error>> {
     Ok(ticks?.iter().sum::<f64>() / 100.0)
 }
 
-// The most memory that this process had, in MB.
+// The peak memory of this process, in MB.
 fn most_memory() -> Result<u64, Box<dyn Error>> {
     let status = fs::read_to_string("/proc/self/status")?;
     let line = status.lines().find(|line| line.starts_with("VmHWM:"));
@@ -50,7 +49,7 @@ fn most_memory() -> Result<u64, Box<dyn Error>> {
     Ok(kb / 1_000)
 }
 
-// Meets a limit in this process, and prints its line.
+// Reaches a limit in this process, and prints its line.
 fn meet(name: &str) -> Result<(), Box<dyn Error>> {
     let found = LIMITS.iter().find(|(it, _)| *it == name);
     let (_, meet) = found.ok_or("there is no such limit")?;
@@ -59,12 +58,12 @@ fn meet(name: &str) -> Result<(), Box<dyn Error>> {
     let (met, more, refusal) = (it.met, it.more, it.refusal);
     println!("{name}\t{met}\t{more}\t{refusal}\t{seconds:.1}\t{memory}");
     if memory > MOST_MEMORY {
-        return Err(format!("{memory} MB are too much").into());
+        return Err(format!("{memory} MB of memory are too much").into());
     }
     Ok(())
 }
 
-// Meets a limit in a process of its own. Returns its line.
+// Reaches a limit in a new process. Returns its line.
 fn met_apart(name: &str) -> Result<String, Box<dyn Error>> {
     let ran = Command::new(env::current_exe()?)
         .args(["--meet", name])

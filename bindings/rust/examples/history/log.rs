@@ -1,4 +1,4 @@
-//! The calls that a thread made, and what it got.
+//! The log of a thread: its calls and their replies.
 
 use std::collections::HashMap;
 use std::fmt;
@@ -7,10 +7,10 @@ use fullercoral::{Error, Table};
 
 use crate::setup::{Failure, Far, Shared};
 
-/// How often movers got which reply to what.
+/// How often movers got each reply to each call.
 pub type Moves = HashMap<(&'static str, String), u64>;
 
-/// A call of a session, with three readings of the clock: before the lock, with it, and behind it.
+/// A call of a session, with three readings of the clock: before, under and after the lock.
 pub struct Event {
     pub session: u32,
     pub begun: u64,
@@ -28,7 +28,7 @@ impl fmt::Display for Event {
     }
 }
 
-/// What a thread got.
+/// The log of a thread.
 pub struct Log {
     session: u32,
     pub events: Vec<Event>,
@@ -44,7 +44,7 @@ impl Log {
         }
     }
 
-    /// Makes a call under the table's lock, and notes it with its reply. `work` says what the reply is.
+    /// Makes a call under the table's lock, and logs it. `work` returns the reply.
     pub fn call<T>(
         &mut self,
         shared: &Shared,
@@ -72,7 +72,7 @@ impl Log {
         result
     }
 
-    /// Notes what a mover got.
+    /// Counts the reply that a mover got.
     pub fn moved<T>(&mut self, what: &'static str, result: &Result<T, Failure>) {
         let reply = match result {
             Ok(_) => "ok".to_owned(),
@@ -82,7 +82,7 @@ impl Log {
     }
 }
 
-/// A failure as a reply: of a refusal its number.
+/// A failure as a reply: the number of a refusal.
 pub fn told(failure: &Failure) -> String {
     match failure {
         Error::Refused(refusal) => format!("refused {}", refusal.number()),

@@ -1,16 +1,16 @@
-//! Sessions on threads that share one table, and movers beside them:
+//! Threads that share one table: sessions that edit it, and movers that evict and fetch:
 //! `history [--seed SEED] [--sessions N] [--edits N]`.
 //!
-//! The table is under a lock, as the crate's documentation has it. Each session makes so many edits of
-//! any row, and reads and asks between them. Movers evict, fetch, build and pin beside them, in phases:
-//! the far side is called under no lock of the table. The seed draws the policy, the limits, what the
-//! far side does wrong, and all calls; in which order these come, the machine decides.
+//! The table is under a lock, as in the crate's documentation. Each session makes N edits of any row, and
+//! reads and asks between them. Meanwhile movers evict, fetch, build and pin, in phases: they call the
+//! far side without the lock of the table. The seed draws the policy, the limits, the faults of the far
+//! side, and all calls; the machine decides their order.
 //!
-//! What is printed is the history: a line of fields with tabs between them for each call that a session
-//! made, in the order in which they had the lock. It is the session, three readings of one clock (before
-//! the lock, with it, behind it), the call and its reply, as a script of `farframe` has them. A clock
-//! that is read in the lock says in which order the calls are to be explained; `tests/random-threads`
-//! does it, by a plain table. Lines `moved WHAT REPLY COUNT` follow, and say what the movers got.
+//! The program prints the history: a line of tab-separated fields for each call of a session, in the
+//! order in which they had the lock. The fields are the session, three readings of one clock (before,
+//! under and after the lock), the call and its reply, as in a script of `farframe`. The reading under the
+//! lock orders the calls; `tests/random-threads` replays them in that order on a plain table. Lines
+//! `moved WHAT REPLY COUNT` follow, with the replies that the movers got.
 
 use std::collections::BTreeMap;
 use std::io::{self, BufWriter, Write};
@@ -57,8 +57,7 @@ impl Wanted {
     }
 }
 
-/// Runs all threads. Returns the logs of the sessions, and of one more that looks at all rows at the
-/// end.
+/// Runs all threads. Returns the logs of the sessions, and of one more that reads all rows at the end.
 fn run(setup: &Setup, shared: &Shared, wanted: &Wanted) -> Vec<Log> {
     let at_work = AtomicU32::new(wanted.sessions);
     let mut logs = thread::scope(|scope| {

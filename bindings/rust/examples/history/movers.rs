@@ -1,4 +1,4 @@
-//! Movement in phases, and the threads that do nothing else.
+//! Movement in phases, and the threads that only move objects.
 
 use std::sync::Arc;
 use std::sync::atomic::{AtomicU32, Ordering};
@@ -10,7 +10,7 @@ use crate::log::Log;
 use crate::random::Random;
 use crate::setup::{Failure, Setup, Shared, Watched};
 
-/// How many columns the table has.
+/// The number of columns.
 pub const COLUMNS: u32 = 3;
 
 impl Shared {
@@ -45,8 +45,7 @@ impl Shared {
     }
 }
 
-/// Moves objects: between the edits of a session, or as a thread of its own as long as sessions are at
-/// work.
+/// Moves objects: between the edits of a session, or as a thread of its own while sessions work.
 pub struct Mover<'t> {
     number: u32,
     /// How many aggregates it registered.
@@ -74,7 +73,7 @@ impl<'t> Mover<'t> {
         log
     }
 
-    // One of the objects that there are, if there is one.
+    // A random object, if there is one.
     fn object(&mut self) -> Option<(usize, u32)> {
         let groups = self.shared.table().groups();
         (groups > 0).then(|| {
@@ -83,7 +82,7 @@ impl<'t> Mover<'t> {
         })
     }
 
-    /// Moves an object, or more of them.
+    /// Makes one random move, of one or more objects.
     pub fn step(&mut self, log: &mut Log) {
         let Some((column, group)) = self.object() else {
             return;
@@ -105,7 +104,7 @@ impl<'t> Mover<'t> {
         }
     }
 
-    // Pins an object while others have a turn.
+    // Pins an object while other threads run.
     fn pin(&mut self, log: &mut Log, column: usize, group: u32) {
         let pinned = self.shared.table().pin(column, group).map(|it| it.keep());
         log.moved("pin", &pinned);
@@ -116,7 +115,7 @@ impl<'t> Mover<'t> {
         }
     }
 
-    // Registers an aggregate over rows that are there, builds what is pending, asks and forgets it.
+    // Registers an aggregate over existing rows, builds pending row groups, asks and forgets it.
     fn follow_anew(&mut self, log: &mut Log) {
         let shared = self.shared;
         self.followed += 1;
@@ -128,7 +127,7 @@ impl<'t> Mover<'t> {
         let Ok(of) = watched else {
             return;
         };
-        // (the lock is not kept for the loop)
+        // (the loop does not hold the lock)
         let groups = shared.table().groups();
         for group in 0..groups {
             let mut built = shared.build(of, group);

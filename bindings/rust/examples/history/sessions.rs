@@ -22,10 +22,10 @@ const WORDS: [&str; 8] = [
 ];
 /// How often a call is tried.
 const MOST_TRIES: u32 = 10_000;
-/// How many objects a session evicts where the local region is full.
+/// How many objects a session evicts when local memory is full.
 const EVICTED_AT_ONCE: u32 = 8;
 
-/// A cell as a script has it.
+/// Formats a cell as in a script.
 fn cell_told(cell: Cell<'_>) -> String {
     match cell {
         Cell::Missing => "\\N".to_owned(),
@@ -38,7 +38,7 @@ fn row_told(cells: &[Cell<'_>]) -> String {
     cells.join(",")
 }
 
-// An answer in one line.
+// Formats an answer in one line.
 fn answer_told<'a, A: Aggregate>(
     lines: Lines<'a, A>,
     told: impl Fn(A::Line<'a>) -> String,
@@ -50,7 +50,7 @@ fn answer_told<'a, A: Aggregate>(
     lines.join("; ")
 }
 
-// What stands before a line of an answer.
+// The key before a line of an answer, if there is one.
 fn key_told(key: Key<'_>) -> String {
     match key {
         Key::None => String::new(),
@@ -69,7 +69,7 @@ fn extrema_told(line: ExtremaLine<'_>) -> String {
 }
 
 impl Log {
-    /// Asks an aggregate that the history knows by a name, or has it computed anew.
+    /// Asks an aggregate, by its name in the history, or recounts it.
     pub fn ask(
         &mut self,
         shared: &Shared,
@@ -104,7 +104,7 @@ pub struct Session<'t> {
     number: u32,
     random: Random,
     shared: &'t Shared,
-    /// It moves objects too, since on a busy machine the movers have few turns.
+    /// It moves objects too, since the movers run seldom on a busy machine.
     mover: Mover<'t>,
     log: Log,
 }
@@ -120,7 +120,7 @@ impl<'t> Session<'t> {
         }
     }
 
-    /// Makes so many edits, with calls between them that read and ask.
+    /// Makes `edits` edits, with reads and asks between them.
     pub fn run(mut self, edits: u32) -> Log {
         let mut made = 0;
         while made < edits {
@@ -136,7 +136,7 @@ impl<'t> Session<'t> {
         self.log
     }
 
-    /// Reads all rows, and asks all aggregates in both ways. Nothing else is at work then.
+    /// Reads all rows, and asks and recounts all aggregates, after all other threads have ended.
     pub fn look_at_all(mut self) -> Log {
         self.shared.table().set_policy(Policy::Demand);
         self.shared.behave();
@@ -151,8 +151,8 @@ impl<'t> Session<'t> {
         self.log
     }
 
-    // Makes a call again and again while it fails for a reason that may pass, and makes way for it.
-    // Returns whether it is done.
+    // Repeats a call while it fails for a reason that may pass, and makes space for it. Returns whether it
+    // succeeded.
     fn persist(&mut self, mut call: impl FnMut(&mut Self) -> Result<(), Failure>) -> bool {
         let mut last = None;
         for _ in 0..MOST_TRIES {
@@ -173,11 +173,11 @@ impl<'t> Session<'t> {
                 Err(_) => return false,
             }
         }
-        panic!("session {} does not get through: {last:?}", self.number);
+        panic!("session {} gave up: {last:?}", self.number);
     }
 
-    // By `Policy::Manual` nobody else closes the gaps that evicted objects leave. To close them costs as
-    // much for one as for many.
+    // With `Policy::Manual` nobody else closes the gaps of evicted objects. Closing many costs as much as
+    // closing one, so this evicts several first.
     fn make_space(&mut self) {
         for _ in 0..EVICTED_AT_ONCE {
             let evicted = self.shared.evict(None);
@@ -186,7 +186,7 @@ impl<'t> Session<'t> {
         self.shared.table().compact();
     }
 
-    // A place, mostly one of the last, or now and then one that may not be there yet.
+    // A random place: mostly one of the last, sometimes one that may not exist yet.
     fn place(&mut self) -> u32 {
         let places = self.shared.places.load(Ordering::Relaxed);
         match self.random.below(40) {
@@ -210,8 +210,8 @@ impl<'t> Session<'t> {
         Cell::Text(self.random.pick(&WORDS))
     }
 
-    // Makes an edit. Returns whether it was accepted: it is not if its row was never there or is not
-    // there any more.
+    // Makes an edit. Returns whether it was accepted: it is refused if its row does not exist yet or was
+    // removed.
     fn edit(&mut self) -> bool {
         match self.random.below(100) {
             0..55 => self.insert(),
@@ -269,7 +269,7 @@ impl<'t> Session<'t> {
     fn ask(&mut self) {
         let number = self.random.below(self.shared.watched.len() as u32) as usize;
         if self.random.one_in(50) {
-            // (it reads all that is away, so over a far side that fails it may never succeed)
+            // (a recount reads all objects that are away, so over a failing far side it may never succeed)
             let _ = self.ask_one(number, true);
         } else {
             self.persist(|me| me.ask_one(number, false));

@@ -1,4 +1,4 @@
-//! What a seed draws, and the table that threads share.
+//! The setup that a seed draws, and the table that threads share.
 
 use std::convert::Infallible;
 use std::fmt;
@@ -12,7 +12,7 @@ use fullercoral::{
 
 use crate::random::Random;
 
-/// The far side, which movers call under no lock of the table.
+/// The far side, which movers call without the lock of the table.
 pub type Far = Arc<Mutex<Faulty<Memory>>>;
 
 /// Why a call failed.
@@ -25,7 +25,7 @@ pub enum Watched {
     Extrema(Extrema),
 }
 
-/// What is drawn.
+/// The setup that a seed draws.
 #[derive(Clone)]
 pub struct Setup {
     pub seed: u64,
@@ -33,8 +33,7 @@ pub struct Setup {
     pub group: u32,
     pub local_memory: usize,
     pub movers: u32,
-    /// In how many of a thousand calls the far side fails, returns a content with a bit flipped, or
-    /// takes its time.
+    /// In how many of a thousand calls the far side fails, flips a bit of a content, or is slow.
     pub faults: [(Fault, u32); 3],
 }
 
@@ -58,7 +57,7 @@ impl Setup {
         }
     }
 
-    /// Whether calls may fail since the far side fails.
+    /// Whether calls may fail because the far side fails.
     pub fn may_fail(&self) -> bool {
         self.faults[..2].iter().any(|(_, rate)| *rate > 0)
     }
@@ -81,7 +80,7 @@ pub struct Shared {
     pub far: Far,
     pub watched: Vec<Watched>,
     clock: AtomicU64,
-    /// How many places there are at least.
+    /// A lower bound of the number of places.
     pub places: AtomicU32,
 }
 
@@ -97,7 +96,7 @@ impl Shared {
             .local_memory(setup.local_memory);
         let schema = Schema::new().int("who").int("n").text("word");
         let mut table =
-            Table::open(schema, limits, Arc::clone(&far)).expect("the limits are right");
+            Table::open(schema, limits, Arc::clone(&far)).expect("the limits are valid");
         table.set_policy(setup.policy);
         let watched = watch_all(&mut table).expect("they are few");
         Shared {
@@ -114,7 +113,7 @@ impl Shared {
         self.table.lock().unwrap_or_else(PoisonError::into_inner)
     }
 
-    /// From now on the far side does nothing wrong.
+    /// Stops all faults of the far side.
     pub fn behave(&self) {
         let mut far = self.far.lock().unwrap_or_else(PoisonError::into_inner);
         Fault::ALL.iter().for_each(|fault| far.set(*fault, 0));

@@ -1,18 +1,18 @@
-//! What a seed draws: a table, and the calls that it is given.
+//! The table and the calls that a seed draws.
 
 use fullercoral::{Constant, Kind, Limits, Op, Policy, Schema, Spec, extrema, totals};
 
 pub use crate::owned::Owned;
 
-/// The table of a seed, and how often it tries a call of the far side.
+/// The setup of a seed's table, and how often it tries a call of the far side.
 #[derive(Debug, Clone)]
 pub struct Setup {
     pub kinds: Vec<Kind>,
     pub group: u32,
     pub places: u32,
-    /// How many edits and jobs it may have, if they are few.
+    /// The limit of edits and jobs, if it is low.
     pub edits: Option<u64>,
-    /// How many numbers of contents it has, if they are few.
+    /// The limit of content numbers, if it is low.
     pub contents: Option<u64>,
     pub memory: usize,
     pub text_memory: Option<usize>,
@@ -52,7 +52,7 @@ pub fn name(column: usize) -> String {
     format!("c{column}")
 }
 
-/// What an aggregate is, by the columns' indices.
+/// The specification of an aggregate, by column indices.
 #[derive(Debug, Clone)]
 pub struct Folding {
     pub is_extrema: bool,
@@ -87,19 +87,19 @@ impl Folding {
         spec
     }
 
-    /// The columns that it needs, as often as it names them.
+    /// The columns that it needs, repeated if it names them more than once.
     pub fn columns(&self) -> impl Iterator<Item = usize> {
         let tests = self.tests.iter().map(|(column, _, _)| *column);
         [self.value].into_iter().chain(self.key).chain(tests)
     }
 }
 
-/// A call, with how the far side behaves meanwhile.
+/// A call, and the behaviour of the far side meanwhile.
 #[derive(Debug, Clone)]
 pub struct Step {
-    /// Aggregates and jobs have the number of the step that made them.
+    /// The number of the step. Aggregates and jobs have the number of the step that made them.
     pub id: u32,
-    /// 0 if the far side behaves as it should.
+    /// The seed of the far side's faults, 0 for none.
     pub mood: u64,
     pub call: Call,
 }
@@ -113,7 +113,7 @@ impl Call {
     }
 }
 
-/// A call of a table, of a job, or of the far side. Aggregates and jobs are numbers of steps.
+/// A call of a table, of a job, or of the far side. Steps' numbers name aggregates and jobs.
 #[derive(Debug, Clone)]
 pub enum Call {
     Insert(Vec<Owned>),

@@ -1,4 +1,4 @@
-//! Draws tables, and calls that are near to what a table has.
+//! Draws tables, and calls close to a table's state.
 
 use fullercoral::{Constant, Kind, Op, Policy};
 
@@ -9,7 +9,7 @@ use crate::world::World;
 /// Draws the arguments of a call.
 type Draw = fn(&mut Drawer<'_>) -> Call;
 
-/// How often each call is drawn, in parts of 1,000, before a seed's own taste.
+/// The weight of each call, in parts of 1,000, before a seed's own taste.
 const WEIGHTS: [(u32, Draw); 34] = [
     (130, |it| Call::Insert(it.row())),
     (25, |it| it.extend()),
@@ -47,14 +47,14 @@ const WEIGHTS: [(u32, Draw); 34] = [
     (20, |it| it.far()),
 ];
 
-/// The index of `Watch` there.
+/// The index of `Watch` in `WEIGHTS`.
 const WATCH: usize = 4;
 
-/// What a seed likes: how often it draws each call, and how often the far side misbehaves.
+/// The taste of a seed: how often it draws each call, and how often the far side misbehaves.
 #[derive(Debug)]
 pub struct Taste {
     weights: [u32; WEIGHTS.len()],
-    /// Of a hundred calls.
+    /// How many of a hundred calls have a misbehaving far side.
     trouble: u32,
     changes_policy: bool,
     /// How many calls it draws.
@@ -65,7 +65,7 @@ impl Taste {
     pub fn draw(random: &mut Random, setup: &Setup) -> Taste {
         let mut weights = WEIGHTS.map(|(weight, _)| weight * random.pick(&[1, 4, 4, 4, 16]));
         if random.one_in(30) {
-            // (as many aggregates as there may be)
+            // (so that the limit of aggregates is reached)
             weights[WATCH] *= 40;
         }
         Taste {
@@ -124,7 +124,7 @@ pub struct Drawer<'a> {
 
 impl Drawer<'_> {
     pub fn step(&mut self, id: u32) -> Step {
-        // (a table without rows is soon looked at)
+        // (a table without rows shows little)
         let call = if id == 1 { self.extend() } else { self.call() };
         let has_trouble = self.random.below(100) < self.taste.trouble;
         let mood = if has_trouble {
@@ -189,7 +189,7 @@ impl Drawer<'_> {
         row
     }
 
-    // Rows by columns, of the right kinds; now and then one too few, or of another length.
+    // Columns of the right kinds; sometimes one too few, or one of another length.
     fn extend(&mut self) -> Call {
         let rows = self.random.below(3 * self.world.model.group + 2);
         let kinds = self.world.model.kinds.clone();
@@ -253,7 +253,7 @@ impl Drawer<'_> {
         self.random.pick(&ids)
     }
 
-    // A job that evicts or one that does not, and most often one that is ready if that is wanted.
+    // A job that evicts, or one that does not; if `is_ready`, mostly a job that is ready.
     fn job(&mut self, evicts: bool, is_ready: bool) -> u32 {
         let jobs = self.world.jobs.iter();
         let jobs = jobs.filter(|(_, job)| job.is_eviction() == evicts);
@@ -338,7 +338,7 @@ impl Drawer<'_> {
     }
 }
 
-/// The calls that end a seed: the far side comes back, and all rows and answers are looked at.
+/// The calls that end a seed: the far side comes back, and the calls read all rows and answers.
 pub fn last_calls(world: &World, setup: &Setup) -> Vec<Call> {
     let mut calls = vec![Call::ComeBack];
     for (column, objects) in world.model.objects.iter().enumerate() {

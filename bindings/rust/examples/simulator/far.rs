@@ -7,9 +7,9 @@ use fullercoral::Engine;
 pub enum Down {
     /// On purpose.
     Failed,
-    /// It has no room for another content.
+    /// It has no space for another content.
     Full,
-    /// Nobody is there.
+    /// It cannot be reached.
     Outage,
 }
 
@@ -21,16 +21,16 @@ impl std::fmt::Display for Down {
 
 impl std::error::Error for Down {}
 
-/// Storage that does to contents what storage may do: by a number that it is given before each call it
-/// fails, answers late, does a thing twice or in another order, cuts, flips bits, mixes contents up,
-/// answers with older ones, or loses them. It can be full, go away and come back.
+/// Storage with faults, which a number before each call draws: it fails, is late, repeats or reorders
+/// calls, cuts contents, flips bits, mixes contents up, returns older ones, or loses them. It can be full,
+/// go away and come back.
 #[derive(Debug, Default)]
 pub struct Far {
-    /// All that was put, whatever became of it.
+    /// All contents that were ever put, unchanged.
     truth: BTreeMap<u64, Vec<u8>>,
     acknowledged: BTreeSet<u64>,
     kept: BTreeMap<u64, Vec<u8>>,
-    /// What is put later.
+    /// Puts that arrive late.
     late: Vec<(u64, Vec<u8>)>,
     forgotten: Vec<u64>,
     mood: u64,
@@ -38,32 +38,32 @@ pub struct Far {
     outage: u32,
     /// Whether the last call failed.
     pub failed: bool,
-    /// Whether a content was returned, since the mood was set, that is not what was put.
+    /// Whether it returned wrong bytes since the mood was set.
     pub lied: bool,
-    /// Whether a number was asked for, since the mood was set, that was forgotten.
+    /// Whether the table got a forgotten number since the mood was set.
     pub asked_forgotten: bool,
-    /// What the table did that an engine need not expect.
+    /// A call of the table that breaks the rules of engines.
     pub misuse: Option<&'static str>,
 }
 
 impl Far {
-    /// Says how it behaves from now on: as it should by 0, else at random by this seed.
+    /// Sets its behaviour from now on: without faults for 0, else with faults drawn by this seed.
     pub fn behave(&mut self, mood: u64) {
         self.mood = mood;
         (self.failed, self.lied, self.asked_forgotten) = (false, false, false);
     }
 
-    /// It has room for so many more contents.
+    /// Gives it space for `room` more contents.
     pub fn limit(&mut self, room: u64) {
         self.room = Some(room);
     }
 
-    /// It fails so many calls from now on.
+    /// Lets the next `calls` calls fail.
     pub fn go_away(&mut self, calls: u32) {
         self.outage = calls;
     }
 
-    /// It is there again, with all that was ever put.
+    /// Brings it back, with all contents that were ever put.
     pub fn come_back(&mut self) {
         self.room = None;
         self.outage = 0;
@@ -71,7 +71,7 @@ impl Far {
         self.kept = self.truth.clone();
     }
 
-    // A number below `end`, 0 if it behaves as it should, by splitmix64.
+    // A number below `end`, or 0 if it has no faults, by splitmix64.
     fn draw(&mut self, end: u64) -> u64 {
         if self.mood == 0 {
             return 0;
@@ -83,13 +83,13 @@ impl Far {
         (z ^ (z >> 31)) % end.max(1)
     }
 
-    // What it does in this call: 0, or one of the faults up to `faults`.
+    // The fault of this call: 0 for none, or one up to `faults`.
     fn fault(&mut self, faults: u64) -> u64 {
         let drawn = self.draw(2 * faults + 1);
         if drawn <= faults { drawn } else { 0 }
     }
 
-    // What was put late arrives, the last first.
+    // Keeps the contents that were put late, the last first.
     fn arrive(&mut self) {
         if let Some((number, bytes)) = self.late.pop() {
             self.kept.insert(number, bytes);
@@ -111,7 +111,7 @@ impl Far {
         }
         let fault = self.fault(6);
         match fault {
-            1 | 3 => {} // it is lost
+            1 | 3 => {} // the content is lost
             4 => self.late.push((number, bytes.to_vec())),
             5 => self.late.insert(0, (number, bytes.to_vec())),
             _ => {
@@ -128,7 +128,7 @@ impl Far {
         Ok(())
     }
 
-    // The content of some other number.
+    // The content of another number.
     fn other(&mut self, forgotten: bool) -> Vec<u8> {
         let numbers: Vec<u64> = if forgotten {
             self.forgotten.clone()
@@ -179,7 +179,7 @@ impl Engine for Far {
 
     fn get(&mut self, number: u64, buffer: &mut Vec<u8>) -> Result<(), Down> {
         if !buffer.is_empty() {
-            self.misuse = Some("a buffer did not come empty");
+            self.misuse = Some("a buffer was not empty");
         }
         self.asked_forgotten |= self.forgotten.contains(&number);
         let got = self.try_get(number);

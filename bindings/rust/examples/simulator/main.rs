@@ -1,12 +1,12 @@
 //! A simulator of the far side: `simulator [--seeds N] [--first SEED] [--threads N] [--counts yes] [--record FILE]`.
 //!
 //! Each seed draws a table, calls of every kind, and a far side that fails, is late, loses, cuts and
-//! mixes up contents, goes away and comes back. After each call its reply, with the number of a refusal,
-//! is compared with that of a plain table, and so are all objects; at the end all rows and answers.
+//! mixes up contents, goes away and comes back. After each call the simulator compares its reply, with
+//! the number of a refusal, and all objects with those of a plain table; at the end, all rows and answers.
 //!
-//! A seed that fails prints a whole program that repeats it, with as few calls as were found. --counts
-//! prints how often each call got each reply. --record adds a line of CSV to a file: what was attacked,
-//! how many seeds, how many calls, in how many seconds, and how many seeds failed. The last line is
+//! For a seed that fails it prints a whole program that repeats the failure, with as few calls as it
+//! found. --counts prints how often each call got each reply. --record adds a line of CSV to a file: the
+//! target, the seeds, the calls, the seconds, and the failed seeds. The last line is
 //! `N seeds, C calls, M failed, S seeds a second`.
 
 use std::fs::OpenOptions;
@@ -25,7 +25,7 @@ mod owned;
 mod program;
 #[path = "../../plain/random.rs"]
 mod random;
-// (some of it is for programs that repeat a seed alone)
+// (some of it is only for programs that repeat a seed)
 #[allow(dead_code)]
 mod repeat;
 mod seed;
@@ -33,7 +33,7 @@ mod world;
 
 use seed::Replies;
 
-/// How many programs of seeds that failed are printed.
+/// How many failed seeds get their program printed.
 const PRINTED: usize = 3;
 
 struct Wanted {
@@ -103,7 +103,7 @@ impl Progress {
         }
     }
 
-    // Prints what repeats a seed that failed, if not too many did before it.
+    // Prints the program of a failed seed, unless too many failed before.
     fn tell(&self, seed: u64, program: &str) {
         let mut failed = self.failures();
         *failed += 1;
@@ -121,7 +121,7 @@ impl Progress {
         self.replies.lock().unwrap_or_else(PoisonError::into_inner)
     }
 
-    // Shows how far it is, until all is done.
+    // Shows the progress until all seeds are done.
     fn show(&self, wanted: &Wanted, begun: Instant) {
         let is_shown = io::stderr().is_terminal();
         while self.done.load(Ordering::Relaxed) < wanted.seeds {
@@ -161,7 +161,7 @@ fn main() -> ExitCode {
         );
         return ExitCode::from(2);
     };
-    // (a panic is what a seed may find: it is caught, and told by its program)
+    // (a seed may find a panic: the simulator catches it and prints the seed's program)
     panic::set_hook(Box::new(|_| {}));
     let (progress, begun) = (Progress::default(), Instant::now());
     thread::scope(|scope| {

@@ -1,4 +1,4 @@
-//! A whole program that repeats calls.
+//! Writes a whole program that repeats calls.
 
 use std::fmt::Write;
 
@@ -8,7 +8,7 @@ use crate::call::{Call, Folding, Owned, Setup, Step, name};
 use crate::repeat::SOURCE;
 use crate::world::Wrong;
 
-/// The program that gives a table these calls, and compares the last reply with the one that is due.
+/// Returns a program that makes these calls, and compares the last reply with the expected one.
 pub fn program(setup: &Setup, steps: &[Step], wrong: &Wrong) -> String {
     let mut text = String::from("#![allow(unused)]\n");
     SOURCE.iter().for_each(|source| text += source);
@@ -167,12 +167,12 @@ fn line(step: &Step, setup: &Setup) -> String {
     }
 }
 
-// The variable of a job's content once it is put.
+// The declaration of a variable for a job whose content was put.
 fn not_stored(id: u32) -> String {
     format!("let mut stored{id} = None::<Stored>;")
 }
 
-// The expression of a call that returns nothing but its reply.
+// The expression of a call that returns only its reply.
 fn reply(call: &Call, setup: &Setup) -> String {
     match call {
         Call::Insert(row) => {
@@ -202,7 +202,7 @@ fn reply(call: &Call, setup: &Setup) -> String {
     }
 }
 
-// The same of a call with an aggregate or a job.
+// The same for a call with an aggregate or a job.
 fn reply_of_handle(call: &Call) -> String {
     let engine = "table.engine_mut()).map_err(Error::Engine)";
     let lines = ".map(|lines| lines.collect::<Vec<_>>())";

@@ -1,7 +1,7 @@
-//! The far side, and replies as texts: what stands in a program that repeats a seed too.
+//! The far side, and replies as texts: the sources that a program that repeats a seed includes.
 
 include!("far.rs");
 include!("told.rs");
 
-/// The source of both.
+/// The sources of both.
 pub const SOURCE: [&str; 2] = [include_str!("far.rs"), include_str!("told.rs")];

@@ -1,4 +1,4 @@
-//! One seed: its calls are drawn and given to both tables. If a reply is wrong, calls are left out as
+//! Runs one seed: draws its calls and makes them on both tables. If a reply is wrong, leaves out calls as
 //! long as one still is.
 
 use std::collections::BTreeMap;
@@ -13,7 +13,7 @@ use crate::world::{World, Wrong};
 /// How often each call got each reply.
 pub type Replies = BTreeMap<(String, String), u64>;
 
-/// What became of a seed: how many calls it had, and a program that repeats what is wrong.
+/// The result of a seed: the number of its calls, and a program that repeats a failure.
 pub struct Outcome {
     pub calls: u64,
     pub replies: Replies,
@@ -42,7 +42,7 @@ pub fn run(seed: u64) -> Outcome {
     }
 }
 
-// Draws all steps and applies each. They are left in `steps`, the wrong one last.
+// Draws all steps into `steps` and applies each, up to the first wrong one.
 fn draw_all(
     random: &mut Random,
     setup: &Setup,
@@ -67,7 +67,7 @@ fn draw_all(
     Ok(())
 }
 
-// What is wrong with these steps, and with which of them.
+// The first wrong step of these, and its fault.
 fn wrong_in(setup: &Setup, steps: &[Step]) -> Option<(usize, Wrong)> {
     let mut at = 0;
     let ran = catch_unwind(AssertUnwindSafe(|| {
@@ -91,11 +91,11 @@ fn wrong_in(setup: &Setup, steps: &[Step]) -> Option<(usize, Wrong)> {
     }
 }
 
-// Leaves out steps, half of them, a quarter, .. at last each alone, as long as something is wrong.
+// Leaves out steps, half of them, a quarter, .. at last one at a time, as long as something is wrong.
 fn shrink(setup: &Setup, mut steps: Vec<Step>) -> (Vec<Step>, Wrong) {
     let mut wrong = Wrong {
         due: "the same as when it was drawn".to_owned(),
-        came: "nothing is wrong when it is repeated".to_owned(),
+        came: "nothing was wrong when it was repeated".to_owned(),
         is_reply: false,
     };
     let mut size = steps.len().max(1);

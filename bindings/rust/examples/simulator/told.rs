@@ -3,7 +3,7 @@ use std::sync::{Arc, Mutex};
 
 use fullercoral::{Cell, Error, Retry, Table, TextBuffer};
 
-/// The engine of each table: the far side, with calls that fail tried again.
+/// The engine of each table: the far side, with failed calls repeated.
 pub type Store = Retry<Arc<Mutex<Far>>>;
 
 /// A reply as a text: the value, the refusal, or that the far side failed.
@@ -15,7 +15,7 @@ pub fn told<T: Debug>(reply: Result<T, Error<Down>>) -> String {
     }
 }
 
-/// The reply of a call whose value is used: the text says that there is one.
+/// The reply of a call whose value the program uses: the text only says that there is one.
 pub fn told_of<T>(reply: &Result<T, Error<Down>>) -> String {
     told(reply.as_ref().map(drop).map_err(Clone::clone))
 }

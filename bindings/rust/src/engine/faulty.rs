@@ -26,9 +26,9 @@ pub enum Fault {
     Flip,
     /// A get returns a prefix of the bytes.
     Cut,
-    /// A get returns another content that is kept.
+    /// A get returns the content of another number.
     Swap,
-    /// A get returns a content that was replaced meanwhile.
+    /// A get returns a content that was replaced since.
     Old,
 }
 
@@ -49,9 +49,9 @@ impl Fault {
     ];
 }
 
-/// An engine for tests: it carries the calls of another one out wrongly now and then, by a seed.
+/// An engine for tests, which injects faults into the calls of another one at random, by a seed.
 ///
-/// A table over it returns errors, and never a wrong answer:
+/// A table over it returns errors, but never a wrong answer:
 ///
 /// ```
 /// use fullercoral::{Fault, Faulty, Limits, Memory, Schema, Table, row, totals};
@@ -82,7 +82,7 @@ pub struct Faulty<E> {
 }
 
 impl<E> Faulty<E> {
-    /// Does nothing wrong yet.
+    /// Wraps an engine, with no faults yet.
     ///
     /// ```
     /// use fullercoral::{Engine, Faulty, Memory};
@@ -101,7 +101,7 @@ impl<E> Faulty<E> {
         }
     }
 
-    /// Does this in so many of a thousand calls.
+    /// Injects a fault into `of_a_thousand` of a thousand calls.
     ///
     /// ```
     /// use fullercoral::{Engine, Fault, Faulty, Memory};
@@ -115,7 +115,7 @@ impl<E> Faulty<E> {
         self
     }
 
-    /// Does this in so many of a thousand calls from now on.
+    /// Injects a fault into `of_a_thousand` of a thousand calls from now on.
     ///
     /// ```
     /// use fullercoral::{Engine, Fault, Faulty, Memory};
@@ -128,7 +128,7 @@ impl<E> Faulty<E> {
         self.rates[fault as usize] = of_a_thousand;
     }
 
-    /// How often it did something wrong, delays aside.
+    /// How many faults it injected, without delays.
     ///
     /// ```
     /// use fullercoral::{Engine, Fault, Faulty, Memory};
@@ -151,7 +151,7 @@ impl<E> Faulty<E> {
         ((z ^ (z >> 31)) % end.max(1) as u64) as usize
     }
 
-    // Whether this call does it.
+    // Whether this call has the fault.
     fn happens(&mut self, fault: Fault) -> bool {
         let happens = self.below(1_000) < self.rates[fault as usize] as usize;
         if happens && fault == Fault::Delay {
@@ -169,7 +169,7 @@ impl<E> Faulty<E> {
         numbers.get(index).copied()
     }
 
-    // The number whose content is returned for `number`.
+    // The number whose content a get of `number` returns.
     fn answered(&mut self, number: u64) -> u64 {
         if self.happens(Fault::Swap) {
             return self.one_of(false).unwrap_or(number);
@@ -243,16 +243,16 @@ impl<E: Engine> Engine for Faulty<E> {
 /// ```
 #[derive(Debug, Clone, PartialEq, Eq)]
 pub enum FaultyError<E> {
-    /// It failed on purpose.
+    /// An injected failure.
     Injected,
-    /// The engine behind it failed.
+    /// The wrapped engine failed.
     Engine(E),
 }
 
 impl<E: fmt::Display> fmt::Display for FaultyError<E> {
     fn fmt(&self, f: &mut fmt::Formatter<'_>) -> fmt::Result {
         match self {
-            FaultyError::Injected => f.write_str("it failed on purpose"),
+            FaultyError::Injected => f.write_str("an injected failure"),
             FaultyError::Engine(error) => error.fmt(f),
         }
     }
@@ -272,7 +272,7 @@ mod tests {
     use super::*;
     use crate::Memory;
 
-    /// An engine that always does this, with contents 0 to 9, of which 5 is forgotten.
+    /// An engine that always has this fault, with contents 0 to 9, of which 5 is forgotten.
     fn always(fault: Fault) -> Faulty<Memory> {
         let mut engine = Faulty::new(Memory::new(), 1);
         (0..10).for_each(|number| engine.put(number, &[number as u8; 20]).unwrap());

@@ -8,21 +8,21 @@ use std::sync::atomic::{AtomicU64, Ordering};
 
 use crate::Engine;
 
-/// How many bytes a segment gets before the next one is begun.
+/// The size at which a segment is full and the next one begins.
 const SEGMENT_BYTES: u64 = 64 << 20;
 
-/// An engine over files: segments that are only appended to, in a folder of its own.
+/// An engine over files: append-only segments, in a folder of its own.
 ///
-/// An index in memory says where each content lies, in some 40 bytes. A segment is deleted when none
-/// of its contents is needed any more, and the contents of a segment are moved when more than half
-/// of all bytes are not. The folder is deleted on drop. **No crash safety is promised**: the files
-/// are of use to this engine alone, while it lives. A process that is killed leaves its folder behind,
-/// named `fullercoral-` and the number of the process: it may be deleted.
+/// An index in memory, of some 40 bytes for each content, says where each is. The engine deletes a
+/// segment when no content in it is needed, and compacts the sparsest when more than half of all bytes
+/// are not needed. It deletes the folder on drop. **The files do not survive a crash**: only this
+/// engine can read them, while it lives. The folder of a killed process, named `fullercoral-` and the
+/// number of the process, may be deleted.
 ///
 /// Errors name the file.
 ///
-/// The folder should lie on a disk. Where the system keeps its temporary folder in memory, as many do,
-/// what is evicted into that folder takes as much memory as before.
+/// Put the folder on a disk. Many systems keep their temporary folder in memory: chunks evicted to it
+/// take as much memory as before.
 ///
 /// ```
 /// use fullercoral::{Engine, Files};
@@ -38,7 +38,7 @@ const SEGMENT_BYTES: u64 = 64 << 20;
 pub struct Files {
     folder: PathBuf,
     segments: HashMap<u32, Segment>,
-    /// The segment that is appended to.
+    /// The segment to append to.
     open: u32,
     index: HashMap<u64, Location>,
     segment_bytes: u64,
@@ -48,7 +48,7 @@ pub struct Files {
 struct Segment {
     file: File,
     len: u64,
-    /// How many of its bytes are needed.
+    /// The bytes that are still needed.
     live: u64,
 }
 
@@ -60,7 +60,7 @@ struct Location {
 }
 
 impl Files {
-    /// Makes a folder with a new name in this one, which is made too if it is not there.
+    /// Creates a folder with a new name in `parent`, and `parent` itself if it does not exist.
     ///
     /// ```
     /// let engine = fullercoral::Files::create(std::env::temp_dir())?;
@@ -69,7 +69,7 @@ impl Files {
     /// ```
     ///
     /// # Errors
-    /// Those of making a folder and a file, with its path.
+    /// The error of creating a folder or a file, with its path.
     pub fn create(parent: impl AsRef<Path>) -> io::Result<Files> {
         let parent = parent.as_ref();
         let mut files = Files {
@@ -122,7 +122,7 @@ impl Files {
         Ok(())
     }
 
-    // The segment that is appended to: a new one if the last one is full.
+    // The segment to append to: a new one if the last one is full.
     fn open_segment(&mut self) -> io::Result<u32> {
         let full = self.open;
         let is_full = |segment: &Segment| segment.len >= self.segment_bytes;
@@ -155,7 +155,7 @@ impl Files {
         Ok(())
     }
 
-    // Takes note that the bytes at a location are not needed, and deletes the segment if none are.
+    // Marks the bytes at a location as not needed, and deletes the segment if none of its bytes are.
     fn release(&mut self, location: Location) {
         let Some(segment) = self.segments.get_mut(&location.segment) else {
             return;
@@ -164,17 +164,17 @@ impl Files {
         self.delete_unneeded(location.segment);
     }
 
-    // Deletes a segment of which no bytes are needed, unless it is the one that is appended to.
+    // Deletes a segment without needed bytes, unless it is the one to append to.
     fn delete_unneeded(&mut self, number: u32) {
         let unneeded = |segment: &Segment| segment.live == 0;
         if number != self.open && self.segments.get(&number).is_some_and(unneeded) {
             self.segments.remove(&number);
-            // A file that cannot be deleted goes with the folder.
+            // A file that cannot be deleted here is deleted with the folder.
             let _ = fs::remove_file(self.path(number));
         }
     }
 
-    // The full segment with the fewest needed bytes, if most bytes are not needed.
+    // The full segment with the fewest needed bytes, if more than half of all bytes are not needed.
     fn sparsest(&self) -> Option<u32> {
         let len: u64 = self.segments.values().map(|s| s.len).sum();
         let live: u64 = self.segments.values().map(|s| s.live).sum();
@@ -188,7 +188,7 @@ impl Files {
         full.min_by_key(|(_, s)| s.live).map(|(number, _)| *number)
     }
 
-    // Moves the contents of a segment behind the last one, which deletes it.
+    // Appends the contents of a segment to the open one, which deletes the segment.
     fn move_segment(&mut self, segment: u32) -> io::Result<()> {
         let in_it = |(number, at): (&u64, &Location)| (at.segment == segment).then_some(*number);
         let numbers: Vec<u64> = self.index.iter().filter_map(in_it).collect();
@@ -202,7 +202,7 @@ impl Files {
     }
 }
 
-// Makes a folder with a new name. Its path stays right when the process changes its own folder.
+// Creates a folder with a new name. Its path is absolute: it stays right if the process changes its own.
 fn new_folder(parent: &Path) -> io::Result<PathBuf> {
     static MADE: AtomicU64 = AtomicU64::new(0);
     let parent = path::absolute(parent)?;
@@ -211,14 +211,14 @@ fn new_folder(parent: &Path) -> io::Result<PathBuf> {
         let made = MADE.fetch_add(1, Ordering::Relaxed);
         let folder = parent.join(format!("fullercoral-{}-{made}", process::id()));
         match fs::create_dir(&folder) {
-            // It is of a process that had this number and was killed.
+            // It belongs to a killed process that had this number.
             Err(error) if error.kind() == io::ErrorKind::AlreadyExists => {}
             made => return made.map(|()| folder),
         }
     }
 }
 
-// An error with the path that it is about.
+// Adds the path to an error.
 fn named(path: &Path, error: &io::Error) -> io::Error {
     io::Error::new(error.kind(), format!("{}: {error}", path.display()))
 }
@@ -228,7 +228,7 @@ impl Engine for Files {
 
     fn put(&mut self, number: u64, bytes: &[u8]) -> io::Result<()> {
         if let Some(segment) = self.sparsest() {
-            // What cannot be moved, since its file was spoiled, stays where it is.
+            // A content that cannot be read, since its file was changed, stays where it is.
             let _ = self.move_segment(segment);
         }
         self.append(number, bytes)
@@ -256,7 +256,7 @@ impl Engine for Files {
 
 impl Drop for Files {
     fn drop(&mut self) {
-        // Nobody is left to hear of a folder that cannot be deleted.
+        // Nobody is left to be told that the folder cannot be deleted.
         let _ = fs::remove_dir_all(&self.folder);
     }
 }
@@ -368,7 +368,7 @@ mod tests {
         let mut files = files();
         for number in 0..1_000 {
             files.put(number, &bytes(number)).unwrap();
-            // Whole segments are forgotten while they are appended to, and of others one content stays.
+            // Forgets whole segments while they are open, and leaves one content in others.
             if number % 40 < 20 || number % 4 != 0 {
                 files.forget(number);
             }

@@ -3,7 +3,7 @@ use std::convert::Infallible;
 
 use crate::Engine;
 
-/// An engine that keeps contents in a map: for tests, and for tables that stay within memory.
+/// An engine that keeps contents in a map: for tests, and for tables that fit into memory.
 ///
 /// ```
 /// use fullercoral::{Engine, Memory};
@@ -20,7 +20,7 @@ pub struct Memory {
 }
 
 impl Memory {
-    /// An engine without contents.
+    /// Makes an engine without contents.
     ///
     /// ```
     /// assert!(fullercoral::Memory::new().is_empty());
@@ -30,7 +30,7 @@ impl Memory {
         Memory::default()
     }
 
-    /// How many contents it keeps.
+    /// The number of contents.
     ///
     /// ```
     /// assert_eq!(fullercoral::Memory::new().len(), 0);
@@ -40,7 +40,7 @@ impl Memory {
         self.contents.len()
     }
 
-    /// Whether it keeps no content.
+    /// Whether it has no contents.
     ///
     /// ```
     /// assert!(fullercoral::Memory::new().is_empty());
@@ -50,7 +50,7 @@ impl Memory {
         self.contents.is_empty()
     }
 
-    /// The bytes under a number, for tests that change them.
+    /// The bytes of a number, for tests that change them.
     ///
     /// ```
     /// use fullercoral::{Engine, Memory};
@@ -73,7 +73,7 @@ impl Engine for Memory {
         Ok(())
     }
 
-    /// Appends nothing if it has no such content, which the table then refuses.
+    /// Appends nothing if there is no such content; the table then refuses the empty bytes.
     fn get(&mut self, number: u64, buffer: &mut Vec<u8>) -> Result<(), Infallible> {
         if let Some(bytes) = self.contents.get(&number) {
             buffer.extend_from_slice(bytes);

@@ -15,20 +15,20 @@ pub use memory::Memory;
 pub use resp::Resp;
 pub use retry::Retry;
 
-/// Storage for what a table evicts: it keeps bytes under numbers.
+/// Storage for the objects that a table evicts: it keeps bytes under numbers.
 ///
-/// Nobody has to trust it. Whatever `get` returns is compared with the length and the SHA-256 of what
-/// was put, so an engine that loses, changes or mixes up contents makes calls fail, and never makes
-/// an answer wrong. If an engine panics, the table gives up what it was about to move: whoever catches
-/// the panic goes on with the table as after an error.
+/// Nobody has to trust it. The table compares the bytes that `get` returns with the length and the
+/// SHA-256 of the bytes put. So an engine that loses, changes or mixes up contents makes calls fail, and
+/// never makes an answer wrong. If an engine panics, the table gives up the move: a program that catches
+/// the panic can use the table as after an error.
 ///
 /// One engine serves one table. Each table gives its contents the numbers 0, 1, 2, .., so two tables over one
 /// engine replace each other's contents, and fetches are refused with `FarFault`. That includes
 /// two tables over clones of one `Arc<Mutex<E>>`, over one `&mut E` in turn, and over clients that use the same
 /// keys of one server. Two [`Files`] in one folder, and two `Resp` with different prefixes, are two engines.
 ///
-/// An engine over the `redis` crate, whole. The connection has a struct of its own, since an `impl` needs a
-/// trait or a type of its crate, and keys have a prefix that no other table has:
+/// A whole engine over the `redis` crate. The connection is in a struct, since Rust's orphan rule asks
+/// for a type of your own, and keys have a prefix that no other table uses:
 ///
 /// ```
 /// # mod redis {
@@ -101,26 +101,25 @@ pub use retry::Retry;
 /// # Ok::<(), Box<dyn std::error::Error>>(())
 /// ```
 pub trait Engine {
-    /// Why a `put` or a `get` failed. The table's [`Error`](crate::Error) holds it, and so is a
-    /// `std::error::Error` that `?` turns into a `Box<dyn Error>`, whichever engine it is.
+    /// Why a `put` or a `get` failed. The table's [`Error`](crate::Error) holds it, and is itself a
+    /// `std::error::Error`, so `?` turns it into a `Box<dyn Error>` for every engine.
     type Error: error::Error + 'static;
 
-    /// Keeps bytes under a number. A table gives each number once, from 0 on, so two tables must not share
-    /// one engine.
+    /// Keeps bytes under a number. A table uses each number once, from 0 on, so two tables must not
+    /// share one engine.
     fn put(&mut self, number: u64, bytes: &[u8]) -> Result<(), Self::Error>;
 
-    /// Appends the bytes that were put under a number to `buffer`, which comes empty.
+    /// Appends the bytes that were put under a number to `buffer`, which is empty.
     fn get(&mut self, number: u64, buffer: &mut Vec<u8>) -> Result<(), Self::Error>;
 
-    /// Takes note that a number will not be asked for any more: its bytes may be deleted. By default it
-    /// does nothing, so that storage only grows.
+    /// Says that the table will not get a number again: the engine may delete its bytes. The default
+    /// does nothing, so storage only grows.
     fn forget(&mut self, number: u64) {
         let _ = number;
     }
 }
 
-/// An engine that is lent to a table. The next table over it needs an engine without contents, since its
-/// numbers are the same.
+/// An engine that a table borrows. Empty it before the next table, which uses the same numbers.
 impl<E: Engine + ?Sized> Engine for &mut E {
     type Error = E::Error;
 
@@ -153,9 +152,9 @@ impl<E: Engine + ?Sized> Engine for Box<E> {
     }
 }
 
-/// An engine that a table shares with threads that move its objects, and with no other table, since that
-/// has the same numbers. A panic of another thread does
-/// not spoil it: bytes that it left half written are refused as any wrong bytes are.
+/// An engine that a table shares with threads that move its objects. No other table may share it, since
+/// its numbers are the same. The engine stays usable if a thread panics: the table refuses bytes written
+/// in part, like all wrong bytes.
 impl<E: Engine + ?Sized> Engine for Arc<Mutex<E>> {
     type Error = E::Error;
 

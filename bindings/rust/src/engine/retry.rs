@@ -3,10 +3,10 @@ use std::time::Duration;
 
 use crate::Engine;
 
-/// An engine that tries the calls of another one again when they fail.
+/// An engine that repeats the failed calls of another one.
 ///
-/// The pause before the second try is as long as it was told; each later one is twice the one before.
-/// The error of the last try is returned.
+/// It pauses before each repetition, each time twice as long as before. It returns the error of the last
+/// try.
 ///
 /// ```
 /// use std::time::Duration;
@@ -26,8 +26,7 @@ pub struct Retry<E> {
 }
 
 impl<E> Retry<E> {
-    /// Tries each call this many times at most, and once at least, with pauses of 10 milliseconds and
-    /// up.
+    /// Tries each call up to `tries` times, and at least once. The first pause is 10 milliseconds.
     ///
     /// ```
     /// use fullercoral::{Memory, Retry};
@@ -44,7 +43,7 @@ impl<E> Retry<E> {
         }
     }
 
-    /// How long it waits before the second try.
+    /// Sets the pause before the second try.
     ///
     /// ```
     /// use std::time::Duration;
@@ -59,7 +58,7 @@ impl<E> Retry<E> {
         self
     }
 
-    /// The engine whose calls it tries.
+    /// Returns the wrapped engine.
     ///
     /// ```
     /// use fullercoral::{Memory, Retry};

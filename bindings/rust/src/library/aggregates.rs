@@ -35,7 +35,7 @@ impl Library {
         done(unsafe { fc_scan(&mut self.raw, aggregate, group) })
     }
 
-    /// How many row groups are pending, and the first of them, if there is one.
+    /// The number of pending row groups, and the first of them, if there is one.
     pub fn pending(&mut self, aggregate: u32) -> Coded<(u32, u32)> {
         let (mut groups, mut first) = (0, 0);
         // SAFETY: rules 1 and 2.
@@ -69,14 +69,14 @@ impl Library {
             // SAFETY: rules 1, 2 and 4.
             done(unsafe { fc_lines(&mut self.raw, from, at, room, &mut count) })?;
             for line in &some[..count] {
-                // SAFETY: at most `room` lines were written; and rule 3, no other call came since.
+                // SAFETY: the call wrote at most `room` lines; and rule 3, no other call was made since.
                 unsafe { answer.push(line.assume_init_ref()) };
             }
         }
         Ok(())
     }
 
-    /// Asks an aggregate for one key: the line of an answer, or none if the answer has no line with it.
+    /// Asks an aggregate for one key: returns its line, or none if the answer has no line with it.
     #[inline]
     pub fn ask_key(&mut self, aggregate: u32, key: Key<'_>) -> Coded<Option<StoredLine>> {
         let key = key.raw();
@@ -86,8 +86,8 @@ impl Library {
         some(code, StoredLine::of_numbers(&line))
     }
 
-    /// The count and the sum of totals without a key; none if it is another aggregate, or row groups
-    /// are pending.
+    /// The count and the sum of totals without a key; none for any other aggregate, or if row groups are
+    /// pending.
     #[inline]
     pub fn plain(&mut self, aggregate: u32) -> Coded<Option<(u64, i128)>> {
         let mut sum = fc_sum::default();

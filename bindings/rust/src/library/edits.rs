@@ -14,7 +14,7 @@ impl Library {
         Ok(place)
     }
 
-    /// Inserts rows by columns. Returns how many were inserted, and why it ended.
+    /// Inserts rows by columns. Returns how many it inserted, and why it ended.
     ///
     /// # Safety
     /// All slices of the columns are valid (rule 1).

@@ -38,7 +38,7 @@ impl Library {
         Ok(about)
     }
 
-    /// The number of the content at an index of those that a job needs.
+    /// The number of the content at an index of the contents that a job needs.
     pub fn wanted(&mut self, job: u64, index: usize) -> Coded<Option<u64>> {
         let mut number = 0;
         // SAFETY: rules 1 and 2.
@@ -57,7 +57,7 @@ impl Library {
         done(unsafe { fc_carry(&mut self.raw, job) })
     }
 
-    /// The bytes to keep for a carried eviction; none if they were kept before.
+    /// The bytes of a carried eviction to keep; none if they were kept before.
     pub fn outgoing(&mut self, job: u64) -> Coded<Option<&[u8]>> {
         let (mut number, mut bytes) = (0, fc_bytes::NONE);
         // SAFETY: rules 1, 2 and 4.
@@ -81,7 +81,7 @@ impl Library {
         done(unsafe { fc_merge(&mut self.raw, job) })
     }
 
-    /// Gives up a job. One that is over stays so.
+    /// Gives up a job. Does nothing if the job has ended.
     pub fn give_up(&mut self, job: u64) {
         // SAFETY: rule 2.
         unsafe { fc_give_up(&mut self.raw, job) };

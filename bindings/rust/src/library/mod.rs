@@ -1,8 +1,8 @@
-//! The calls of the header as safe ones. All that a call lends is tied to the borrow of the handle, and
-//! each `SAFETY` names the rule of the header that makes it so.
+//! Safe wrappers of the calls of the header. The results that a call lends have the lifetime of the
+//! borrow of the handle, and each `SAFETY` names the rule of the header that it keeps.
 //!
-//! What all of them rest on: a `Library` has the one handle on its table, open from `open` to `drop`,
-//! and each call borrows it mutably (rule 2); references and slices are valid and not null (rule 1).
+//! All of them rely on this: a `Library` has the only handle on its table, open from `open` to `drop`,
+//! and each call borrows it mutably (rule 2); references and slices are valid (rule 1).
 
 use std::ptr::NonNull;
 
@@ -15,7 +15,7 @@ mod reading;
 
 pub use reading::Buffers;
 
-/// The code of a call that was refused.
+/// The code of a refused call.
 #[derive(Debug, Clone, Copy, PartialEq, Eq)]
 pub struct Code(pub u32);
 
@@ -29,7 +29,7 @@ fn done(code: u32) -> Coded<()> {
     }
 }
 
-// The value, or none if there is nothing of the kind.
+// The value, or none if the code says that there is none.
 fn some<T>(code: u32, value: T) -> Coded<Option<T>> {
     match code {
         FC_OK => Ok(Some(value)),
@@ -41,12 +41,12 @@ fn some<T>(code: u32, value: T) -> Coded<Option<T>> {
 /// The handle on a table.
 pub struct Library {
     raw: fc_table,
-    /// The cells of the last row that was given or read. What they point to may be gone.
+    /// The cells of the last row inserted or read. Their texts may have been freed.
     cells: Vec<fc_cell>,
 }
 
-// SAFETY: rule 2, a handle may go from thread to thread. What the cells point to is not read before
-// they are written anew.
+// SAFETY: rule 2, a handle may move between threads. The cells' pointers are not read before the cells
+// are written again.
 unsafe impl Send for Library {}
 
 impl Library {
@@ -58,7 +58,7 @@ impl Library {
         Ok(Library { raw, cells })
     }
 
-    /// What the last refusal carries.
+    /// The details of the last refusal.
     pub fn last_refusal(&mut self) -> fc_details {
         let mut details = fc_details::default();
         // SAFETY: rules 1 and 2.
@@ -109,7 +109,7 @@ impl Library {
         done(unsafe { fc_compact(&mut self.raw, kind, segment) })
     }
 
-    /// The row groups of a column to fetch next, and how many they are.
+    /// The row groups of a column to prefetch, and their number.
     pub fn proposals(&mut self, column: u32) -> Coded<([u32; 2], usize)> {
         let (mut groups, mut count) = ([0; 2], 0);
         let at = groups.as_mut_ptr();
@@ -121,7 +121,7 @@ impl Library {
 
 impl Drop for Library {
     fn drop(&mut self) {
-        // SAFETY: rule 2. Nothing that the handle lent outlives it.
+        // SAFETY: rule 2. No loan of the handle outlives it.
         unsafe { fc_close(&mut self.raw) };
     }
 }

@@ -1,7 +1,7 @@
 use super::{Coded, Library, done};
 use crate::sys::*;
 
-/// The buffers that a part of a column is copied to.
+/// The buffers for a range of a column.
 #[derive(Debug, Default)]
 pub struct Buffers {
     pub values: Vec<i64>,
@@ -12,7 +12,7 @@ pub struct Buffers {
 }
 
 impl Library {
-    /// Reads the cells of a place into `cells`, with their texts lent.
+    /// Reads the cells of a place into `cells`; the library lends their texts.
     pub fn row(&mut self, place: u32, columns: usize) -> Coded<()> {
         self.cells.clear();
         self.cells.resize(columns, fc_cell::MISSING);
@@ -21,7 +21,7 @@ impl Library {
         done(unsafe { fc_row(&mut self.raw, place, cells, columns) })
     }
 
-    /// The cells that `row` read, if it was the last call. Their texts are lent.
+    /// The cells that `row` read, if it was the last call. The library lends their texts.
     pub fn cells(&self) -> &[fc_cell] {
         &self.cells
     }
@@ -79,7 +79,7 @@ impl Library {
         Ok(valid.then_some(value))
     }
 
-    /// Where the text of a place is lent, if it has one.
+    /// The text of a place, lent by the library, if there is one.
     #[inline]
     pub fn text(&mut self, column: u32, place: u32) -> Coded<Option<fc_bytes>> {
         let (mut text, mut valid) = (fc_bytes::NONE, false);
@@ -98,7 +98,7 @@ impl Library {
         into.bytes.resize(size, 0);
         into.valid.resize(len, false);
         into.alive.resize(len, false);
-        // SAFETY: rules 1 and 2, each buffer has the length that is given with it.
+        // SAFETY: rules 1 and 2, each buffer has the length passed with it.
         done(unsafe {
             fc_texts(
                 &mut self.raw,

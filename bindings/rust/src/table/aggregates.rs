@@ -12,11 +12,11 @@ use crate::{Engine, Error, Kind, Policy, Refusal};
 static STAMP: AtomicU64 = AtomicU64::new(0);
 
 impl<E: Engine> Table<E> {
-    /// Registers an aggregate, which follows every edit from then on. At most 32 are registered at once.
+    /// Registers an aggregate, which every later edit updates. At most 32 are registered at once.
     ///
-    /// The rows that are there already are scanned into it when it is first asked, or by
-    /// [`scan`](Table::scan) and [`build`](Table::build). If they are away, each such aggregate reads their
-    /// copies from the engine once; so it takes less time to register first, and insert then.
+    /// With an automatic policy, the first ask scans the rows that the table has already; so do
+    /// [`scan`](Table::scan) and [`build`](Table::build). If rows are away, each such aggregate reads their
+    /// copies from the engine once: to save time, register aggregates before you insert rows.
     ///
     /// ```
     /// # use fullercoral::{Limits, Memory, Op, Schema, Table, row, totals};
@@ -31,8 +31,8 @@ impl<E: Engine> Table<E> {
     ///
     /// # Errors
     /// - `BadSpec`: there are more than 4 tests, or a text constant of more than 4,096 bytes.
-    /// - `NoColumn`, `WrongKind`: a column does not exist, or is not of the kind that it should be.
-    /// - `WrongOp`: a comparison is not one of numbers, or of texts.
+    /// - `NoColumn`, `WrongKind`: a column does not exist, or has the wrong kind.
+    /// - `WrongOp`: a comparison does not apply to numbers, or to texts.
     /// - `TooManyAggregates`, `NoMemory`.
     #[doc(alias("aggregate", "group_by"))]
     pub fn watch<A: Aggregate>(&mut self, spec: Spec<A>) -> Result<A, Error<E::Error>> {
@@ -65,7 +65,7 @@ impl<E: Engine> Table<E> {
     /// ```
     ///
     /// # Errors
-    /// `NoAggregate`: it was forgotten, or is of another table.
+    /// `NoAggregate`: it was forgotten, or belongs to another table.
     pub fn unwatch<A: Aggregate>(&mut self, aggregate: A) -> Result<(), Error<E::Error>> {
         let number = self.number_of(aggregate.id())?;
         self.watched[number as usize] = None;
@@ -73,10 +73,9 @@ impl<E: Engine> Table<E> {
         self.outcome(forgotten)
     }
 
-    /// Asks an aggregate: its answer over the rows as they are, whichever objects are away.
+    /// Asks an aggregate: returns its answer over the current rows, whichever objects are away.
     ///
-    /// By an automatic policy the row groups that are pending are scanned first, or built from far copies
-    /// if they are away.
+    /// An automatic policy first scans pending row groups, or builds them from far copies if they are away.
     ///
     /// ```
     /// # use fullercoral::{Limits, Memory, Schema, Table, extrema, row};
@@ -89,7 +88,7 @@ impl<E: Engine> Table<E> {
     /// ```
     ///
     /// # Errors
-    /// - `NoAggregate`: it was forgotten, or is of another table.
+    /// - `NoAggregate`: it was forgotten, or belongs to another table.
     /// - `Building`: by [`Policy::Manual`](crate::Policy::Manual), row groups are pending.
     /// - `RegionFull`: by an automatic policy, a row group needs an object, and pins leave no space for it.
     /// - `FarFault`, or the engine's error: a row group that is away could not be built.
@@ -103,11 +102,11 @@ impl<E: Engine> Table<E> {
         Ok(self.answer.lines())
     }
 
-    /// Asks an aggregate for one key: its line of the answer that [`ask`](Table::ask) would give, or `None` if
-    /// that has no line with this key. No other line is made, so it costs one look-up.
+    /// Asks an aggregate for one key: returns its line of the answer of [`ask`](Table::ask), or `None` if
+    /// there is no line with this key. It computes no other line, so it costs one look-up.
     ///
-    /// Without a key column the key is [`Key::None`]. By an automatic policy the row groups that are pending
-    /// are scanned or built first, as by `ask`.
+    /// Without a key column the key is [`Key::None`]. An automatic policy first scans or builds pending
+    /// row groups, as for `ask`.
     ///
     /// ```
     /// # use fullercoral::{Limits, Memory, Schema, Table, row, totals};
@@ -122,9 +121,9 @@ impl<E: Engine> Table<E> {
     /// ```
     ///
     /// # Errors
-    /// - `WrongKind`: the key is a text, and the keys are numbers, or the other way round.
-    /// - `WrongKey`: the key is [`Key::None`], and there is a key column, or the other way round.
-    /// - Those of [`ask`](Table::ask).
+    /// - `WrongKind`: the key is a text but the keys are numbers, or the other way round.
+    /// - `WrongKey`: the key is [`Key::None`] but there is a key column, or the other way round.
+    /// - The errors of [`ask`](Table::ask).
     #[inline]
     pub fn ask_key<'k, A: Aggregate>(
         &mut self,
@@ -140,7 +139,7 @@ impl<E: Engine> Table<E> {
         Ok(found.map(|line| A::line(key, &line)))
     }
 
-    // Refused if no key of the aggregate is of this kind.
+    // Refuses a key of the wrong kind for the aggregate.
     #[inline]
     fn check_key(&self, number: u32, key: Key<'_>) -> Result<(), Refusal> {
         let watched = self.watched[number as usize].as_ref();
@@ -190,7 +189,7 @@ impl<E: Engine> Table<E> {
         self.library.ask(number, &mut self.answer)
     }
 
-    // Whether it is an aggregate of totals without a key.
+    // Whether the aggregate is totals without a key.
     fn has_plain_sum(&self, number: u32) -> bool {
         let plain = |w: &Watched| w.spec.fold == FC_TOTALS && w.spec.key.is_none();
         self.watched[number as usize].as_ref().is_some_and(plain)
@@ -206,11 +205,11 @@ impl<E: Engine> Table<E> {
         self.outcome(Err(code))
     }
 
-    /// Computes the answer of an aggregate from scratch, from the rows alone, whatever is pending in it.
-    /// Its time grows with the rows, that of [`ask`](Table::ask) with the keys.
+    /// Computes the answer of an aggregate from scratch, from all rows, whatever is pending in it.
+    /// Its time grows with the rows; the time of [`ask`](Table::ask) grows with the keys.
     ///
-    /// By an automatic policy it works whichever objects are away: if one is, another aggregate of the
-    /// same kind is registered for as long as it takes, and all row groups are built into that.
+    /// With an automatic policy it works whichever objects are away: if one is, it registers a second
+    /// aggregate with the same spec, builds all row groups into that, and forgets it.
     ///
     /// ```
     /// # use fullercoral::{Limits, Memory, Schema, Table, row, totals};
@@ -223,9 +222,9 @@ impl<E: Engine> Table<E> {
     /// ```
     ///
     /// # Errors
-    /// - `NoAggregate`: it was forgotten, or is of another table.
+    /// - `NoAggregate`: it was forgotten, or belongs to another table.
     /// - `Absent`: by [`Policy::Manual`](crate::Policy::Manual), an object that it needs is away.
-    /// - `TooManyAggregates`: an object is away, and there is no number left.
+    /// - `TooManyAggregates`: an object is away, and 32 aggregates are registered.
     /// - `RegionFull`: by an automatic policy, a row group needs an object, and pins leave no space for it.
     /// - `FarFault`, or the engine's error: a row group that is away could not be read.
     /// - `NoMemory`.
@@ -242,7 +241,7 @@ impl<E: Engine> Table<E> {
         Ok(self.answer.lines())
     }
 
-    // The first object that is away, of the columns that an aggregate needs.
+    // The first object of the aggregate's columns that is away, as a refusal.
     fn first_absent(&mut self, number: u32) -> Option<Refusal> {
         let groups = self.groups();
         for column in self.columns_of(number) {
@@ -272,7 +271,7 @@ impl<E: Engine> Table<E> {
         anew.table.outcome(asked)
     }
 
-    /// How many row groups are pending in an aggregate.
+    /// The number of row groups that are pending in an aggregate.
     ///
     /// ```
     /// # use fullercoral::{Limits, Memory, Schema, Table, row, totals};
@@ -286,14 +285,14 @@ impl<E: Engine> Table<E> {
     /// ```
     ///
     /// # Errors
-    /// `NoAggregate`: it was forgotten, or is of another table.
+    /// `NoAggregate`: it was forgotten, or belongs to another table.
     pub fn pending<A: Aggregate>(&mut self, aggregate: A) -> Result<u32, Error<E::Error>> {
         let number = self.number_of(aggregate.id())?;
         let pending = self.library.pending(number);
         self.outcome(pending).map(|(groups, _)| groups)
     }
 
-    // The number of an aggregate that is registered here.
+    // The number of an aggregate, if this table has it.
     pub(super) fn number_of(&self, id: Id) -> Result<u32, Refusal> {
         match self.watched.get(id.number as usize) {
             Some(Some(watched)) if watched.stamp == id.stamp => Ok(id.number),

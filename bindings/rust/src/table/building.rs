@@ -1,4 +1,4 @@
-//! Row groups that are scanned into aggregates, or built from far copies.
+//! Scans row groups into aggregates, or builds them from far copies.
 
 use super::copies::Copy;
 use super::{Failure, Given, Table};
@@ -48,8 +48,8 @@ impl<E: Engine> Table<E> {
     ///
     /// # Errors
     /// - `NoAggregate`, `NoGroup`: there is no such aggregate or row group.
-    /// - `StaleJob`: the row group is not pending, or a column that the aggregate needs has no far copy as
-    ///   it is now.
+    /// - `StaleJob`: the row group is not pending, or a column that the aggregate needs has no current far
+    ///   copy.
     /// - `FarFault`, or the engine's error: a copy could not be read.
     /// - `NoMemory`.
     pub fn build<A: Aggregate>(&mut self, aggregate: A, group: u32) -> Result<(), Error<E::Error>> {
@@ -58,7 +58,7 @@ impl<E: Engine> Table<E> {
         self.outcome_of(Given::Group(group), built)
     }
 
-    // Builds all pending row groups into an aggregate, in whatever way each can be.
+    // Builds all pending row groups into an aggregate, each by a scan or from copies.
     pub(super) fn build_pending(&mut self, number: u32) -> Result<(), Error<E::Error>> {
         loop {
             let pending = self.library.pending(number);
@@ -74,8 +74,8 @@ impl<E: Engine> Table<E> {
         }
     }
 
-    // Builds a row group of which an object is away: from copies, or by a scan if an object was written
-    // since its copy was kept.
+    // Builds a row group with an object that is away: from copies, or by a scan if an object was written
+    // since its copy was put.
     fn build_absent(&mut self, number: u32, group: u32) -> Result<(), Error<E::Error>> {
         match self.build_from_copies(number, group) {
             Err(Failure::Code(Code(FC_STALE_JOB))) => {
@@ -106,7 +106,7 @@ impl<E: Engine> Table<E> {
         Ok(())
     }
 
-    // The copy that has this number for the library, of the columns that an aggregate needs, and its column.
+    // The copy with this library number among the columns that an aggregate needs, and its column.
     pub(super) fn copy_for(
         &mut self,
         number: u32,

@@ -4,12 +4,12 @@ use crate::library::{Code, Coded};
 use crate::sys::fc_column;
 use crate::{Engine, Error, Refusal};
 
-/// How many rows are given to the library at once, so that a refusal among them costs no more than that.
+/// How many rows to give the library at once: a refused row costs a repetition of at most so many.
 const BATCH: usize = 8_192;
 
 impl<E: Engine> Table<E> {
-    /// Appends rows that are given column by column, in the order of the schema, until one is refused.
-    /// Returns how many they were. If one is refused, the rows before it stay:
+    /// Appends rows given column by column, in the order of the schema, until one is refused. Returns how
+    /// many it appended. If a row is refused, the rows before it stay:
     /// [`places`](Table::places) says how many there are.
     ///
     /// It is the fastest way to fill a table.
@@ -25,11 +25,11 @@ impl<E: Engine> Table<E> {
     /// ```
     ///
     /// # Errors
-    /// - `RowWidth`, `WrongKind`: the columns are not those of the schema. No row is inserted.
-    /// - `BadArgument`: the columns are of different lengths, or offsets or bits are not as many as they
-    ///   should be: no row is inserted then. Or the offsets of a row descend or leave the bytes.
-    /// - `NoUtf8`: a text is no UTF-8.
-    /// - Those of [`insert`](Table::insert).
+    /// - `RowWidth`, `WrongKind`: the columns do not match the schema. No row is inserted.
+    /// - `BadArgument`: the columns have different lengths, or too few offsets or bits: no row is inserted
+    ///   then. Or the offsets of a row descend or are past the end of the bytes.
+    /// - `NoUtf8`: a text is not valid UTF-8.
+    /// - The errors of [`insert`](Table::insert).
     pub fn extend_columns(&mut self, columns: &[Column<'_>]) -> Result<usize, Error<E::Error>> {
         let rows = self.rows_of(columns)?;
         let (mut from, mut batch) = (0, BATCH);
@@ -47,7 +47,7 @@ impl<E: Engine> Table<E> {
         Ok(rows)
     }
 
-    // How many rows the columns have, if they suit the schema and one another.
+    // The number of rows, if the columns match the schema and have one length.
     fn rows_of(&self, columns: &[Column<'_>]) -> Result<usize, Refusal> {
         if columns.len() != self.schema.len() {
             return Err(Refusal::RowWidth {
@@ -65,7 +65,7 @@ impl<E: Engine> Table<E> {
             let broken = if column.len() == rows {
                 column.broken_rule()
             } else {
-                Some((rows.min(column.len()), "all columns have one length"))
+                Some((rows.min(column.len()), "all columns must have one length"))
             };
             if let Some((row, rule)) = broken {
                 let column = self.schema.label(index as u32);
@@ -75,7 +75,7 @@ impl<E: Engine> Table<E> {
         Ok(rows)
     }
 
-    // Inserts at least one of the rows from `from` up to `to`. Returns how many were inserted.
+    // Inserts at least one of the rows from `from` up to `to`. Returns how many it inserted.
     fn insert_batch(
         &mut self,
         columns: &[Column<'_>],
@@ -85,8 +85,7 @@ impl<E: Engine> Table<E> {
         let inserted = match self.insert_raw(columns, from, to) {
             Ok(inserted) => inserted,
             Err(Code(_)) => {
-                // The library was asked for rows of which the first is refused: one row is tried, with
-                // whatever it needs moved.
+                // The library refused the first of the rows: tries that one alone, and moves what it needs.
                 self.insert_first(columns, from)?
             }
         };
@@ -110,7 +109,7 @@ impl<E: Engine> Table<E> {
         })
     }
 
-    // Inserts rows until one is refused. Returns how many were inserted, or the code if it was none.
+    // Inserts rows until one is refused. Returns how many it inserted, or the code if none.
     fn insert_raw(&mut self, columns: &[Column<'_>], from: usize, to: usize) -> Coded<usize> {
         let raw = gather(&mut self.bits, columns, from, to);
         // SAFETY: rule 1, the columns borrow valid slices, and `bits` stays as it is.
@@ -122,7 +121,7 @@ impl<E: Engine> Table<E> {
     }
 }
 
-// Makes the library's columns of these rows. Bits that do not begin with a byte are copied to `bits`.
+// Makes the `fc_column`s of these rows. Copies masks to `bits` if they do not begin with a whole byte.
 fn gather(bits: &mut [Vec<u8>], columns: &[Column<'_>], from: usize, to: usize) -> Vec<fc_column> {
     let raw = |(column, bits): (&Column<'_>, &mut Vec<u8>)| column.raw(from, to, bits);
     columns.iter().zip(bits).map(raw).collect()

@@ -1,4 +1,4 @@
-//! Which content of the engine is the copy of which object.
+//! The far copy of each object: which content of the engine it is.
 
 /// A content that the engine keeps.
 #[derive(Debug, Clone, Copy, PartialEq, Eq)]
@@ -16,8 +16,8 @@ impl Copy {
     };
 }
 
-/// The copies of all objects, by column and row group. The engine's numbers are the table's own, so
-/// that they stay when the library goes on with new ones.
+/// The far copies of all objects, by column and row group. The table numbers the engine's contents
+/// itself, so that these numbers stay valid when the library renews its own.
 #[derive(Debug)]
 pub struct Copies {
     columns: Vec<Vec<Copy>>,
@@ -32,7 +32,7 @@ impl Copies {
         }
     }
 
-    /// A number that no content has yet.
+    /// Draws a new number for a content.
     pub fn draw(&mut self) -> u64 {
         let number = self.next;
         self.next += 1;
@@ -44,7 +44,7 @@ impl Copies {
         (*copy != Copy::NONE).then_some(*copy)
     }
 
-    /// Puts a copy in the place of the one before, which it returns.
+    /// Replaces an object's copy; returns the previous one.
     pub fn replace(&mut self, column: u32, group: u32, copy: Copy) -> Option<Copy> {
         let before = self.get(column, group);
         let column = self.columns.get_mut(column as usize)?;

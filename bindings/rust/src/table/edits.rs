@@ -14,7 +14,7 @@ impl<E: Engine> Table<E> {
     /// ```
     ///
     /// # Errors
-    /// - `WrongKind`, `RowWidth`, `TextTooLong`: the row does not suit the columns.
+    /// - `WrongKind`, `RowWidth`, `TextTooLong`: the row does not match the columns.
     /// - `TableFull`, `EditsUsedUp`: a limit is reached.
     /// - `ChunkFull`: the row group's texts are too long.
     /// - `Absent`: by [`Policy::Manual`](crate::Policy::Manual), an object of the last row group is away.
@@ -29,9 +29,9 @@ impl<E: Engine> Table<E> {
         Ok(place)
     }
 
-    /// Appends rows until one is refused. Returns how many they were. If one is refused, the rows before
-    /// it stay: [`places`](Table::places) says how many there are. Cells borrow their texts; texts that
-    /// are made on the way go one by one into [`insert`](Table::insert), or into a
+    /// Appends rows until one is refused. Returns how many it appended. If a row is refused, the rows
+    /// before it stay: [`places`](Table::places) says how many there are. Cells borrow their texts: if you
+    /// make texts on the way, call [`insert`](Table::insert) for each row, or push them to a
     /// [`TextBuffer`](crate::TextBuffer) for [`extend_columns`](Table::extend_columns).
     ///
     /// ```
@@ -44,7 +44,7 @@ impl<E: Engine> Table<E> {
     /// ```
     ///
     /// # Errors
-    /// Those of [`insert`](Table::insert).
+    /// The errors of [`insert`](Table::insert).
     pub fn extend<'a, R: AsRef<[Cell<'a>]>>(
         &mut self,
         rows: impl IntoIterator<Item = R>,
@@ -57,8 +57,8 @@ impl<E: Engine> Table<E> {
         Ok(inserted)
     }
 
-    /// Puts a cell into a column of a place. As each edit, it needs all objects of the place's row group:
-    /// by an automatic policy those that are away are fetched first.
+    /// Sets the cell of a column at a place. Like every edit, it needs all objects of the place's row
+    /// group: an automatic policy first fetches those that are away.
     ///
     /// ```
     /// # use fullercoral::{Cell, Limits, Memory, Schema, Table, row};
@@ -72,9 +72,9 @@ impl<E: Engine> Table<E> {
     /// ```
     ///
     /// # Errors
-    /// - `NoColumn`, `WrongKind`, `TextTooLong`: the cell does not suit the column.
+    /// - `NoColumn`, `WrongKind`, `TextTooLong`: the cell does not match the column.
     /// - `NoRow`, `RemovedRow`: there is no row at the place.
-    /// - `Absent`, `ChunkFull`, `RegionFull`, `EditsUsedUp`, `NoMemory`: as of [`insert`](Table::insert).
+    /// - `Absent`, `ChunkFull`, `RegionFull`, `EditsUsedUp`, `NoMemory`: as for [`insert`](Table::insert).
     #[doc(alias = "update")]
     #[inline]
     pub fn set<'a>(
@@ -88,7 +88,7 @@ impl<E: Engine> Table<E> {
         self.persist(given, |library| library.set(column, place, cell))
     }
 
-    /// Removes the row of a place. The place is never used again.
+    /// Removes the row of a place. The place is never reused.
     ///
     /// ```
     /// # use fullercoral::{Limits, Memory, Schema, Table, row};
@@ -102,7 +102,7 @@ impl<E: Engine> Table<E> {
     ///
     /// # Errors
     /// - `NoRow`, `RemovedRow`: there is no row at the place.
-    /// - `Absent`, `EditsUsedUp`, `NoMemory`: as of [`insert`](Table::insert).
+    /// - `Absent`, `EditsUsedUp`, `NoMemory`: as for [`insert`](Table::insert).
     #[doc(alias = "delete")]
     #[inline]
     pub fn remove(&mut self, place: u32) -> Result<(), Error<E::Error>> {

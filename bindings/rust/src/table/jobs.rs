@@ -4,7 +4,7 @@ use std::sync::{Arc, Mutex, PoisonError};
 use super::copies::Copy;
 use crate::Engine;
 
-/// Jobs whose values were dropped. The table gives them up when it is next asked to begin one.
+/// Jobs whose values were dropped. The table gives them up when it next begins one.
 #[derive(Debug, Default)]
 pub(crate) struct Abandoned(Mutex<Vec<(u64, Option<u64>)>>);
 
@@ -14,19 +14,19 @@ impl Abandoned {
         jobs.push((job, number));
     }
 
-    /// One of the jobs, with the number of the content that was to be put.
+    /// Removes one of the jobs, with the number of the content that it was to put.
     pub fn pop(&self) -> Option<(u64, Option<u64>)> {
         let mut jobs = self.0.lock().unwrap_or_else(PoisonError::into_inner);
         jobs.pop()
     }
 }
 
-/// An object that is about to be evicted, with a copy of its bytes. It borrows nothing, so the engine's
-/// part of the work needs no table.
+/// An eviction that was begun, with a copy of the object's bytes. It borrows nothing, so the engine can
+/// work without the table.
 ///
-/// [`Table::begin_evict`](crate::Table::begin_evict) returns it. [`put`](Outgoing::put) makes a [`Stored`]
-/// of it, which [`Table::commit`](crate::Table::commit) takes. If it is dropped instead, the object stays
-/// local.
+/// [`Table::begin_evict`](crate::Table::begin_evict) returns it. [`put`](Outgoing::put) turns it into a
+/// [`Stored`], which [`Table::commit`](crate::Table::commit) takes. If you drop it instead, the object
+/// stays local.
 ///
 /// ```
 /// use fullercoral::{Limits, Memory, Schema, Table, row};
@@ -40,7 +40,7 @@ impl Abandoned {
 /// # Ok::<(), Box<dyn std::error::Error>>(())
 /// ```
 ///
-/// What was not put cannot be committed:
+/// An eviction that was not put cannot be committed:
 ///
 /// ```compile_fail,E0308
 /// # use fullercoral::{Limits, Memory, Schema, Table, row};
@@ -56,7 +56,7 @@ pub struct Outgoing {
     pub(crate) content: Option<(u64, Vec<u8>)>,
 }
 
-/// It has the number and the length of the content.
+/// Shows the number and the length of the content.
 impl fmt::Debug for Outgoing {
     fn fmt(&self, f: &mut fmt::Formatter<'_>) -> fmt::Result {
         let content = self.content();
@@ -69,9 +69,9 @@ impl fmt::Debug for Outgoing {
     }
 }
 
-/// An object that is about to be evicted, whose bytes the engine has.
+/// An eviction whose bytes the engine has.
 ///
-/// [`Outgoing::put`] returns it, and [`Table::commit`](crate::Table::commit) ends it. If it is dropped
+/// [`Outgoing::put`] returns it, and [`Table::commit`](crate::Table::commit) ends it. If you drop it
 /// instead, the object stays local.
 ///
 /// ```
@@ -91,7 +91,7 @@ pub struct Stored {
     pub(crate) copy: Option<Copy>,
 }
 
-/// As that of [`Outgoing`].
+/// Shows the number and the length of the content.
 impl fmt::Debug for Stored {
     fn fmt(&self, f: &mut fmt::Formatter<'_>) -> fmt::Result {
         f.debug_struct("Stored")
@@ -104,8 +104,8 @@ impl fmt::Debug for Stored {
 }
 
 impl Outgoing {
-    /// Puts the bytes into an engine: the table's own, a clone of it, or whatever leads to the same
-    /// contents. It only returns if the engine has them already.
+    /// Puts the bytes into an engine: the table's own, a clone of it, or another with the same contents.
+    /// It puts nothing if the engine has the bytes already.
     ///
     /// ```
     /// # use fullercoral::{Limits, Memory, Schema, Table, row};
@@ -118,7 +118,7 @@ impl Outgoing {
     /// ```
     ///
     /// # Errors
-    /// That of the engine. The eviction is over then, and the object stays local.
+    /// The engine's error. The eviction has ended then, and the object stays local.
     pub fn put<E: Engine + ?Sized>(self, engine: &mut E) -> Result<Stored, E::Error> {
         if let Some((number, bytes)) = &self.content {
             engine.put(*number, bytes)?;
@@ -126,8 +126,8 @@ impl Outgoing {
         Ok(self.assume_stored())
     }
 
-    /// Says that the program put the bytes of [`content`](Outgoing::content) into the engine by itself: for
-    /// clients that no [`Engine`] can be made of. If it did not, the object's cells are lost with the commit.
+    /// Says that the program has put the bytes of [`content`](Outgoing::content) into the engine itself, for
+    /// clients that cannot be an [`Engine`]. If it has not, the commit loses the object's cells.
     ///
     /// ```
     /// # use fullercoral::{Engine, Limits, Memory, Schema, Table, row};
@@ -170,12 +170,12 @@ impl Outgoing {
     }
 }
 
-/// What a fetch or a build needs, to be read from the engine. It borrows nothing, so the engine's part
-/// of the work needs no table.
+/// A fetch or a build that was begun, with the contents to get from the engine. It borrows nothing, so
+/// the engine can work without the table.
 ///
 /// [`Table::begin_fetch`](crate::Table::begin_fetch) and
 /// [`Table::begin_build`](crate::Table::begin_build) return it, and
-/// [`Table::install`](crate::Table::install) ends it. If it is dropped instead, nothing changes.
+/// [`Table::install`](crate::Table::install) ends it. If you drop it instead, nothing changes.
 ///
 /// ```
 /// use fullercoral::{Limits, Memory, Schema, Table, row};
@@ -196,7 +196,7 @@ pub struct Incoming {
     pub(crate) target: Target,
 }
 
-/// It has the numbers of the contents, and how many bytes of each were got.
+/// Shows the numbers of the contents, and how many bytes of each it has.
 impl fmt::Debug for Incoming {
     fn fmt(&self, f: &mut fmt::Formatter<'_>) -> fmt::Result {
         let got = |wanted: &Wanted| (wanted.copy.number, wanted.bytes.len());
@@ -208,17 +208,17 @@ impl fmt::Debug for Incoming {
     }
 }
 
-/// A content that a job wants.
+/// A content that a job needs.
 pub(crate) struct Wanted {
-    /// Its number for the library.
+    /// Its number in the library.
     pub number: u64,
-    /// The column of the object that it is of.
+    /// The column of its object.
     pub column: u32,
     pub copy: Copy,
     pub bytes: Vec<u8>,
 }
 
-/// What a content is brought in for.
+/// What a job gets contents for.
 #[derive(Debug, Clone, std::marker::Copy)]
 pub(crate) enum Target {
     Object { column: u32, group: u32 },
@@ -226,8 +226,8 @@ pub(crate) enum Target {
 }
 
 impl Incoming {
-    /// Gets the bytes from an engine: the table's own, a clone of it, or whatever leads to the same
-    /// contents. It may be called again after an error.
+    /// Gets the bytes from an engine: the table's own, a clone of it, or another with the same contents.
+    /// It may be called again after an error.
     ///
     /// ```
     /// # use fullercoral::{Limits, Memory, Schema, Table, row};
@@ -240,7 +240,7 @@ impl Incoming {
     /// ```
     ///
     /// # Errors
-    /// That of the engine.
+    /// The engine's error.
     pub fn get<E: Engine + ?Sized>(&mut self, engine: &mut E) -> Result<(), E::Error> {
         for wanted in &mut self.wanted {
             wanted.bytes.clear();
@@ -249,7 +249,7 @@ impl Incoming {
         Ok(())
     }
 
-    /// The numbers of the contents that it needs, and where their bytes go.
+    /// The numbers of the contents that it needs, and the buffers for their bytes.
     ///
     /// ```
     /// # use fullercoral::{Engine, Limits, Memory, Schema, Table, row};
@@ -270,7 +270,7 @@ impl Incoming {
     }
 }
 
-/// A job of a table, which is given up if it is dropped.
+/// A job of a table. Dropping it gives the job up.
 #[derive(Debug)]
 pub(crate) struct Job {
     pub number: u64,
@@ -292,14 +292,14 @@ impl Job {
         }
     }
 
-    /// Whether it is a job of the table with these abandoned jobs.
+    /// Whether the job belongs to the table with these abandoned jobs.
     pub fn is_of(&self, table: &Arc<Abandoned>) -> bool {
         self.abandoned
             .as_ref()
             .is_some_and(|own| Arc::ptr_eq(own, table))
     }
 
-    /// It ends: its drop gives nothing up.
+    /// Ends the job, so that its drop does nothing.
     pub fn end(&mut self) {
         self.abandoned = None;
     }

@@ -37,16 +37,16 @@ use space::Live;
 
 /// A columnar table with live aggregates, whose columns may be larger than its local memory.
 ///
-/// Its rows stand at places 0, 1, 2, .. in the order in which they were inserted; a removed row keeps
-/// its place. A column's chunk of a row group is an *object*: it is local, or its bytes are away in the
-/// table's [`Engine`]. Aggregates answer as ever while objects are away. By its [`Policy`] the table
-/// moves objects by itself, or leaves that to the program.
+/// Its rows have places 0, 1, 2, .. in the order of insertion; a removed row's place is never reused. A
+/// column's chunk of a row group is an *object*: it is local, or its bytes are away in the table's
+/// [`Engine`]. Aggregates answer as before while objects are away. The table moves objects by itself, or
+/// leaves that to the program, as its [`Policy`] says.
 ///
-/// A table is `Send` if its engine is, and not `Sync`: threads share it under a lock, as in the
+/// A table is `Send` if its engine is, but not `Sync`: threads share it under a lock, as in the
 /// [crate's documentation](crate#threads). Calls that only read need a `&mut` too, since the library
-/// serves one at a time. A table that is dropped is closed, and its engine dropped with it.
+/// serves one call at a time. Dropping a table closes it, and drops its engine.
 ///
-/// `Table` alone is a table over [`Files`], whose calls return [`Error`] alone:
+/// Without a parameter, `Table` is a table over [`Files`], whose calls return [`Error`] without one:
 ///
 /// ```
 /// use fullercoral::{Error, Files, Limits, Schema, Table, row};
@@ -65,7 +65,7 @@ use space::Live;
 /// # run().unwrap();
 /// ```
 ///
-/// One over any engine:
+/// A table over any engine:
 ///
 /// ```
 /// use fullercoral::{Limits, Memory, Schema, Table, row, totals};
@@ -92,30 +92,30 @@ pub struct Table<E: Engine = Files> {
     live: Live,
     answer: Answer,
     buffers: Buffers,
-    /// The content that is got from the engine.
+    /// The buffer for a content from the engine.
     content: Vec<u8>,
     bits: Vec<Vec<u8>>,
     stats: Stats,
     abandoned: Arc<Abandoned>,
-    /// The number of the content that the engine puts right now, or put when it panicked.
+    /// The number of the content that the engine is putting, or was putting when it panicked.
     putting: Option<u64>,
 }
 
-/// An aggregate that is registered.
+/// A registered aggregate.
 #[derive(Debug)]
 struct Watched {
     stamp: u64,
-    /// What its keys are, if it has a key column.
+    /// The kind of its keys, if it has a key column.
     key: Option<Kind>,
     spec: Resolved,
 }
 
-/// What a refused call was given, to say which column or place is at fault.
+/// The arguments of a refused call, to name the column or place at fault.
 #[derive(Debug, Clone, Copy)]
 enum Given<'a> {
     Nothing,
     Row(&'a [Cell<'a>]),
-    /// A row of columns of rows, by its index.
+    /// A row of columns, by its index.
     RowOf(&'a [Column<'a>], usize),
     Cell {
         column: u32,
@@ -125,7 +125,7 @@ enum Given<'a> {
     Group(u32),
 }
 
-/// Why a step did not happen: the library's code, or an error that is complete already.
+/// Why a step failed: a code of the library, or a complete error.
 #[derive(Debug)]
 enum Failure<E> {
     Code(Code),
@@ -164,7 +164,7 @@ impl<E: Engine> Table<E> {
     /// ```
     ///
     /// # Errors
-    /// - `BadSchema`: there is no column, or more than 16, or two of one name; or a limit is out of its
+    /// - `BadSchema`: there is no column, or more than 16, or two with one name; or a limit is out of its
     ///   bounds. Its `rule` says which.
     /// - `NoMemory`.
     pub fn open(schema: Schema, limits: Limits, engine: E) -> Result<Table<E>, Error<E::Error>> {
@@ -195,7 +195,7 @@ impl<E: Engine> Table<E> {
         })
     }
 
-    /// The columns. A clone of it, which copies no name, can be used beside calls of the table.
+    /// The columns. A clone of the schema copies no names, and does not borrow the table.
     ///
     /// ```
     /// # use fullercoral::{Cell, Limits, Memory, Schema, Table, row};
@@ -225,7 +225,7 @@ impl<E: Engine> Table<E> {
         &self.engine
     }
 
-    /// The engine, to change it. What the table put there should stay, or fetches fail.
+    /// The engine, mutably. The table's contents must stay in it, or fetches fail.
     ///
     /// ```
     /// # use fullercoral::{Fault, Faulty, Limits, Memory, Schema, Table};
@@ -238,7 +238,7 @@ impl<E: Engine> Table<E> {
         &mut self.engine
     }
 
-    /// How the table moves its objects.
+    /// The policy: how the table moves its objects.
     ///
     /// ```
     /// # use fullercoral::{Limits, Memory, Policy, Schema, Table};
@@ -251,7 +251,7 @@ impl<E: Engine> Table<E> {
         self.policy
     }
 
-    /// Chooses how the table moves its objects from now on.
+    /// Sets the policy: how the table moves its objects from now on.
     ///
     /// ```
     /// # use fullercoral::{Limits, Memory, Policy, Schema, Table};
@@ -263,8 +263,8 @@ impl<E: Engine> Table<E> {
         self.policy = policy;
     }
 
-    /// How many places there are, removed rows among them. The next row gets this place. How many rows
-    /// are left, an aggregate says: [`totals`](crate::totals) of a column without missing cells.
+    /// The number of places, with those of removed rows. The next row gets this place. To count the live
+    /// rows, ask an aggregate: [`totals`](crate::totals) of a column without missing cells.
     ///
     /// ```
     /// # use fullercoral::{Limits, Memory, Schema, Table, row};
@@ -279,7 +279,7 @@ impl<E: Engine> Table<E> {
         self.library.places()
     }
 
-    /// How many places a row group has.
+    /// The number of places of a row group.
     ///
     /// ```
     /// # use fullercoral::{Limits, Memory, Schema, Table};
@@ -293,7 +293,7 @@ impl<E: Engine> Table<E> {
         self.limits.group
     }
 
-    /// How many row groups there are.
+    /// The number of row groups.
     ///
     /// ```
     /// # use fullercoral::{Limits, Memory, Schema, Table, row};
@@ -332,7 +332,7 @@ impl<E: Engine> Table<E> {
             .map(|object| object.local)
     }
 
-    /// What the table did since it was opened, and how full its local region is.
+    /// Counts of what the table did since it was opened, and how full its local memory is.
     ///
     /// ```
     /// # use fullercoral::{Limits, Memory, Schema, Table};
@@ -369,7 +369,7 @@ impl<E: Engine> Table<E> {
         self.engine
     }
 
-    // The refusal of a code, with the column or the place that is at fault.
+    // The refusal of a code, with the column or the place at fault.
     #[cold]
     fn refused(&mut self, code: Code, given: Given<'_>) -> Error<E::Error> {
         let details = self.library.last_refusal();
@@ -411,7 +411,7 @@ impl<E: Engine> Table<E> {
         refusal.into()
     }
 
-    // The outcome of a step, for the caller.
+    // The result of a step, for the caller.
     fn outcome<T>(
         &mut self,
         result: Result<T, impl Into<Failure<E::Error>>>,
@@ -419,7 +419,7 @@ impl<E: Engine> Table<E> {
         self.outcome_of(Given::Nothing, result)
     }
 
-    // The outcome of a step that was given this.
+    // The result of a step with these arguments.
     fn outcome_of<T>(
         &mut self,
         given: Given<'_>,
@@ -446,7 +446,7 @@ impl<E: Engine> Table<E> {
             .label(row.iter().position(long).unwrap_or(0) as u32)
     }
 
-    // Why a row of columns of rows is refused, with the column that is at fault.
+    // Why a row of columns is refused, with the column at fault.
     fn refused_row(&self, Code(code): Code, columns: &[Column<'_>], row: usize) -> Refusal {
         let is_at_fault = |column: &Column<'_>| match code {
             7 => column.text_len(row) > 4_096,
@@ -461,7 +461,7 @@ impl<E: Engine> Table<E> {
             _ => Refusal::BadArgument {
                 column,
                 row,
-                rule: "offsets ascend, up to the length of the bytes",
+                rule: "offsets must ascend, up to the length of the bytes",
             },
         }
     }

@@ -1,4 +1,4 @@
-//! Objects that are evicted and fetched in one call.
+//! Evicts and fetches objects, each in one call.
 
 use super::copies::Copy;
 use super::{Failure, Given, Table};
@@ -7,7 +7,7 @@ use crate::sys::{FC_FAR_FAULT, FC_FAR_FULL, FC_REGION_FULL, FC_STALE_JOB};
 use crate::{ColumnRef, Engine, Error, Kind, Policy, Refusal};
 
 impl<E: Engine> Table<E> {
-    /// Evicts an object: its bytes go to the engine, and its local memory is free.
+    /// Evicts an object: its bytes go to the engine, and its local memory is freed.
     ///
     /// ```
     /// # use fullercoral::{Limits, Memory, Schema, Table, row};
@@ -22,7 +22,7 @@ impl<E: Engine> Table<E> {
     /// - `NoColumn`, `NoGroup`: there is no such object.
     /// - `Absent`: it is away already.
     /// - `Pinned`: it has a pin.
-    /// - `FarFull`: the numbers of contents are used up.
+    /// - `FarFull`: the content numbers are used up.
     /// - `EditsUsedUp`, `NoMemory`.
     /// - The engine's error. The object stays local.
     pub fn evict(&mut self, column: impl ColumnRef, group: u32) -> Result<(), Error<E::Error>> {
@@ -41,8 +41,8 @@ impl<E: Engine> Table<E> {
         self.work(job, |table| table.end_evict(job, column, group))
     }
 
-    /// Evicts the coldest object without a pin, of the kind that has less space. Returns its column and
-    /// row group, or none if there is no such object.
+    /// Evicts the coldest object without a pin, of the kind with less space. Returns its column and row
+    /// group, or none if there is no such object.
     ///
     /// ```
     /// # use fullercoral::{Limits, Memory, Schema, Table, row};
@@ -54,7 +54,7 @@ impl<E: Engine> Table<E> {
     /// ```
     ///
     /// # Errors
-    /// - `FarFull`: the numbers of contents are used up.
+    /// - `FarFull`: the content numbers are used up.
     /// - `EditsUsedUp`, `NoMemory`.
     /// - The engine's error. The object stays local.
     pub fn evict_coldest(&mut self) -> Result<Option<(usize, u32)>, Error<E::Error>> {
@@ -78,7 +78,7 @@ impl<E: Engine> Table<E> {
         })
     }
 
-    // Carries and commits an eviction that was begun. The bytes go to the engine as they lie.
+    // Carries and commits an eviction that was begun. The bytes go to the engine without a copy.
     fn end_evict(&mut self, job: u64, column: u32, group: u32) -> Result<(), Failure<E::Error>> {
         let put = self.carry_and_put(job)?;
         if let Err(code) = self.library.commit(job) {
@@ -101,7 +101,7 @@ impl<E: Engine> Table<E> {
         self.putting = None;
         if let Err(error) = put {
             self.engine_failed(job);
-            // It may have been kept nevertheless.
+            // The engine may have kept it nevertheless.
             self.engine.forget(number);
             return Err(Error::Engine(error).into());
         }
@@ -116,7 +116,7 @@ impl<E: Engine> Table<E> {
         }
     }
 
-    // Takes note that an object is away, with this new copy or the one that it had.
+    // Records that an object is away, with a new copy or its previous one.
     pub(super) fn committed(&mut self, column: u32, group: u32, put: Option<Copy>) {
         let before = put.and_then(|copy| self.copies.replace(column, group, copy));
         let len = self.copies.get(column, group).map_or(0, |copy| copy.len);
@@ -131,7 +131,7 @@ impl<E: Engine> Table<E> {
         self.library.fault(job);
     }
 
-    /// Fetches an object. By an automatic policy others are evicted if there is no space.
+    /// Fetches an object. An automatic policy evicts others if there is no space.
     ///
     /// ```
     /// # use fullercoral::{Limits, Memory, Schema, Table, row};
@@ -147,8 +147,8 @@ impl<E: Engine> Table<E> {
     /// - `NoColumn`, `NoGroup`: there is no such object.
     /// - `IsLocal`: it is local.
     /// - `RegionFull`: there is no local memory for it.
-    /// - `FarFault`: the engine returned other bytes than were put. The object stays away, and another
-    ///   fetch may follow.
+    /// - `FarFault`: the engine returned other bytes than were put. The object stays away, and a later
+    ///   fetch may succeed.
     /// - `EditsUsedUp`, `NoMemory`.
     /// - The engine's error. The object stays away.
     pub fn fetch(&mut self, column: impl ColumnRef, group: u32) -> Result<(), Error<E::Error>> {
@@ -162,8 +162,8 @@ impl<E: Engine> Table<E> {
             let migrations = self.stats.migrations;
             let job = self.begin_fetch_of(column, group)?;
             match self.work(job, |table| table.end_fetch(job, column, group)) {
-                // An eviction that made space for it went on with new numbers, so all jobs are over. It
-                // begins again, with the space that was made.
+                // An eviction that made space renewed the numbers, which ended all jobs. Begins again, with
+                // that space.
                 Err(Failure::Code(Code(FC_STALE_JOB))) if self.stats.migrations > migrations => {}
                 ended => return self.outcome(ended),
             }
@@ -196,14 +196,14 @@ impl<E: Engine> Table<E> {
         Ok(())
     }
 
-    // Takes note that an object is back.
+    // Records that an object is local again.
     pub(super) fn fetched(&mut self, column: u32, group: u32) {
         let len = self.copies.get(column, group).map_or(0, |copy| copy.len);
         self.live.fetched(self.schema.kind_at(column as usize), len);
         self.stats.fetches += 1;
     }
 
-    /// Gets a content, which is that of an object, from the engine and delivers it to a job.
+    /// Gets the content of an object from the engine and delivers it to a job.
     pub(super) fn get_and_deliver(
         &mut self,
         job: u64,
@@ -222,7 +222,7 @@ impl<E: Engine> Table<E> {
         self.delivered(delivered, object)
     }
 
-    /// The outcome of a call that took the content of an object: a fault names the object.
+    /// The result of a call that takes the content of an object: a fault names the object.
     pub(super) fn delivered(
         &self,
         outcome: Coded<()>,
@@ -234,13 +234,13 @@ impl<E: Engine> Table<E> {
         }
     }
 
-    /// The refusal of bytes that are not those that were put for an object.
+    /// The refusal of bytes that differ from those put for an object.
     pub(super) fn far_fault(&self, column: u32, group: u32) -> Refusal {
         let column = self.schema.label(column);
         Refusal::FarFault { column, group }
     }
 
-    /// Ends a carried fetch. By an automatic policy others are evicted if there is no space.
+    /// Ends a carried fetch. An automatic policy evicts other objects if there is no space.
     pub(super) fn install_job(&mut self, job: u64) -> Result<(), Failure<E::Error>> {
         loop {
             match self.library.install(job) {
@@ -250,8 +250,7 @@ impl<E: Engine> Table<E> {
         }
     }
 
-    /// Which row groups of a column to fetch next, by the stride of the last four that were read: two at
-    /// most.
+    /// The row groups of a column to prefetch, by the stride of the last four reads: at most two.
     ///
     /// ```
     /// # use fullercoral::{Limits, Memory, Schema, Table, row};
@@ -273,8 +272,8 @@ impl<E: Engine> Table<E> {
             .map(|(groups, count)| groups[..count].to_vec())
     }
 
-    // Fetches what is proposed for a column. What fails here is not asked for yet, so it fails without
-    // a word: the call that needs it will say so.
+    // Fetches the proposals for a column. Ignores errors, since no call needs these objects yet: a call
+    // that does will report them.
     pub(super) fn prefetch(&mut self, column: u32) {
         let Ok((groups, count)) = self.library.proposals(column) else {
             return;
@@ -290,8 +289,8 @@ impl<E: Engine> Table<E> {
         }
     }
 
-    // Whether the local region has space for eight such objects, so that one that is proposed does not
-    // evict what was just read.
+    // Whether local memory has space for eight such objects, so that prefetching one does not evict what
+    // was just read.
     fn is_small(&self, column: u32, group: u32) -> bool {
         let limits = &self.limits;
         let (len, segments, size) = match self.schema.kind_at(column as usize) {
@@ -304,7 +303,7 @@ impl<E: Engine> Table<E> {
         8 * u64::from(len) <= u64::from(segments) * u64::from(size)
     }
 
-    /// Gives up the jobs whose values were dropped, and forgets what the engine put when it panicked.
+    /// Gives up the jobs whose values were dropped, and forgets the content of a put that panicked.
     pub(super) fn give_up_abandoned(&mut self) {
         if let Some(number) = self.putting.take() {
             self.engine.forget(number);

@@ -1,4 +1,4 @@
-//! Calls that are tried again after what they need was moved.
+//! Repeats calls after moving what they need.
 
 use super::{Given, Table};
 use crate::library::{Code, Coded, Library};
@@ -6,7 +6,7 @@ use crate::sys::{FC_ABSENT, FC_REGION_FULL};
 use crate::{Engine, Error, Policy};
 
 impl<E: Engine> Table<E> {
-    /// Carries a call out, and moves what it needs if the policy says so.
+    /// Makes a call, and moves what it needs if the policy says so.
     #[inline]
     pub(super) fn persist<T>(
         &mut self,
@@ -19,7 +19,7 @@ impl<E: Engine> Table<E> {
         }
     }
 
-    /// The same for a call that lends. By rule 3 of the header it is then the last one that is made.
+    /// The same for a call that lends. By rule 3 of the header, it must be the last one made.
     #[inline]
     pub(super) fn persist_lending<T>(
         &mut self,
@@ -48,9 +48,9 @@ impl<E: Engine> Table<E> {
     }
 }
 
-/// A call that is tried, with the objects that are pinned meanwhile, so that the space for one is not
-/// made by evicting another. Each try pins one more of them or evicts one of the rest, so tries come to
-/// an end. The pins go with it, also if the engine panics.
+/// The tries of a call, with the objects that they pin, so that fetching one does not evict another. Each
+/// try pins one more object or evicts one of the others, so the tries end. Dropping it removes the pins,
+/// also if the engine panics.
 struct Trial<'t, E: Engine> {
     table: &'t mut Table<E>,
     held: Vec<(u32, u32)>,

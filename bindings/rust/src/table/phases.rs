@@ -1,4 +1,4 @@
-//! Movement in phases, between which any other call may come.
+//! Moves objects in phases, with any other calls between.
 
 use super::copies::Copy;
 use super::jobs::{Incoming, Job, Outgoing, Stored, Target, Wanted};
@@ -9,8 +9,8 @@ use crate::sys::FC_FAR_FULL;
 use crate::{ColumnRef, Engine, Error, Refusal};
 
 impl<E: Engine> Table<E> {
-    /// Begins to evict an object. The engine's part of the work is [`Outgoing::put`], which needs no
-    /// table; [`commit`](Table::commit) takes what that returns, and ends it.
+    /// Begins to evict an object. [`Outgoing::put`] then calls the engine, without the table, and
+    /// [`commit`](Table::commit) takes its result and ends the eviction.
     ///
     /// ```
     /// # use fullercoral::{Limits, Memory, Schema, Table, row};
@@ -25,7 +25,7 @@ impl<E: Engine> Table<E> {
     /// # Errors
     /// - `NoColumn`, `NoGroup`: there is no such object.
     /// - `Absent`: it is away already.
-    /// - `FarFull`: the numbers of contents are used up.
+    /// - `FarFull`: the content numbers are used up.
     /// - `EditsUsedUp`, `NoMemory`.
     pub fn begin_evict(
         &mut self,
@@ -42,7 +42,7 @@ impl<E: Engine> Table<E> {
         self.outcome_of(Given::Group(group), begun)
     }
 
-    /// Begins to evict the coldest object without a pin. None if there is no such object.
+    /// Begins to evict the coldest object without a pin. Returns `None` if there is no such object.
     ///
     /// ```
     /// # use fullercoral::{Limits, Memory, Schema, Table, row};
@@ -73,7 +73,7 @@ impl<E: Engine> Table<E> {
 
     fn outgoing_of(&mut self, column: u32, group: u32) -> Result<Outgoing, Code> {
         let number = self.library.begin_evict(column, group)?;
-        // From here on the job is given up if it fails.
+        // From here on a failure gives the job up.
         let mut job = Job::new(number, column, group, &self.abandoned);
         self.library.carry(number)?;
         let bytes = self.library.outgoing(number)?.map(<[u8]>::to_vec);
@@ -82,7 +82,7 @@ impl<E: Engine> Table<E> {
         Ok(Outgoing { job, content })
     }
 
-    /// Ends an eviction whose bytes were put: the object is away.
+    /// Ends an eviction whose bytes were put: the object is away then.
     ///
     /// ```
     /// # use fullercoral::{Limits, Memory, Refusal, Schema, Table, row};
@@ -98,7 +98,7 @@ impl<E: Engine> Table<E> {
     ///
     /// # Errors
     /// The object stays local then.
-    /// - `StaleJob`: the object was written or moved since it was begun, or it is of another table.
+    /// - `StaleJob`: the object was written or moved since the eviction began, or belongs to another table.
     /// - `Pinned`: it has a pin.
     pub fn commit(&mut self, stored: Stored) -> Result<(), Error<E::Error>> {
         self.check_job(&stored.job)?;
@@ -114,8 +114,8 @@ impl<E: Engine> Table<E> {
         Ok(())
     }
 
-    /// Begins to fetch an object. The engine's part of the work is [`Incoming::get`], which needs no
-    /// table; then [`install`](Table::install) ends it.
+    /// Begins to fetch an object. [`Incoming::get`] then calls the engine, without the table, and
+    /// [`install`](Table::install) ends the fetch.
     ///
     /// ```
     /// # use fullercoral::{Limits, Memory, Schema, Table, row};
@@ -147,8 +147,8 @@ impl<E: Engine> Table<E> {
     }
 
     /// Begins to build a row group into an aggregate from the far copies of its columns, without fetching
-    /// them. The engine's part of the work is [`Incoming::get`], which needs no table; then
-    /// [`install`](Table::install) ends it.
+    /// them. [`Incoming::get`] then calls the engine, without the table, and
+    /// [`install`](Table::install) ends the build.
     ///
     /// ```
     /// # use fullercoral::{Limits, Memory, Schema, Table, row, totals};
@@ -165,8 +165,8 @@ impl<E: Engine> Table<E> {
     ///
     /// # Errors
     /// - `NoAggregate`, `NoGroup`: there is no such aggregate or row group.
-    /// - `StaleJob`: the row group is not pending, or a column that the aggregate needs has no far copy as
-    ///   it is now.
+    /// - `StaleJob`: the row group is not pending, or a column that the aggregate needs has no current far
+    ///   copy.
     /// - `EditsUsedUp`, `NoMemory`.
     pub fn begin_build<A: Aggregate>(
         &mut self,
@@ -184,7 +184,7 @@ impl<E: Engine> Table<E> {
         })
     }
 
-    // Lists the contents that a job wants.
+    // Lists the contents that a job needs.
     fn incoming(
         &mut self,
         job: Job,
@@ -211,8 +211,8 @@ impl<E: Engine> Table<E> {
         }
     }
 
-    /// Ends a fetch or a build whose bytes were got: the object is local, or the row group is built in.
-    /// By an automatic policy others are evicted if a fetched object has no space.
+    /// Ends a fetch or a build that has its bytes: the object is local then, or the row group built.
+    /// An automatic policy evicts other objects if a fetched one has no space.
     ///
     /// ```
     /// # use fullercoral::{Error, Limits, Memory, Refusal, Schema, Table, row};
@@ -229,8 +229,8 @@ impl<E: Engine> Table<E> {
     /// ```
     ///
     /// # Errors
-    /// - `FarFault`: these are not the bytes that were put.
-    /// - `StaleJob`: what it rests on changed since it was begun, or it is of another table.
+    /// - `FarFault`: the bytes differ from those that were put.
+    /// - `StaleJob`: the job's data changed since it began, or it belongs to another table.
     /// - `NoAggregate`: the aggregate was forgotten.
     /// - `RegionFull`: there is no local memory for the object.
     /// - `NoMemory`.

@@ -3,7 +3,7 @@ use crate::{Engine, Error};
 
 /// The numbers of a range of places, piece by piece. [`Table::ints`] returns it.
 ///
-/// It is no `Iterator`, since each piece lies in the buffer that the next one uses.
+/// It is not an `Iterator`, since the next piece reuses the buffer of the last one.
 ///
 /// ```
 /// use fullercoral::{Limits, Memory, Schema, Table, row};
@@ -27,7 +27,7 @@ pub struct Ints<'t, E: Engine> {
 
 /// The texts of a range of places, piece by piece. [`Table::texts`] returns it.
 ///
-/// It is no `Iterator`, since each piece lies in the buffer that the next one uses.
+/// It is not an `Iterator`, since the next piece reuses the buffer of the last one.
 ///
 /// ```
 /// use fullercoral::{Limits, Memory, Schema, Table, row};
@@ -46,7 +46,7 @@ pub struct Texts<'t, E: Engine> {
     part: Part<'t, E>,
 }
 
-/// What is left to be read of a part of a column.
+/// The part of a range that is still to be read.
 #[derive(Debug)]
 struct Part<'t, E: Engine> {
     table: &'t mut Table<E>,
@@ -74,7 +74,7 @@ impl<'t, E: Engine> Ints<'t, E> {
         Ints { part }
     }
 
-    /// The next piece. After an error it may be called again, for the same piece.
+    /// Reads the next piece. After an error it may be called again, for the same piece.
     ///
     /// ```
     /// # use fullercoral::{Limits, Memory, Schema, Table, row};
@@ -99,7 +99,7 @@ impl<'t, E: Engine> Ints<'t, E> {
         Ok(Some(piece))
     }
 
-    /// Calls a function with the place and the number of each row that is alive.
+    /// Calls a function with the place and the number of each live row.
     ///
     /// ```
     /// # use fullercoral::{Limits, Memory, Schema, Table, row};
@@ -112,7 +112,7 @@ impl<'t, E: Engine> Ints<'t, E> {
     /// ```
     ///
     /// # Errors
-    /// Those of [`next_piece`](Ints::next_piece).
+    /// The errors of [`next_piece`](Ints::next_piece).
     pub fn for_each(
         mut self,
         mut each: impl FnMut(u32, Option<i64>),
@@ -135,7 +135,7 @@ impl<'t, E: Engine> Texts<'t, E> {
         Texts { part }
     }
 
-    /// The next piece. After an error it may be called again, for the same piece.
+    /// Reads the next piece. After an error it may be called again, for the same piece.
     ///
     /// ```
     /// # use fullercoral::{Limits, Memory, Schema, Table, row};
@@ -160,7 +160,7 @@ impl<'t, E: Engine> Texts<'t, E> {
         Ok(Some(piece))
     }
 
-    /// Calls a function with the place and the text of each row that is alive.
+    /// Calls a function with the place and the text of each live row.
     ///
     /// ```
     /// # use fullercoral::{Limits, Memory, Schema, Table, row};
@@ -173,7 +173,7 @@ impl<'t, E: Engine> Texts<'t, E> {
     /// ```
     ///
     /// # Errors
-    /// Those of [`next_piece`](Texts::next_piece).
+    /// The errors of [`next_piece`](Texts::next_piece).
     pub fn for_each(
         mut self,
         mut each: impl FnMut(u32, Option<&str>),
@@ -185,7 +185,7 @@ impl<'t, E: Engine> Texts<'t, E> {
     }
 }
 
-/// Numbers of places that stand one behind the other, with their flags.
+/// The numbers of adjacent places, with their flags.
 ///
 /// ```
 /// use fullercoral::{Limits, Memory, Schema, Table, row};
@@ -204,16 +204,16 @@ impl<'t, E: Engine> Texts<'t, E> {
 pub struct IntPiece<'t> {
     /// The first place.
     pub first: u32,
-    /// The numbers; 0 where one is missing.
+    /// The numbers, with 0 for missing ones.
     pub values: &'t [i64],
-    /// Whether there is a number.
+    /// Whether each place has a number.
     pub valid: &'t [bool],
-    /// Whether the row is alive.
+    /// Whether each row is alive.
     pub alive: &'t [bool],
 }
 
 impl<'t> IntPiece<'t> {
-    /// The rows that are alive: their places and numbers.
+    /// The live rows: their places and numbers.
     ///
     /// ```
     /// # use fullercoral::{Limits, Memory, Schema, Table, row};
@@ -233,7 +233,7 @@ impl<'t> IntPiece<'t> {
     }
 }
 
-/// Texts of places that stand one behind the other, with their flags.
+/// The texts of adjacent places, with their flags.
 ///
 /// ```
 /// use fullercoral::{Limits, Memory, Schema, Table, row};
@@ -251,14 +251,14 @@ pub struct TextPiece<'t> {
     pub first: u32,
     pub(super) text: &'t str,
     pub(super) offsets: &'t [u64],
-    /// Whether there is a text.
+    /// Whether each place has a text.
     pub valid: &'t [bool],
-    /// Whether the row is alive.
+    /// Whether each row is alive.
     pub alive: &'t [bool],
 }
 
 impl<'t> TextPiece<'t> {
-    /// How many places it has.
+    /// The number of places.
     ///
     /// ```
     /// # use fullercoral::{Limits, Memory, Schema, Table, row};
@@ -272,7 +272,7 @@ impl<'t> TextPiece<'t> {
         self.valid.len()
     }
 
-    /// Whether it has no place. No piece that a table returns is empty.
+    /// Whether it has no places. A table returns no empty piece.
     ///
     /// ```
     /// # use fullercoral::{Limits, Memory, Schema, Table, row};
@@ -286,7 +286,7 @@ impl<'t> TextPiece<'t> {
         self.valid.is_empty()
     }
 
-    /// The text at an index, counted from the piece's first place. None if it is missing, or there is no
+    /// The text at an index, counted from the piece's first place. `None` if it is missing, or there is no
     /// such place.
     ///
     /// ```
@@ -305,7 +305,7 @@ impl<'t> TextPiece<'t> {
         self.text.get(from as usize..to as usize)
     }
 
-    /// The rows that are alive: their places and texts.
+    /// The live rows: their places and texts.
     ///
     /// ```
     /// # use fullercoral::{Limits, Memory, Schema, Table, row};

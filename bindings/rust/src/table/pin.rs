@@ -4,8 +4,8 @@ use super::{Given, Table};
 use crate::{ColumnRef, Engine, Error};
 
 impl<E: Engine> Table<E> {
-    /// Pins an object: it stays local for as long as the guard lives, unless [`unpin`](Table::unpin) is
-    /// called through the guard. By an automatic policy an object that is away is fetched first.
+    /// Pins an object: it stays local as long as the guard lives, unless [`unpin`](Table::unpin) is called
+    /// through the guard. An automatic policy first fetches an object that is away.
     ///
     /// ```
     /// # use fullercoral::{Limits, Memory, Refusal, Schema, Table, row};
@@ -38,7 +38,7 @@ impl<E: Engine> Table<E> {
         })
     }
 
-    /// Removes a pin that [`Pinned::keep`] left.
+    /// Removes a pin that [`Pinned::keep`] kept.
     ///
     /// ```
     /// # use fullercoral::{Limits, Memory, Schema, Table, row};
@@ -60,12 +60,12 @@ impl<E: Engine> Table<E> {
     }
 }
 
-/// A table with an object that is pinned. It leads to the table; when it is dropped, the pin goes.
+/// A guard of a pinned object. It dereferences to the table; dropping it removes the pin.
 ///
-/// An object counts its pins, and does not know whose they are. So what is done to the table through
-/// the guard may end the pin: [`unpin`](Table::unpin) of the same object removes a pin, and the guard's drop
-/// another one, if there is one, also if that was [kept](Pinned::keep). And `std::mem::swap` of the table with
-/// another leaves the pin with the table that has it, and the guard's drop unpins the other.
+/// An object counts its pins, but does not know whose they are. So calls through the guard may remove the
+/// pin: [`unpin`](Table::unpin) of the same object removes one, and then the guard's drop removes another,
+/// if there is one, even a [kept](Pinned::keep) one. If you `std::mem::swap` the table with another, the
+/// pin stays with its table, and the guard's drop unpins the other.
 ///
 /// ```
 /// # use fullercoral::{Limits, Memory, Schema, Table, row};
@@ -84,7 +84,7 @@ pub struct Pinned<'t, E: Engine> {
 }
 
 impl<E: Engine> Pinned<'_, E> {
-    /// Leaves the pin on the object, until [`Table::unpin`] removes it.
+    /// Keeps the pin until [`Table::unpin`] removes it.
     ///
     /// ```
     /// # use fullercoral::{Limits, Memory, Schema, Table, row};

@@ -7,7 +7,7 @@ use crate::library::Library;
 use crate::{ColumnRef, Engine, Error, Kind, Policy, Refusal};
 
 impl<E: Engine> Table<E> {
-    /// The cells of a place, removed or not.
+    /// Reads the row of a place, removed or not.
     ///
     /// ```
     /// # use fullercoral::{Cell, Limits, Memory, Schema, Table, row};
@@ -31,7 +31,7 @@ impl<E: Engine> Table<E> {
         Ok(unsafe { Row::new(self.library.cells(), &self.schema, alive) })
     }
 
-    /// Whether the row of a place is alive: inserted, and not removed. It needs no object.
+    /// Whether the row of a place is alive, that is, not removed. It needs no object.
     ///
     /// ```
     /// # use fullercoral::{Limits, Memory, Schema, Table, row};
@@ -49,8 +49,8 @@ impl<E: Engine> Table<E> {
         alive.map_err(|code| self.refused(code, Given::Place(place)))
     }
 
-    /// The number of a place, removed or not. None if it is missing. It needs the object of this column
-    /// alone; [`row`](Table::row) needs those of all columns.
+    /// Reads the number of a place, removed or not; `None` if it is missing. It needs only the object of
+    /// this column; [`row`](Table::row) needs those of all columns.
     ///
     /// ```
     /// # use fullercoral::{Limits, Memory, Schema, Table, row};
@@ -61,7 +61,7 @@ impl<E: Engine> Table<E> {
     /// ```
     ///
     /// # Errors
-    /// - `NoColumn`, `WrongKind`, `NoRow`: there is no such number.
+    /// - `NoColumn`, `WrongKind`, `NoRow`: there is no such column of numbers, or no such place.
     /// - `Absent`: by [`Policy::Manual`](crate::Policy::Manual), its object is away.
     /// - `RegionFull`: there is no local memory to fetch it.
     pub fn int(
@@ -77,7 +77,7 @@ impl<E: Engine> Table<E> {
         self.persist(Given::Nothing, |library| library.number(column, place))
     }
 
-    /// The text of a place, removed or not, borrowed where it lies. None if it is missing.
+    /// Reads the text of a place, removed or not, without a copy; `None` if it is missing.
     ///
     /// ```
     /// # use fullercoral::{Limits, Memory, Schema, Table, row};
@@ -88,7 +88,7 @@ impl<E: Engine> Table<E> {
     /// ```
     ///
     /// # Errors
-    /// - `NoColumn`, `WrongKind`, `NoRow`: there is no such text.
+    /// - `NoColumn`, `WrongKind`, `NoRow`: there is no such column of texts, or no such place.
     /// - `Absent`: by [`Policy::Manual`](crate::Policy::Manual), its object is away.
     /// - `RegionFull`: there is no local memory to fetch it.
     pub fn text(
@@ -103,8 +103,8 @@ impl<E: Engine> Table<E> {
         Ok(text.map(|text| unsafe { text_of(text) }))
     }
 
-    /// The numbers of a range of places of a column, piece by piece: a piece for each row group. They
-    /// come through a buffer of the table.
+    /// Reads the numbers of a range of places piece by piece, one for each row group, into a buffer of
+    /// the table.
     ///
     /// ```
     /// # use fullercoral::{Limits, Memory, Schema, Table, row};
@@ -123,7 +123,7 @@ impl<E: Engine> Table<E> {
     /// ```
     ///
     /// # Errors
-    /// `NoColumn`, `WrongKind`, and `OutOfRange` if the range is not all there.
+    /// `NoColumn`, `WrongKind`, and `OutOfRange` if the range is not within the table.
     pub fn ints(
         &mut self,
         column: impl ColumnRef,
@@ -133,8 +133,8 @@ impl<E: Engine> Table<E> {
         Ok(Ints::new(self, column, from, to))
     }
 
-    /// The texts of a range of places of a column, piece by piece: a piece for each row group. They come
-    /// through a buffer of the table; [`text`](Table::text) borrows one where it lies.
+    /// Reads the texts of a range of places piece by piece, one for each row group, into a buffer of the
+    /// table; [`text`](Table::text) borrows one text without a copy.
     ///
     /// ```
     /// # use fullercoral::{Limits, Memory, Schema, Table, row};
@@ -154,7 +154,7 @@ impl<E: Engine> Table<E> {
     /// ```
     ///
     /// # Errors
-    /// `NoColumn`, `WrongKind`, and `OutOfRange` if the range is not all there.
+    /// `NoColumn`, `WrongKind`, and `OutOfRange` if the range is not within the table.
     pub fn texts(
         &mut self,
         column: impl ColumnRef,
@@ -196,7 +196,7 @@ impl<E: Engine> Table<E> {
         }
     }
 
-    /// Where the row group of a place ends.
+    /// The end of the row group of a place.
     pub(super) fn group_end(&self, place: u32) -> u32 {
         let group = self.limits.group;
         (place / group + 1).saturating_mul(group)
@@ -247,7 +247,7 @@ impl<E: Engine> Table<E> {
         })
     }
 
-    // Reads of a column, and fetches what is proposed next if it had to fetch.
+    // Reads from a column; if it had to fetch, it prefetches the proposals.
     fn read(
         &mut self,
         column: u32,

@@ -1,15 +1,15 @@
-//! Going on with new numbers of contents.
+//! Renews the content numbers.
 
 use super::Table;
 use crate::{Engine, Error, Refusal};
 
 impl<E: Engine> Table<E> {
-    /// Goes on with new numbers of contents, and frees what was noted of the old ones: some 56 bytes for
-    /// each that was ever put. What is away is read once, and all of it is held in memory meanwhile. What
-    /// the engine keeps stays where it is. Objects that are local need a put again when they are evicted.
+    /// Renews the content numbers, and frees the notes of the old ones: some 56 bytes for each content
+    /// ever put. It reads all contents that are away, and holds them in memory meanwhile. The engine's
+    /// contents stay unchanged. Local objects need a put again at their next eviction.
     ///
     /// The table does so by itself when the numbers of [`Limits::contents`](crate::Limits::contents) are
-    /// used up, if what is away fits half of the local memory.
+    /// used up, if the contents that are away fit half of the local memory.
     ///
     /// ```
     /// # use fullercoral::{Limits, Memory, Schema, Table, row};
@@ -22,8 +22,8 @@ impl<E: Engine> Table<E> {
     /// ```
     ///
     /// # Errors
-    /// All is as before then.
-    /// - `FarFault`, or the engine's error: what is away could not be read.
+    /// Nothing changes then.
+    /// - `FarFault`, or the engine's error: a content that is away could not be read.
     /// - `FarFull`: there are fewer numbers than objects that are away.
     /// - `NoMemory`.
     pub fn migrate(&mut self) -> Result<(), Error<E::Error>> {
@@ -37,8 +37,8 @@ impl<E: Engine> Table<E> {
         Ok(())
     }
 
-    /// Migrates when the numbers are used up. Refused with `FarFull` if that would take more than half of
-    /// the local memory, or gain no number.
+    /// Migrates when the numbers are used up. Refuses with `FarFull` if that would take more than half of
+    /// the local memory, or free no number.
     pub(super) fn renew(&mut self) -> Result<(), Error<E::Error>> {
         let away = self.away();
         let bytes: u64 = away.iter().map(|(_, _, len)| u64::from(*len)).sum();
@@ -54,7 +54,7 @@ impl<E: Engine> Table<E> {
         16 * of(limits.int_segments, limits.int_size) + of(limits.text_segments, limits.text_size)
     }
 
-    // The objects that are away, and how long their contents are.
+    // The objects that are away, and the lengths of their contents.
     fn away(&mut self) -> Vec<(u32, u32, u32)> {
         let mut away = Vec::new();
         for (column, group, copy) in self.copies.all() {
@@ -85,7 +85,7 @@ impl<E: Engine> Table<E> {
         self.outcome(delivered)
     }
 
-    // The copies of local objects are of no use after a migration.
+    // Forgets the copies of local objects, which are useless after a migration.
     fn forget_local_copies(&mut self) {
         for (column, group, copy) in self.copies.all() {
             if self

@@ -24,7 +24,7 @@ pub struct Row<'t> {
 }
 
 impl<'t> Row<'t> {
-    /// A row of cells that the library wrote.
+    /// Makes a row of cells that the library wrote.
     ///
     /// # Safety
     /// A call wrote the cells, and by rule 3 no other call with that handle is made within `'t`.
@@ -36,7 +36,7 @@ impl<'t> Row<'t> {
         }
     }
 
-    /// The cell of a column. None if there is no such column.
+    /// The cell of a column; `None` if there is no such column.
     ///
     /// ```
     /// # use fullercoral::{Cell, Limits, Memory, Schema, Table, row};
@@ -67,7 +67,7 @@ impl<'t> Row<'t> {
         RowIter(self.cells.iter())
     }
 
-    /// Whether the row was not removed. A removed row still has its cells.
+    /// Whether the row is alive. A removed row still has its cells.
     ///
     /// ```
     /// # use fullercoral::{Cell, Limits, Memory, Schema, Table, row};

@@ -1,12 +1,12 @@
-//! Space in the local region: what is evicted or compacted for it.
+//! Makes space in local memory by evictions and compactions.
 
 use super::Table;
 use crate::library::{Code, Library};
 use crate::sys::{FC_INT, FC_TEXT, fc_limits};
 use crate::{Cell, Engine, Error, Kind, Refusal, Schema};
 
-/// How many elements of the local region belong to objects, as far as the table knows: the rest of what
-/// is in use are gaps, which a compaction frees.
+/// How many elements of local memory belong to objects, as far as the table knows. All other elements in
+/// use are gaps, which a compaction frees.
 #[derive(Debug)]
 pub(super) struct Live {
     int_columns: u64,
@@ -14,7 +14,7 @@ pub(super) struct Live {
     /// Whether a segment holds several row groups of numbers, so that evictions leave gaps.
     ints_have_gaps: bool,
     has_texts: bool,
-    /// How many objects of numbers are away.
+    /// The number of objects of numbers that are away.
     away_ints: u64,
     /// An estimate, in bytes. A compaction corrects it.
     texts: u64,
@@ -43,7 +43,7 @@ impl Live {
         self.texts += bytes;
     }
 
-    /// An object went away whose content has this length.
+    /// Records the eviction of an object, whose content has this length.
     pub fn evicted(&mut self, kind: Option<Kind>, len: u32) {
         match kind {
             Some(Kind::Int) => self.away_ints += 1,
@@ -51,7 +51,7 @@ impl Live {
         }
     }
 
-    /// An object came back.
+    /// Records the fetch of an object.
     pub fn fetched(&mut self, kind: Option<Kind>, len: u32) {
         match kind {
             Some(Kind::Int) => self.away_ints = self.away_ints.saturating_sub(1),
@@ -76,7 +76,7 @@ impl Live {
     }
 }
 
-// How many elements of a kind are free, and how many there are.
+// How many elements of a kind are free, and how many there are in all.
 fn free_of(library: &mut Library, code: u32) -> (u64, u64) {
     let space = library.space(code);
     (
@@ -87,7 +87,7 @@ fn free_of(library: &mut Library, code: u32) -> (u64, u64) {
 
 impl<E: Engine> Table<E> {
     /// Takes one step towards more space: compacts the segments of a kind if an eighth of them are gaps,
-    /// else evicts the coldest object, else compacts whatever has gaps. Refused with `RegionFull` if
+    /// else evicts the coldest object, else compacts segments with any gaps. Refuses with `RegionFull` if
     /// there is no such step.
     pub(super) fn make_space(&mut self) -> Result<(), Error<E::Error>> {
         if self.compact_gaps(8) {
@@ -102,8 +102,7 @@ impl<E: Engine> Table<E> {
         Err(Refusal::RegionFull.into())
     }
 
-    // Compacts the kinds of which at least one in so many elements is in a gap. Returns whether that
-    // freed some.
+    // Compacts the kinds with at least one in `one_in` elements in a gap. Returns whether that freed some.
     fn compact_gaps(&mut self, one_in: u64) -> bool {
         let mut freed = false;
         for code in [FC_INT, FC_TEXT] {
@@ -119,7 +118,7 @@ impl<E: Engine> Table<E> {
         freed
     }
 
-    // Compacts the segments of a kind. Returns how many elements that freed.
+    // Compacts the segments of a kind. Returns how many elements it freed.
     fn compact_kind(&mut self, code: u32) -> u64 {
         let (before, all) = free_of(&mut self.library, code);
         let mut whole = true;
@@ -139,9 +138,9 @@ impl<E: Engine> Table<E> {
         after.saturating_sub(before)
     }
 
-    /// Compacts the local region: what is left behind evicted objects and rewritten texts becomes free.
-    /// By an automatic policy the table does so by itself. Returns how many bytes that freed. It needs
-    /// one empty segment, and does nothing without.
+    /// Compacts local memory: frees the gaps that evicted objects and rewritten texts leave. Returns how
+    /// many bytes it freed. An automatic policy calls it by itself. It needs one empty segment, and does
+    /// nothing without.
     ///
     /// ```
     /// # use fullercoral::{Limits, Memory, Schema, Table, row};

@@ -1,9 +1,9 @@
-//! What one call begins and ends, also if the engine panics meanwhile.
+//! Jobs and aggregates of one call, which end with it, also if the engine panics.
 
 use super::{Failure, Table};
 use crate::Engine;
 
-/// A job that one call begins and ends. Unless it ended, it is given up.
+/// A job that one call begins and ends. Dropping it before its end gives the job up.
 struct Work<'t, E: Engine> {
     table: &'t mut Table<E>,
     job: u64,
@@ -11,7 +11,7 @@ struct Work<'t, E: Engine> {
 }
 
 impl<E: Engine> Table<E> {
-    /// Does the work of a job that was begun. If it fails, or if the engine panics, the job is given up.
+    /// Does the work of a job that was begun. If it fails or the engine panics, it gives the job up.
     pub(super) fn work<T>(
         &mut self,
         job: u64,
@@ -36,7 +36,7 @@ impl<E: Engine> Drop for Work<'_, E> {
     }
 }
 
-/// An aggregate that is registered for one call, and forgotten with it.
+/// An aggregate that one call registers and forgets.
 pub(super) struct Passing<'t, E: Engine> {
     pub table: &'t mut Table<E>,
     pub number: u32,
@@ -57,7 +57,7 @@ mod tests {
 
     use crate::{Engine, Limits, Memory, Schema, Table, row, totals};
 
-    /// An engine that panics once it is told to.
+    /// An engine that panics when it is told to.
     #[derive(Default)]
     struct Panics {
         kept: Memory,
@@ -77,7 +77,7 @@ mod tests {
         type Error = Infallible;
 
         fn put(&mut self, number: u64, bytes: &[u8]) -> Result<(), Infallible> {
-            // What it keeps is left behind.
+            // The content stays in the engine.
             self.kept.put(number, bytes)?;
             self.call();
             Ok(())
@@ -110,7 +110,7 @@ mod tests {
 
         panics(&mut table, |table| drop(table.evict("n", 0)));
         panics(&mut table, |table| drop(table.evict_coldest()));
-        // What was put in vain is forgotten when the next job begins.
+        // Beginning the next job forgets the content that was put in vain.
         assert_eq!(table.engine().kept.len(), 1);
         table.evict("n", 0)?;
         assert_eq!(table.engine().kept.len(), 1);

@@ -1,4 +1,4 @@
-//! What tests share.
+//! Functions that tests share.
 #![allow(dead_code)]
 
 use fullercoral::{Constant, Extrema, Op, Schema, Spec, Totals, extrema, totals};
@@ -40,7 +40,7 @@ pub enum Handle {
     Extrema(Extrema),
 }
 
-/// A spec of the crate for a plain one.
+/// The crate's spec for a plain one.
 pub enum AnySpec {
     Totals(Spec<Totals>),
     Extrema(Spec<Extrema>),

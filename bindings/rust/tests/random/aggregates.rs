@@ -1,4 +1,4 @@
-//! Aggregates that come, go and answer.
+//! Registers, asks and forgets aggregates.
 
 use std::fmt::Debug;
 
@@ -97,7 +97,7 @@ where
         }
     }
 
-    // Each line of the answer is the one that an ask of its key alone gives.
+    // Compares each line of the answer with the answer of `ask_key`.
     fn ask_keys(&mut self, number: usize, handle: Handle) {
         let table = &mut self.table;
         self.plain
@@ -111,7 +111,7 @@ where
                     assert_eq!((line.min, line.max), (due.min, due.max));
                 }
             });
-        // Of an aggregate by texts no row has this key; any other refuses it.
+        // An aggregate by texts has no row with this key; any other aggregate refuses it.
         let absent = fullercoral::Key::Text("\u{1}no key");
         let found = match handle {
             Handle::Totals(it) => table.ask_key(it, absent).map(|line| line.is_some()),

@@ -1,4 +1,4 @@
-//! Random operations on a table and on a plain one, each reply compared.
+//! Makes random operations on a table and on a plain one, and compares each reply.
 
 use std::collections::HashSet;
 use std::env;
@@ -22,7 +22,7 @@ use common::{Handle, Random};
 
 const GROUP: u32 = 16;
 
-/// How many operations a run has: 100,000, or as many as the environment says.
+/// The operations of a run: 100,000, or as many as the environment says.
 fn operations() -> u32 {
     let said = env::var("FULLERCORAL_OPERATIONS").ok();
     said.and_then(|said| said.parse().ok()).unwrap_or(100_000)
@@ -32,21 +32,21 @@ fn schema() -> Schema {
     Schema::new().int("a").text("b").int("c").text("d").int("e")
 }
 
-/// A table and a plain one that are given the same operations.
+/// A table and a plain one, with the same operations.
 struct Run<E: Engine> {
     table: Table<E>,
     plain: Plain,
     random: Random,
     /// The aggregates, by the plain table's numbers.
     watched: Vec<Option<Handle>>,
-    /// The objects that are away, if the policy is manual: then only this run moves them.
+    /// The objects that are away, if the policy is manual, so that only this run moves them.
     away: HashSet<(u32, u32)>,
     /// Whether the engine may fail.
     faulty: bool,
     faults: u64,
 }
 
-/// What a call came to: a value, the number of a refusal, or a fault of the engine.
+/// The result of a call: a value, the number of a refusal, or a fault of the engine.
 #[derive(Debug, PartialEq)]
 enum Reply<T> {
     Value(T),
@@ -61,7 +61,7 @@ where
     fn new(engine: E, policy: Policy, faulty: bool, seed: u64) -> Run<E> {
         let schema = schema();
         let kinds: Vec<Kind> = schema.iter().map(|(_, kind)| kind).collect();
-        // Some 25 of 94 row groups are local; by hand all of them could be.
+        // Some 25 of 94 row groups can be local; with the manual policy all of them.
         let bytes = if policy == Policy::Manual {
             1 << 20
         } else {
@@ -85,7 +85,7 @@ where
         self.table.policy() == Policy::Manual
     }
 
-    /// The reply of a call. A fault may come only of an engine that has some.
+    /// The reply of a call. Only a faulty engine may fail.
     fn reply<T>(&mut self, result: Result<T, Error<E::Error>>) -> Reply<T> {
         match result {
             Ok(value) => Reply::Value(value),
@@ -104,7 +104,7 @@ where
         }
     }
 
-    /// The refusal of an edit of a row group of which an object is away.
+    /// The refusal of an edit in a row group with an object that is away.
     fn absent(&self, group: u32) -> Option<u32> {
         let away = (0..5).any(|column| self.away.contains(&(column, group)));
         (self.manual() && away).then_some(16)
@@ -131,7 +131,7 @@ where
         }
     }
 
-    /// Reads all cells and asks all aggregates, with an engine that is right again.
+    /// Reads all cells and asks all aggregates, over an engine without faults.
     fn compare_all(&mut self) {
         self.table.set_policy(Policy::Demand);
         for place in 0..self.plain.len() {
@@ -171,7 +171,7 @@ where
     run
 }
 
-/// An engine that does each fault in 3 of a hundred calls, delays aside.
+/// An engine with each fault in 3 of a hundred calls, without delays.
 fn faulty(seed: u64) -> Faulty<Memory> {
     let kinds = Fault::ALL
         .iter()

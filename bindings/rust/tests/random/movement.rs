@@ -1,4 +1,4 @@
-//! Objects that are evicted and fetched, in one call or in phases.
+//! Evicts and fetches objects, in one call or in phases.
 
 use std::fmt::Debug;
 

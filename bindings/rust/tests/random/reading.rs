@@ -1,4 +1,4 @@
-//! Rows and parts of columns.
+//! Reads rows and ranges of columns.
 
 use std::fmt::Debug;
 

@@ -1,4 +1,4 @@
-//! Edits of the plain table, and why they are refused.
+//! Edits of the plain table, and their refusals.
 
 use fullercoral::{Kind, Refusal};
 
@@ -9,7 +9,7 @@ fn is_long(cell: &Owned) -> bool {
     cell.text().is_some_and(|text| text.len() > LONGEST)
 }
 
-/// How many bytes an object of these texts takes.
+/// The bytes of an object of these texts.
 fn text_len<'a>(texts: impl ExactSizeIterator<Item = &'a Owned> + Clone) -> u64 {
     let count = texts.len() as u64;
     let has_missing = texts.clone().any(|text| *text == Owned::Missing);
@@ -57,7 +57,7 @@ impl Model {
         self.place_refusal(place)
     }
 
-    /// There is no such place.
+    /// The refusal of a place that does not exist.
     pub fn no_row(&self, place: u32) -> Refusal {
         let places = self.places();
         Refusal::NoRow { place, places }
@@ -72,7 +72,7 @@ impl Model {
         }
     }
 
-    // How long an object is once one of its places has this cell.
+    // The length of an object after one of its cells is set to this one.
     fn len_with(&self, column: usize, place: u32, cell: &Owned) -> u64 {
         if self.kinds[column] == Kind::Int {
             return self.group.into();
@@ -88,7 +88,7 @@ impl Model {
         text_len(cells.into_iter())
     }
 
-    /// How long an object is.
+    /// The length of an object.
     pub fn len(&self, column: usize, group: u32) -> u64 {
         if self.kinds[column] == Kind::Int {
             return self.group.into();
@@ -96,7 +96,7 @@ impl Model {
         text_len(self.places_of(group).map(|place| &self.rows[place][column]))
     }
 
-    /// The objects that a write of these cells places anew, and how long they are then.
+    /// The objects that a write of these cells moves, and their new lengths.
     fn placed(&self, place: u32, cells: &[(usize, &Owned)]) -> Vec<(usize, u64)> {
         let is_new = place / self.group == self.groups();
         let is_placed =
@@ -107,7 +107,7 @@ impl Model {
             .collect()
     }
 
-    /// Refused if the texts of a row group would not fit a segment.
+    /// Refuses a write after which the texts of a row group would not fit a segment.
     pub fn chunk_refusal(&self, place: u32, cells: &[(usize, &Owned)]) -> Result<(), Refusal> {
         let is_too_long = |(column, len): &(usize, u64)| *len > self.region(*column).size;
         if self.placed(place, cells).iter().any(is_too_long) {
@@ -116,7 +116,7 @@ impl Model {
         Ok(())
     }
 
-    /// Refused if there is no space for what a write places, or no edit is left.
+    /// Refuses a write if there is no space for its objects, or no edit left.
     pub fn space_refusal(&mut self, place: u32, cells: &[(usize, &Owned)]) -> Result<(), Refusal> {
         let mut parts = Vec::new();
         let is_placed = self.is_placed;
@@ -137,7 +137,7 @@ impl Model {
         self.edit_refusal()
     }
 
-    /// Refused if no edit is left.
+    /// Refuses an edit if no edit is left.
     pub fn edit_refusal(&self) -> Result<(), Refusal> {
         if self.edits == self.most_edits {
             return Err(Refusal::EditsUsedUp);
@@ -145,7 +145,7 @@ impl Model {
         Ok(())
     }
 
-    /// Writes cells of a place. False if the objects' parts were known and there was no space.
+    /// Writes cells of a place. Returns false if the model knows the objects' parts and finds no space.
     fn write(&mut self, place: u32, cells: &[(usize, &Owned)]) -> bool {
         let group = (place / self.group) as usize;
         let is_placed = self.is_placed;
@@ -172,7 +172,7 @@ impl Model {
         true
     }
 
-    /// Appends a row that is not refused. False as `write`.
+    /// Appends a row that is not refused. Returns the result of `write`.
     pub fn insert(&mut self, row: &[Owned]) -> bool {
         let cells: Vec<(usize, &Owned)> = row.iter().enumerate().collect();
         let fits = self.write(self.places(), &cells);
@@ -181,14 +181,14 @@ impl Model {
         fits
     }
 
-    /// Sets a cell that is not refused. False as `write`.
+    /// Sets a cell that is not refused. Returns the result of `write`.
     pub fn set(&mut self, column: usize, place: u32, cell: &Owned) -> bool {
         let fits = self.write(place, &[(column, cell)]);
         self.rows[place as usize][column] = cell.clone();
         fits
     }
 
-    /// Removes a row that is there.
+    /// Removes a live row.
     pub fn remove(&mut self, place: u32) {
         self.alive[place as usize] = false;
         self.edits += 1;

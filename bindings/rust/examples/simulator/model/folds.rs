@@ -1,4 +1,4 @@
-//! Answers of aggregates, folded anew from the rows.
+//! Answers of aggregates, computed from all rows.
 
 use std::collections::BTreeMap;
 

@@ -1,6 +1,6 @@
-//! A plain table, with what decides whether its calls are refused: which objects are local and where
-//! they lie, pins, and how many edits, jobs and contents there were. It is written apart from the
-//! library and shares nothing with it.
+//! A plain table, with the state that decides refusals: which objects are local and where they are, pins,
+//! and the counts of edits, jobs and contents. It was written independently of the library and shares no
+//! code with it.
 
 use fullercoral::{Kind, Refusal};
 
@@ -18,9 +18,9 @@ pub use region::Region;
 
 /// The longest text.
 const LONGEST: usize = 4_096;
-/// How many edits and jobs there may be if nothing is said.
+/// The default limit of edits and jobs.
 const MOST_EDITS: u64 = 1 << 40;
-/// How many numbers of contents there are if nothing is said.
+/// The default limit of content numbers.
 const MOST_CONTENTS: u64 = 1 << 32;
 
 /// The plain table.
@@ -42,9 +42,9 @@ pub struct Model {
     pub edits: u64,
     pub begun: u64,
     pub contents: u64,
-    /// Whether `begun` and `contents` are known: not once the table moved objects by itself.
+    /// Whether `begun` and `contents` are known: not after the table moved objects by itself.
     pub is_counted: bool,
-    /// Whether the parts of objects are known: not once the table moved objects by itself.
+    /// Whether the parts of objects are known: not after the table moved objects by itself.
     pub is_placed: bool,
     /// Whether it is known which objects are hot.
     pub is_heat_known: bool,
@@ -82,7 +82,7 @@ impl Model {
         self.places().div_ceil(self.group)
     }
 
-    /// The places of a row group that are there.
+    /// The used places of a row group.
     pub fn places_of(&self, group: u32) -> std::ops::Range<usize> {
         let from = group * self.group;
         from as usize..self.places().min(from + self.group) as usize
@@ -102,7 +102,7 @@ impl Model {
         }
     }
 
-    /// Refused if there is no such column.
+    /// Refuses a column that does not exist.
     pub fn column(&self, column: usize) -> Result<(), Refusal> {
         if column < self.kinds.len() {
             return Ok(());
@@ -113,7 +113,7 @@ impl Model {
         })
     }
 
-    /// Refused if an object of one of these columns of a row group is away.
+    /// Refuses a row group if one of its objects in these columns is away.
     pub fn all_local(
         &self,
         mut columns: impl Iterator<Item = usize>,
@@ -128,14 +128,14 @@ impl Model {
         }
     }
 
-    /// A value, a constant or a question is of another kind than a column.
+    /// The refusal of a value, a constant or a question of the wrong kind for a column.
     pub fn wrong_kind(&self, column: usize) -> Refusal {
         let kind = self.kinds[column];
         let column = name(column).into();
         Refusal::WrongKind { column, kind }
     }
 
-    /// Why an aggregate is refused, but for how many there are.
+    /// Why an aggregate is refused, apart from the limit of aggregates.
     pub fn folding_refusal(&self, folding: &Folding) -> Result<(), Refusal> {
         use fullercoral::Constant::{Int, Text};
         let is_long = |constant: &fullercoral::Constant| matches!(constant, Text(text) if text.len() > LONGEST);
@@ -174,7 +174,7 @@ impl Model {
     }
 }
 
-/// The regions that the crate makes of the limits of a table.
+/// The regions that the crate makes from the limits of a table.
 fn regions(setup: &Setup) -> (Region, Region) {
     let columns = setup.kinds.len();
     let of_texts = setup

@@ -1,4 +1,4 @@
-//! Objects: what is local, and what a job of them rests on.
+//! Objects: which are local, and the state that their jobs depend on.
 
 use fullercoral::{Kind, Refusal};
 
@@ -9,9 +9,9 @@ use super::region::Part;
 #[derive(Debug, Clone)]
 pub struct Object {
     pub local: bool,
-    /// Where it lies, if it is local and that is known.
+    /// Its part of local memory, if it is local and the part is known.
     pub part: Option<Part>,
-    /// Whether the far side lacks it as it is now, if that is known.
+    /// Whether the far side lacks its current content, if that is known.
     pub dirty: Option<bool>,
     pub hot: bool,
     pub pins: u32,
@@ -41,21 +41,21 @@ impl Object {
         self.version += 1;
     }
 
-    /// What a job of it rests on.
+    /// The state that a job of it depends on.
     pub fn state(&self) -> (u64, u64) {
         (self.version, self.leavings)
     }
 }
 
 impl Model {
-    /// The object of a row group of a column. Refused if there is none.
+    /// The object of a column and a row group. Refuses one that does not exist.
     pub fn object(&self, column: usize, group: u32) -> Result<&Object, Refusal> {
         self.column(column)?;
         let object = self.objects[column].get(group as usize);
         object.ok_or(self.no_group(group))
     }
 
-    /// There is no such row group.
+    /// The refusal of a row group that does not exist.
     pub fn no_group(&self, group: u32) -> Refusal {
         let groups = self.groups();
         Refusal::NoGroup { group, groups }
@@ -65,7 +65,7 @@ impl Model {
         &mut self.objects[column][group as usize]
     }
 
-    /// Refused if no job is left.
+    /// Refuses a job if no job is left.
     pub fn begin_refusal(&self) -> Result<(), Refusal> {
         if self.is_counted && self.begun >= self.most_edits {
             return Err(Refusal::EditsUsedUp);
@@ -73,12 +73,12 @@ impl Model {
         Ok(())
     }
 
-    /// Whether the next content that is put has no number left, as far as that is known.
+    /// Whether no number is left for the next content, as far as that is known.
     pub fn may_be_full(&self) -> bool {
         self.contents >= self.capacity || !self.is_counted && self.capacity < super::MOST_CONTENTS
     }
 
-    /// An object goes away.
+    /// Evicts an object.
     pub fn leave(&mut self, column: usize, group: u32) {
         let object = self.object_mut(column, group);
         object.local = false;
@@ -89,7 +89,7 @@ impl Model {
         }
     }
 
-    /// Whether there is space for an object that comes back, as far as that is known.
+    /// Whether there is space to fetch an object, as far as that is known.
     pub fn has_space_for(&mut self, column: usize, group: u32) -> bool {
         let len = self.len(column, group);
         if !self.is_placed {
@@ -102,7 +102,7 @@ impl Model {
             == 1
     }
 
-    /// An object comes back. False if the parts were known and there was no space.
+    /// Fetches an object. Returns false if the parts are known and there is no space.
     pub fn arrive(&mut self, column: usize, group: u32) -> bool {
         let len = self.len(column, group);
         let part = if self.is_placed {
@@ -118,7 +118,7 @@ impl Model {
         fits
     }
 
-    /// The table went on with new numbers.
+    /// Records that the table renewed its content numbers.
     pub fn migrated(&mut self) {
         let objects = self.objects.iter_mut().flatten();
         objects.for_each(|object| object.dirty = Some(object.local));
@@ -131,7 +131,7 @@ impl Model {
         objects.filter(|object| !object.local).count() as u64
     }
 
-    /// Compacts all segments of both kinds, as far as there is an empty one. Returns how many bytes that
+    /// Compacts all segments of both kinds, as far as there is an empty one. Returns how many bytes it
     /// freed.
     pub fn compact(&mut self) -> u64 {
         let ints = if self.kinds.contains(&Kind::Int) {
@@ -153,7 +153,7 @@ impl Model {
             .collect();
         let before = self.region(columns[0]).used();
         for segment in 0..self.region(columns[0]).segments() {
-            let Some(free) = self.region(columns[0]).free_beside(segment) else {
+            let Some(free) = self.region(columns[0]).other_free(segment) else {
                 break;
             };
             self.compact_segment(&columns, segment, free);
@@ -161,7 +161,7 @@ impl Model {
         before.saturating_sub(self.region(columns[0]).used())
     }
 
-    // Moves the parts of a segment into an empty one: those of hot objects first, else in their order.
+    // Moves the parts of a segment into an empty one: hot objects first, otherwise in their order.
     fn compact_segment(&mut self, columns: &[usize], segment: usize, free: usize) {
         let mut moved = Vec::new();
         for column in columns {
@@ -181,7 +181,7 @@ impl Model {
         }
     }
 
-    /// The parts of objects are not known any more.
+    /// Forgets the parts of objects.
     pub fn lose_places(&mut self) {
         self.is_placed = false;
         let objects = self.objects.iter_mut().flatten();

@@ -1,10 +1,10 @@
-//! What reads of the plain table return, as texts.
+//! Reads of the plain table, as the texts of replies.
 
 use fullercoral::{Cell, Kind, Refusal};
 
 use super::Model;
 
-/// A refusal as the text that a reply has.
+/// A refusal as the text of a reply.
 pub fn refused(refusal: &Refusal) -> String {
     format!("refused {} {refusal}", refusal.number())
 }
@@ -45,7 +45,7 @@ impl Model {
         format!("{} {cells:?} {alive:?}\n", places.start)
     }
 
-    /// Takes note that a row group of a column was read.
+    /// Records that a row group of a column was read.
     pub fn was_read(&mut self, column: usize, group: u32) {
         self.object_mut(column, group).hot = true;
         let lent = &mut self.lent[column];
@@ -55,8 +55,7 @@ impl Model {
         }
     }
 
-    /// The row groups to be fetched next: those that come next if the last four reads lie equally far
-    /// apart.
+    /// The row groups to prefetch: the next ones of the stride, if the last four reads have one.
     pub fn proposals(&self, column: usize) -> Vec<u32> {
         let lent: Vec<i64> = self.lent[column]
             .iter()
@@ -74,9 +73,9 @@ impl Model {
         there.map(|group| group as u32).collect()
     }
 
-    /// Whether each kind has segments for all objects of a row group and what is pinned, and for texts
-    /// as many again, since a row's are placed beside those that they replace: then an automatic policy
-    /// finds space for whatever a call needs.
+    /// Whether each kind has segments for all objects of a row group and all pinned ones, and for texts
+    /// twice as many, since an edit writes new texts before it frees the old ones. An automatic policy
+    /// then finds space for whatever a call needs.
     pub fn is_spacious(&self) -> bool {
         let spacious = |(kind, beside): (Kind, usize)| {
             let of_kind = |column: &usize| self.kinds[*column] == kind;

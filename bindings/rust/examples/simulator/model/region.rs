@@ -1,6 +1,6 @@
-//! Where objects lie in the local region.
+//! The parts of local memory that objects have.
 
-/// Where an object lies.
+/// The part of a segment that an object has.
 #[derive(Debug, Clone, Copy, PartialEq, Eq)]
 pub struct Part {
     pub segment: usize,
@@ -8,7 +8,7 @@ pub struct Part {
     pub len: u64,
 }
 
-/// The segments of one kind, which have one size. Each has parts by ascending offset.
+/// The segments of one kind, all of one size. Each has its parts by ascending offset.
 #[derive(Debug, Clone)]
 pub struct Region {
     pub size: u64,
@@ -27,7 +27,7 @@ impl Region {
         self.segments.len()
     }
 
-    // Where the last part of a segment ends.
+    // The end of the last part of a segment.
     fn end(&self, segment: usize) -> u64 {
         let last = self.segments[segment].last();
         last.map_or(0, |part| part.offset + part.len)
@@ -39,14 +39,14 @@ impl Region {
             .sum()
     }
 
-    /// Makes a part in the lowest segment that has space behind its last part.
+    /// Allocates a part in the lowest segment with space after its last part.
     pub fn place(&mut self, len: u64) -> Option<Part> {
         let fits = |segment: &usize| self.end(*segment) + len <= self.size;
         let segment = (0..self.segments.len()).find(fits)?;
         Some(self.append(segment, len))
     }
 
-    /// Makes a part behind the last one of a segment.
+    /// Allocates a part after the last one of a segment.
     pub fn append(&mut self, segment: usize, len: u64) -> Part {
         let offset = self.end(segment);
         let part = Part {
@@ -58,13 +58,13 @@ impl Region {
         part
     }
 
-    /// Takes a part away. What lies behind it stays where it is.
+    /// Frees a part. The parts after it stay where they are.
     pub fn drop(&mut self, part: Part) {
         self.segments[part.segment].retain(|other| *other != part);
     }
 
     /// The lowest other segment without parts.
-    pub fn free_beside(&self, segment: usize) -> Option<usize> {
+    pub fn other_free(&self, segment: usize) -> Option<usize> {
         (0..self.segments.len()).find(|other| *other != segment && self.segments[*other].is_empty())
     }
 }

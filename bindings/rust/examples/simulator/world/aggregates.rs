@@ -1,4 +1,4 @@
-//! Aggregates that come, go and answer.
+//! Registers, asks and forgets aggregates.
 
 use std::collections::BTreeSet;
 
@@ -8,10 +8,10 @@ use super::{Checked, World};
 use crate::call::{AnySpec, Call, Folding};
 use crate::repeat::{Down, told};
 
-/// How many aggregates there are at most.
+/// The limit of aggregates.
 const MOST: usize = 32;
 
-/// An aggregate that was registered, and may be forgotten since.
+/// An aggregate that was registered, and perhaps forgotten since.
 pub struct Watched {
     pub handle: Handle,
     pub folding: Folding,
@@ -117,7 +117,8 @@ impl World {
         self.take_over_pending(id)
     }
 
-    // After an ask by an automatic policy the row groups before the first that failed are scanned.
+    // Updates the pending row groups after an ask with an automatic policy, which builds those before the
+    // first that fails.
     fn take_over_pending(&mut self, id: u32) -> Checked {
         let Some(watched) = self.aggregates.get_mut(&id) else {
             return Ok(());
@@ -192,7 +193,7 @@ impl World {
         Ok(())
     }
 
-    // Why a row group cannot be built from copies, and whether that is known.
+    // Why a row group cannot be built from copies, and whether the model knows that.
     pub fn build_refusal(&self, id: u32, group: u32) -> (Result<(), Refusal>, bool) {
         if let Err(refusal) = self.pending_refusal(id, group) {
             return (Err(refusal), true);
@@ -223,7 +224,7 @@ impl World {
     }
 }
 
-/// The reply of a call of an engine as one of a table.
+/// Converts the reply of an engine to a reply of a table.
 pub fn of_engine(result: Result<(), Down>) -> Result<(), Error<Down>> {
     result.map_err(Error::Engine)
 }

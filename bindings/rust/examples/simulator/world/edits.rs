@@ -17,7 +17,7 @@ impl World {
         }
     }
 
-    // The place of a row, or why it is refused.
+    // The place of a row to insert, or why it is refused.
     fn insert_due(&mut self, row: &[Owned]) -> Result<String, Refusal> {
         let model = &mut self.model;
         model.row_refusal(row)?;
@@ -44,7 +44,7 @@ impl World {
         Ok(())
     }
 
-    // Rows by columns: those before the one that is refused stay.
+    // Inserts rows by columns: the rows before a refused one stay.
     fn extend(&mut self, columns: &[Vec<Owned>]) -> Checked {
         if let Err(refusal) = self.shape_refusal(columns) {
             let came = self.extended(columns);
@@ -72,7 +72,7 @@ impl World {
             }
         }
         if moved {
-            // (an object that these rows began may be away already)
+            // (an object that begins with these rows may be away already)
             self.take_over(true, false);
         }
         let due = if inserted == rows {
@@ -83,7 +83,7 @@ impl World {
         self.settle(&came, due, &may).map(drop)
     }
 
-    // Why columns are refused before any row.
+    // Why columns are refused before any row is inserted.
     fn shape_refusal(&self, columns: &[Vec<Owned>]) -> Result<(), Refusal> {
         let (cells, due) = (columns.len(), self.model.kinds.len());
         if cells != due {
@@ -98,7 +98,7 @@ impl World {
             Some(column) => Err(Refusal::BadArgument {
                 column: name(column).into(),
                 row: rows.min(columns[column].len()),
-                rule: "all columns have one length",
+                rule: "all columns must have one length",
             }),
         }
     }
@@ -160,7 +160,7 @@ pub enum RawColumn {
 }
 
 impl RawColumn {
-    /// A column of these cells. Those of the other kind are left out, as missing.
+    /// Makes a column of these cells. Cells of the other kind become missing.
     pub fn of(kind: Kind, cells: &[Owned]) -> RawColumn {
         if kind == Kind::Int {
             let values = cells.iter().map(|cell| cell.int().unwrap_or(0)).collect();

@@ -1,5 +1,4 @@
-//! A table over the far side beside the plain one: each call is given to both, and their replies are
-//! compared.
+//! A table over the far side, and the plain table: makes each call on both, and compares their replies.
 
 use std::collections::BTreeMap;
 use std::sync::{Arc, Mutex, MutexGuard, PoisonError};
@@ -20,17 +19,17 @@ mod reading;
 use aggregates::Watched;
 use phases::Job;
 
-/// A reply that should have been another one.
+/// A wrong reply.
 #[derive(Debug, Clone, PartialEq, Eq)]
 pub struct Wrong {
     pub due: String,
     pub came: String,
-    /// Whether it is the reply of the last call; else it is what the table has since.
+    /// Whether the reply of the last call is wrong, or else the table's state after it.
     pub is_reply: bool,
 }
 
 impl Wrong {
-    /// What the table has is not what it should have.
+    /// The table's state is wrong.
     pub fn state(due: impl Into<String>, came: impl Into<String>) -> Wrong {
         Wrong {
             due: due.into(),
@@ -42,10 +41,10 @@ impl Wrong {
 
 pub type Checked = Result<(), Wrong>;
 
-/// How the reply of a call begins that was given other bytes than were put.
+/// The prefix of the reply of a call that got other bytes than were put.
 const FAULT: &str = "refused 21 ";
 
-/// Both tables, and what they lend: aggregates and jobs, by the number of the step that made them.
+/// Both tables, with their aggregates and jobs by the number of the step that made them.
 pub struct World {
     table: Table<Store>,
     far: Arc<Mutex<Far>>,
@@ -54,7 +53,8 @@ pub struct World {
     pub jobs: BTreeMap<u32, Job>,
     pub policy: Policy,
     before: Stats,
-    /// Which replies came, as `told` by their first words, and how often another than the one due.
+    /// How often each call got each reply: a value, a refusal's number or a failure, with a note if the
+    /// plain table did not expect it.
     pub replies: BTreeMap<(String, String), u64>,
     call: String,
 }
@@ -64,7 +64,7 @@ impl World {
         let far = Arc::new(Mutex::new(Far::default()));
         let engine = Retry::new(Arc::clone(&far), setup.tries).pause(Duration::ZERO);
         let opened = Table::open(setup.schema(), setup.limits(), engine);
-        let mut table = opened.expect("the limits are those of a table");
+        let mut table = opened.expect("the limits are valid");
         table.set_policy(setup.policy);
         let before = table.stats();
         World {
@@ -100,8 +100,8 @@ impl World {
         self.policy == Policy::Manual
     }
 
-    /// Gives both tables a call, and looks at all objects then. A call with an aggregate or a job that
-    /// is not there does nothing.
+    /// Makes a call on both tables, and then compares all objects. A call with an aggregate or a job that
+    /// does not exist does nothing.
     pub fn apply(&mut self, step: &Step) -> Checked {
         self.far().behave(step.mood);
         self.before = self.table.stats();
@@ -142,8 +142,8 @@ impl World {
         self.model.is_counted &= self.is_manual();
     }
 
-    // Compares a reply with the one that is due, if the far side did what it should. Returns whether
-    // the call did what it is for. `may` has the refusals that are right too.
+    // Compares a reply with the expected one, if the far side had no fault. Returns whether the call
+    // succeeded. `may` has refusals that are right too.
     fn settle(
         &mut self,
         came: &str,
@@ -153,7 +153,7 @@ impl World {
         self.settle_some(came, due, may, false)
     }
 
-    // The same. A call that is `lenient` may succeed though the far side was at fault: it fetched ahead.
+    // The same. A `lenient` call may succeed despite a fault of the far side, in a prefetch.
     fn settle_some(
         &mut self,
         came: &str,
@@ -172,7 +172,7 @@ impl World {
             (_, true) => FAULT.to_owned(),
             _ => due.clone(),
         };
-        // (which of its contents was wrong, the far side does not say)
+        // (the far side does not say which content was wrong)
         let is_fault = expected.starts_with(FAULT) && came.starts_with(FAULT);
         if came == expected || is_fault || lenient && came == due {
             self.count(came, "");
@@ -191,21 +191,21 @@ impl World {
         })
     }
 
-    // Whether the last call of the far side failed, and whether one lied. Wrong if it was not used as it
-    // should be.
+    // Whether the last call of the far side failed, and whether one returned wrong bytes. Wrong if the table
+    // broke the rules of engines.
     fn harm(&self) -> Result<(bool, bool), Wrong> {
         let far = self.far();
         let forgotten = far.asked_forgotten.then_some("a number that was forgotten");
         match far.misuse.or(forgotten) {
             Some(misuse) => Err(Wrong::state(
-                "an engine that is used as it should be",
+                "a table that keeps the rules of engines",
                 misuse,
             )),
             None => Ok((far.failed, far.lied)),
         }
     }
 
-    // Refusals that are right though the plain table knows nothing of them.
+    // Refusals that are right although the plain table cannot predict them.
     fn may(&self) -> Vec<u32> {
         let mut may = Vec::new();
         if self.is_manual() {
@@ -223,7 +223,7 @@ impl World {
         may
     }
 
-    // Takes over where objects are, after a call that may have moved them by itself.
+    // Copies the state of objects from the table, after a call that may have moved some by itself.
     fn sync(&mut self) {
         let (before, now) = (self.before, self.table.stats());
         self.before = now;
@@ -246,7 +246,7 @@ impl World {
         self.take_over(evicted, migrated);
     }
 
-    // Takes over which objects are local, after some were evicted or all have new numbers.
+    // Copies which objects are local, after evictions or a renewal.
     fn take_over(&mut self, evicted: bool, migrated: bool) {
         for column in 0..self.model.kinds.len() {
             for group in 0..self.model.objects[column].len() {
@@ -264,7 +264,7 @@ impl World {
         }
     }
 
-    // Whether places, objects and the space in use are those of the plain table.
+    // Compares places, objects and the space in use with the plain table.
     fn look(&mut self) -> Checked {
         let (places, due) = (self.table.places(), self.model.places());
         if places != due {
@@ -292,7 +292,7 @@ impl World {
     }
 }
 
-// A complaint that the parts of objects are not where they should be.
+// The complaint that the model has no space for an object.
 fn no_space() -> Wrong {
     Wrong::state("a refusal with number 17", "success")
 }

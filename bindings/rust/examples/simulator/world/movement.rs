@@ -1,4 +1,4 @@
-//! Objects that are evicted and fetched in one call, pins, compactions and migrations.
+//! Evicts and fetches objects in one call, and pins, compacts and migrates.
 
 use fullercoral::{Pinned, Refusal};
 
@@ -21,7 +21,7 @@ impl World {
         }
     }
 
-    // Why an eviction does not begin.
+    // Why an eviction is refused.
     pub fn evict_refusal(&self, column: usize, group: u32) -> Result<(), Refusal> {
         if !self.model.object(column, group)?.local {
             let column = name(column).into();
@@ -30,8 +30,8 @@ impl World {
         self.model.begin_refusal()
     }
 
-    // Counts an eviction that was begun and carried: one that has no number left goes on with new ones
-    // and begins again, or is refused.
+    // Counts an eviction that was begun and carried. Without a number left, the table renews the numbers
+    // and begins again, or refuses.
     pub fn count_carried(&mut self, column: usize, group: u32, migrations: u64) {
         self.model.begun += 1;
         if self.before.migrations != migrations {
@@ -42,7 +42,7 @@ impl World {
         }
     }
 
-    // The refusals that are right of an eviction, besides the one that is due.
+    // The refusals of an eviction that are right besides the expected one.
     pub fn may_of_eviction(&self, column: usize, group: u32) -> Vec<u32> {
         let object = self.model.object(column, group);
         let puts = object.is_ok_and(|object| object.dirty != Some(false));
@@ -72,7 +72,7 @@ impl World {
         Ok(())
     }
 
-    // Whether there may be no object to evict: the kind that has less space has none without a pin.
+    // Whether there may be no object to evict: the kind with less space has none without a pin.
     fn may_have_no_coldest(&self) -> bool {
         [fullercoral::Kind::Int, fullercoral::Kind::Text]
             .iter()
@@ -115,13 +115,13 @@ impl World {
             self.model.leave(column, group);
         } else if begins {
             self.model.begun += 1;
-            // (whether the one that failed was put is not known)
+            // (a failed put may have been kept)
             self.model.contents += 1;
         }
         Ok(())
     }
 
-    // Why a fetch does not begin.
+    // Why a fetch is refused.
     pub fn fetch_refusal(&self, column: usize, group: u32) -> Result<(), Refusal> {
         if self.model.object(column, group)?.local {
             let column = name(column).into();

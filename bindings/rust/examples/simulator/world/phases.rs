@@ -1,4 +1,4 @@
-//! Movement in phases, between which other calls come.
+//! Moves objects in phases, with other calls between.
 
 use fullercoral::{Incoming, Outgoing, Refusal, Stored};
 
@@ -7,13 +7,13 @@ use super::{Checked, World, Wrong, no_space};
 use crate::call::{Call, name};
 use crate::repeat::{told, told_of};
 
-/// What an object was when a job of it began: how often it was written, and how often it went away.
+/// The state of an object when its job began: how often it was written, and how often evicted.
 type State = (u64, u64);
 
 /// A job that was begun.
 pub struct Job {
     work: Work,
-    /// The table went on with new numbers since.
+    /// The table renewed its numbers since, which ended the job.
     is_over: bool,
     /// The table moved objects by itself since, so it may be stale.
     is_unsure: bool,
@@ -22,7 +22,7 @@ pub struct Job {
 enum Work {
     Evict {
         eviction: Eviction,
-        /// What goes away, if it is known: not of the coldest object.
+        /// The object to evict, if it is known: not for the coldest.
         object: Option<(usize, u32, State)>,
     },
     Fetch {
@@ -46,7 +46,7 @@ enum Eviction {
 }
 
 impl Eviction {
-    // One whose content the far side has already needs no put.
+    // An eviction whose content the far side has already needs no put.
     fn new(outgoing: Outgoing) -> Eviction {
         match outgoing.content() {
             Some(_) => Eviction::Begun(outgoing),
@@ -68,7 +68,7 @@ impl Job {
         matches!(self.work, Work::Evict { .. })
     }
 
-    /// Whether the far side has its content, or it has those of the far side.
+    /// Whether its contents were put or got.
     pub fn is_ready(&self) -> bool {
         match self.work {
             Work::Evict { ref eviction, .. } => matches!(eviction, Eviction::Stored(_)),
@@ -193,7 +193,7 @@ impl World {
         Ok(())
     }
 
-    // What a build rests on: the cells of its columns, and which rows there are.
+    // The state that a build depends on: the writes of its columns, and which rows are alive.
     fn rests_on(&self, of: u32, group: u32) -> (Vec<u64>, Vec<bool>) {
         let columns = self.aggregates[&of].folding.columns();
         let versions = columns.map(|column| self.model.objects[column][group as usize].version);
@@ -215,7 +215,7 @@ impl World {
         }
     }
 
-    // Puts the content of an eviction. If that fails, the eviction is over.
+    // Puts the content of an eviction. A failure ends the eviction.
     fn put(&mut self, id: u32) -> Checked {
         let is_begun = |job: &Job| {
             let Work::Evict { eviction, .. } = &job.work else {
@@ -246,7 +246,7 @@ impl World {
         self.settle(&came, Ok("()".to_owned()), &[]).map(drop)
     }
 
-    // Gets the contents of a job. It does not know whether they are right.
+    // Gets the contents of a job, which does not check them.
     fn get(&mut self, id: u32) -> Checked {
         let Some(job) = self.jobs.get_mut(&id) else {
             return Ok(());
@@ -308,7 +308,7 @@ impl World {
         Ok(())
     }
 
-    // Why an object does not go away that was in this state when its job began.
+    // Why an object that was in this state when its job began cannot be evicted.
     fn commit_refusal(&self, column: usize, group: u32, state: State) -> Result<(), Refusal> {
         let now = self.model.object(column, group)?;
         if !now.local || now.state() != state {
@@ -320,7 +320,7 @@ impl World {
         Ok(())
     }
 
-    // The object that went away is the one that was local, has no pin, and is not local now.
+    // Finds the evicted object: it was local, has no pin, and is not local now.
     fn some_left(&mut self) {
         for column in 0..self.model.kinds.len() {
             for group in 0..self.model.groups() {
@@ -341,7 +341,7 @@ impl World {
         let Some(job) = self.jobs.remove(&id) else {
             return Ok(());
         };
-        // (new numbers, which an eviction may need that makes space for it, end the job)
+        // (an eviction that makes space may renew the numbers, which ends the job)
         let renews = !self.is_manual() && self.model.may_be_full();
         let mut may = self.may();
         may.extend((job.is_unsure || renews).then_some(20));
@@ -413,7 +413,7 @@ impl World {
         };
         let due = match due {
             Ok(_) if !is_right => {
-                // (or another of the columns that it needs)
+                // (or another column that it needs)
                 let column = self.aggregates[&of].folding.value;
                 Err(far_fault(column, group))
             }

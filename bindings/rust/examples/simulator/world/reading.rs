@@ -1,4 +1,4 @@
-//! Rows, texts and parts of columns.
+//! Reads rows, texts and ranges of columns.
 
 use fullercoral::{Kind, Policy, Refusal};
 
@@ -62,7 +62,7 @@ impl World {
         self.settle(&came, due, &[]).map(drop)
     }
 
-    // The pieces of a part that can be read, and why no more of them.
+    // The pieces of a range that can be read, and why the next one cannot.
     fn pieces(&self, column: usize, from: u32, to: u32) -> (Vec<String>, Result<(), Refusal>) {
         let mut pieces = Vec::new();
         if let Err(refusal) = self.model.part_refusal(column, from, to) {
@@ -79,7 +79,7 @@ impl World {
         (pieces, Ok(()))
     }
 
-    // Reads a part piece by piece. The pieces before one that fails are right, and are read.
+    // Reads a range piece by piece, and compares the pieces before one that fails.
     fn part(&mut self, column: usize, from: u32, to: u32) -> Checked {
         let may = self.may();
         let (pieces, due) = self.pieces(column, from, to);

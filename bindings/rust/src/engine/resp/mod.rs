@@ -10,14 +10,14 @@ mod protocol;
 
 use protocol::Reply;
 
-/// How many contents are deleted by one command.
+/// How many contents one command deletes.
 const DELETED_AT_ONCE: usize = 64;
 
-/// An engine over a server that speaks the Redis protocol: `SET`, `GET` and `DEL` of keys that are a
-/// prefix and a number.
+/// An engine over a server that speaks the Redis protocol, by `SET`, `GET` and `DEL`. Keys are a prefix
+/// and a number.
 ///
-/// A call that takes longer than the time-out fails, and the next one connects anew; so
-/// [`Retry`](crate::Retry) suits it. On drop it deletes what it kept.
+/// A call that takes longer than the time-out fails, and the next one connects again: wrap the engine
+/// in [`Retry`](crate::Retry). On drop it deletes its keys.
 ///
 /// ```no_run
 /// use std::time::Duration;
@@ -34,12 +34,12 @@ pub struct Resp {
     timeout: Duration,
     stream: Option<BufReader<TcpStream>>,
     kept: HashSet<u64>,
-    /// What is not needed any more, and not deleted yet.
+    /// Numbers that are not needed but not deleted yet.
     forgotten: Vec<u64>,
 }
 
 impl Resp {
-    /// Connects to a server. No two engines of a server may have the same prefix.
+    /// Connects to a server. Give each engine of a server its own prefix.
     ///
     /// ```
     /// use std::time::Duration;
@@ -49,7 +49,7 @@ impl Resp {
     /// ```
     ///
     /// # Errors
-    /// Those of finding the address and of connecting to it.
+    /// The error of resolving the address or of connecting to it.
     pub fn connect(
         address: impl ToSocketAddrs,
         prefix: &str,
@@ -80,8 +80,8 @@ impl Resp {
         format!("{}:{number}", self.prefix)
     }
 
-    // Sends a command and reads its reply. After an error the stream is closed, since nobody knows where
-    // in it the next reply begins.
+    // Sends a command and reads its reply. Closes the stream after an error, since the start of the next
+    // reply is unknown then.
     fn call(&mut self, words: &[&[u8]], value: &mut Vec<u8>) -> io::Result<Reply> {
         let mut stream = match self.stream.take() {
             Some(stream) => stream,
@@ -125,7 +125,7 @@ impl Engine for Resp {
         }
     }
 
-    /// Contents are deleted 64 at once. What the server does not delete then stays there.
+    /// Deletes contents 64 at a time. Contents that the server fails to delete stay there.
     fn forget(&mut self, number: u64) {
         self.kept.remove(&number);
         self.forgotten.push(number);

@@ -1,24 +1,24 @@
-//! The Redis protocol: commands as they are sent, and the few kinds of replies that come to them.
+//! The Redis protocol: sends commands, and reads the kinds of replies that they get.
 
 use std::io::{self, BufRead, BufReader, Read, Write};
 use std::net::TcpStream;
 
-/// A reply. The bytes of a value are appended to the buffer that was given.
+/// A reply. `receive` appends the bytes of a value to the caller's buffer.
 #[derive(Debug, PartialEq, Eq)]
 pub enum Reply {
     Done,
     Value,
     NoValue,
-    /// What the server says of a command that it refuses.
+    /// The server's message for a command that it refuses.
     Error(String),
 }
 
-/// Sends a command: how many words it has, and each with its length.
+/// Sends a command: the number of its words, and each word with its length.
 pub fn send(stream: &mut impl Write, words: &[&[u8]]) -> io::Result<()> {
     let mut head = format!("*{}\r\n", words.len()).into_bytes();
     for word in words {
         head.extend_from_slice(format!("${}\r\n", word.len()).as_bytes());
-        // A content is not copied.
+        // Does not copy a content into the buffer.
         if word.len() > 4_096 {
             stream.write_all(&head)?;
             stream.write_all(word)?;
@@ -31,7 +31,7 @@ pub fn send(stream: &mut impl Write, words: &[&[u8]]) -> io::Result<()> {
     stream.write_all(&head)
 }
 
-/// Reads a reply: a line that begins with its kind, and a value behind it.
+/// Reads a reply: a line that begins with its kind, and then a value.
 pub fn receive(stream: &mut BufReader<TcpStream>, value: &mut Vec<u8>) -> io::Result<Reply> {
     let mut line = Vec::new();
     stream.take(4_096).read_until(b'\n', &mut line)?;
@@ -50,7 +50,7 @@ pub fn receive(stream: &mut BufReader<TcpStream>, value: &mut Vec<u8>) -> io::Re
     }
 }
 
-/// More bytes than any content has: a segment of texts has 16,777,216 at most.
+/// More bytes than any content has: a segment of texts has at most 16,777,216.
 const MOST_BYTES: u64 = 1 << 25;
 
 fn receive_value(
