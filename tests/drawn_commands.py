@@ -1,17 +1,17 @@
-"""Draws the commands of a random script: most of them near to what a table has."""
+"""Draws the commands of a random script, most of them close to a table's state."""
 import bisect
 import itertools
 import random
 
 TEXTS = ("", "fig", "pear", "plum of a tree as old as hills", "quince", "é", "a,b", 'she said "no"', " 7 ")
-# A text with an end of line fits no line, but a load.
+# A text with an end of line can only be in a load.
 TEXTS_OF_LOADS = (*TEXTS, "two\nlines")
 CONSTANTS = ("fig", "pe", "plum", "qu", "é", "a,", '"', "5")
 NUMBERS = (-4, -3, -2, -1, 0, 1, 2, 3, 4, -(2**63), 2**63 - 1)
-# The highest number that a word may be, except EDITS and those of jobs.
+# The highest number of a word, except for EDITS and jobs.
 HIGHEST = 2**32 - 1
 NUMBER_OPS = ("=", "!=", "<", "<=", ">", ">=")
-# Lines that are no command of any table.
+# Lines that are not commands.
 NO_COMMANDS = (
     *("jump", "ask", "ask x", "ask 0 0", "ask  0", "ask 0 ", " ask 0", "ask 4294967296", "ask +1", "insert", "insert ", "insert 1\r2"),
     *("set 0 0", "set 0 0 1,2", "set 0", "remove", "unwatch", "watch sums 0", "watch totals", "watch totals 0 by", "watch totals 0 if"),
@@ -20,7 +20,7 @@ NO_COMMANDS = (
     *("prefetch", "renew", "renew x", "recount", "load", "load x", "dump 0", "schema 4 int", "threads 1 1"),
 )
 
-# How often each command is drawn, in parts of 1,000. A run has some of them more often, and some less.
+# The weight of each command, in parts of 1,000. A run draws some more often, and some less.
 WEIGHTS = {
     **{"insert": 100, "set": 90, "remove": 12, "load": 15, "watch": 45, "unwatch": 7, "ask": 9, "recount": 9, "scan": 25, "offload": 60},
     **{"evac": 50, "fetch": 50, "trip": 60, "near_job": 40, "carry": 120, "end": 120, "commit": 10, "install": 10, "merge": 10},
@@ -30,26 +30,26 @@ FACTORS = (0.2, 1, 1, 1, 5)
 
 
 class Draws:
-    """Random numbers. `random` is the only call of the library that gives the same ones in each version."""
+    """Random numbers. `random` is the only call of the library that returns the same ones in each version."""
 
     def __init__(self, seed):
         self.random = random.Random(seed).random
 
     def below(self, count):
-        """A number below this one."""
+        """Returns a number below this one."""
         return int(self.random() * count)
 
     def one_in(self, count):
-        """Whether something is so that is so one time in so many."""
+        """Returns True once in `count` calls, on average."""
         return self.below(count) == 0
 
     def pick(self, items):
-        """One of these."""
+        """Returns one of these."""
         return items[self.below(len(items))]
 
 
 class Drawer:
-    """Draws commands, most of them near to what a table has."""
+    """Draws commands, most of them close to a table's state."""
 
     def __init__(self, draws, table):
         self.draws = draws
@@ -57,11 +57,11 @@ class Drawer:
         self.width = len(table.kinds)
         self.verbs = list(WEIGHTS)
         self.sums = list(itertools.accumulate(weight * draws.pick(FACTORS) for weight in WEIGHTS.values()))
-        # the commands of a trip that are still to come
+        # the remaining commands of a trip
         self.trips = iter(())
 
     def command(self):
-        """The next command: a verb, and its arguments. Now and then others come between those of a trip."""
+        """Returns the next command: a verb, and its arguments. Sometimes others come between the commands of a trip."""
         if not self.draws.one_in(4):
             for it in self.trips:
                 return it
@@ -69,20 +69,20 @@ class Drawer:
         return getattr(self, verb)(verb)
 
     def place(self):
-        """A place, or the next one, or now and then the highest number."""
+        """A place, or the next one, or sometimes the highest number."""
         return HIGHEST if self.draws.one_in(60) else self.draws.below(len(self.table.rows) + 1)
 
     def column(self):
-        """A column, or now and then the one after the last."""
+        """A column, or sometimes the one after the last."""
         return self.draws.below(8 * self.width + 1) // 8
 
     def group(self):
-        """A row group, or now and then the next one, or the highest number."""
+        """A row group, or sometimes the next one, or the highest number."""
         size = self.table.limits.group
         return HIGHEST if self.draws.one_in(60) else self.draws.below(len(self.table.rows) + size) // size
 
     def number(self):
-        """The number of an aggregate, mostly of one that is there."""
+        """The number of an aggregate, mostly of a registered one."""
         there = [a for a, it in enumerate(self.table.aggregates) if it]
         return self.draws.pick(there) if there and not self.draws.one_in(6) else self.draws.below(34)
 
@@ -92,12 +92,12 @@ class Drawer:
         return self.draws.pick(sorted(it.pending)) if it and it.pending and not self.draws.one_in(3) else self.group()
 
     def job(self, is_carried):
-        """The number of one of the last jobs, mostly of one that was carried, or was not; or of none."""
+        """The number of one of the last jobs, mostly of a carried one, or mostly of one that was not; or of no job."""
         jobs = self.table.jobs
         last = range(max(self.table.begun - 6, 0), self.table.begun)
         due = [n for n in last if n in jobs and jobs[n].carried == is_carried]
         n = self.table.begun - self.draws.below(7)
-        # (before the first job come the highest numbers that a word may be)
+        # (before the first job, the highest numbers of a word)
         return self.draws.pick(due) if due and not self.draws.one_in(5) else n % 2**64
 
     def cell(self, column, texts=TEXTS):
@@ -111,7 +111,7 @@ class Drawer:
         return value if column < self.width and self.table.kinds[column] == "int" else str(value)
 
     def long_text(self):
-        """A text of as many bytes as one may have, or of one more. It has half as many characters."""
+        """A text of the most bytes, or of one more. It has half as many characters."""
         return "é" * 2047 + "x" * (2 + self.draws.below(2))
 
     def row(self, texts=TEXTS):
@@ -166,7 +166,7 @@ class Drawer:
         return verb, a, self.pending(a)
 
     def offload(self, verb):
-        """Half of the time a build that the store has all of, if there is one."""
+        """Half of the time, a build whose columns the store has, if there is one."""
         table = self.table
         clean = [
             (a, group)
@@ -177,7 +177,7 @@ class Drawer:
         return (verb, *self.draws.pick(clean)) if clean and self.draws.one_in(2) else self.scan(verb)
 
     def lend(self, verb):
-        """Mostly of the row group that the last two of the column lead to, else a part of some row groups."""
+        """Mostly lends the next row group of the column's stride, else a part of some row groups."""
         column = self.column()
         lent = self.table.lent[column] if column < self.width else []
         if len(lent) > 1 and not self.draws.one_in(3):
@@ -209,7 +209,7 @@ class Drawer:
         return end_of(self.table, n), n
 
     def trip(self, _):
-        """The first command of some by which an object moves. If there is none, the trip before goes on, or the table is dumped."""
+        """The first command of some that move an object. If there is no object, the previous trip continues, or the table is dumped."""
         column, group = self.column(), self.group()
         if column < self.width and group < self.table.groups():
             moves = self.packed(column, group) if self.draws.one_in(4) else ()
@@ -217,7 +217,7 @@ class Drawer:
         return next(self.trips, ("dump",))
 
     def away_and_back(self, column, group):
-        """A local object goes away, and mostly comes back. One that is away comes back."""
+        """Evicts a local object, and mostly fetches it again; fetches one that is away."""
         leaves = self.table.objects[column][group].part is not None
         returns = not leaves or not self.draws.one_in(3)
         for begin, end in [("evac", "commit")] * leaves + [("fetch", "install")] * returns:
@@ -227,7 +227,7 @@ class Drawer:
             yield end, n
 
     def packed(self, column, group):
-        """The segment of an object is compacted. Half of the time that comes twice, and the object is lent between."""
+        """Compacts the segment of an object. Half of the time it does so twice, and lends the object between."""
         it, place = self.table.objects[column][group], group * self.table.limits.group
         if it.part and self.draws.one_in(2):
             yield "compact", self.table.kinds[column], it.part.segment
@@ -236,7 +236,7 @@ class Drawer:
             yield "compact", self.table.kinds[column], it.part.segment
 
     def near_job(self, _):
-        """A command about what one of the last jobs is about: it may make that job stale."""
+        """A command about the object or row group of one of the last jobs, which may make that job stale."""
         jobs = list(self.table.jobs.values())[-6:]
         if not jobs:
             return self.evac("evac")
@@ -255,14 +255,14 @@ class Drawer:
         return verb, kind, self.draws.pick(full) if full and self.draws.one_in(2) else self.draws.below(len(segments) + 1)
 
     def renew(self, verb):
-        """A store with space for what is away and some contents more, or now and then for one or two less."""
+        """A store with space for all objects that are away and some contents more, or sometimes one or two less."""
         return verb, max(0, away(self.table) - 2 + self.draws.below(16))
 
     def dump(self, verb):
         return (verb,)
 
     def no_command(self, verb):
-        """A line that is no command: now and then a test of neither kind, on a column of texts."""
+        """A line that is not a command: sometimes a test of neither kind, on a column of texts."""
         texts = [column for column, kind in enumerate(self.table.kinds) if kind == "text"]
         if texts and self.draws.one_in(9):
             return verb, f"watch totals 0 if {self.draws.pick(texts)} < b"
@@ -270,13 +270,13 @@ class Drawer:
 
 
 def end_of(table, n):
-    """The command that ends a job, if it is not spent."""
+    """The command that ends a job, if its number is not spent."""
     kind = table.jobs[n].kind if n in table.jobs else "evac"
     return {"evac": "commit", "fetch": "install", "offload": "merge"}[kind]
 
 
 def away(table):
-    """How many objects are away."""
+    """The number of objects that are away."""
     return sum(it.part is None for column in table.objects for it in column)
 
 
@@ -286,8 +286,8 @@ def objects(table):
 
 
 def look(draws, table, is_whole):
-    """Commands that show a table and leave it as it is: a pin is removed at once. They show the rows, and all aggregates and objects
-    or a third of them."""
+    """Commands that show a table and do not change it: they remove a pin at once. They show the rows, and all aggregates and objects or a
+    third of them."""
     yield ("dump",)
     for a, it in enumerate(table.aggregates):
         if it and (is_whole or draws.one_in(3)):
@@ -302,7 +302,7 @@ def look(draws, table, is_whole):
 
 
 def jobs_end(table):
-    """Each job is carried and ended, and each object has no pin then."""
+    """Commands that carry and end each job, and remove all pins."""
     for n in sorted(table.jobs):
         yield "carry", n
         yield end_of(table, n), n
@@ -312,8 +312,8 @@ def jobs_end(table):
 
 
 def all_move(table):
-    """All objects go away, so the regions are empty. Then as many come back as fit, and are lent: forwards in the even columns, backwards
-    in the odd ones. Some runs have no job left for that, or too few."""
+    """Commands that evict all objects, so that the regions are empty, and then fetch as many as fit and lend them: forwards in the even
+    columns, backwards in the odd ones. Some runs have no jobs left for that, or too few."""
     yield "renew", 1_000
     if table.begun == table.limits.edits:
         return
@@ -333,14 +333,15 @@ def all_move(table):
 
 
 def all_are_scanned(table):
-    """What is pending is scanned, if it can be."""
+    """Commands that scan all pending row groups that can be scanned."""
     for a, it in enumerate(table.aggregates):
         for group in sorted(it.pending) if it else ():
             yield "scan", a, group
 
 
 def commands(draws, table, steps, between):
-    """The commands of a run: steps, and a look after each so many. The first steps bring rows and a small store."""
+    """The commands of a run: steps, with commands that show the table after each so many. The first steps insert rows and make a small
+    store."""
     drawer = Drawer(draws, table)
     for step in range(steps):
         yield drawer.load("load") if step < 4 else drawer.renew("renew") if step == 4 else drawer.command()

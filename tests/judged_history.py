@@ -1,6 +1,6 @@
-"""Judges the history of sessions that share a table: each reply is that of a plain table, in the order in which the sessions had it.
+"""Judges the history of sessions that share a table: each reply must be a plain table's, in the order in which the sessions had the lock.
 
-A history is what bindings/rust/examples/history prints. This file knows rows and answers alone: nothing of objects, jobs or storage.
+bindings/rust/examples/history prints such a history. This file models only rows and answers, not objects, jobs or storage.
 """
 import collections
 import functools
@@ -8,7 +8,7 @@ import operator
 
 from reference_aggregates import Aggregate, record
 
-# The aggregates that each history has from its beginning.
+# The aggregates that each history has from the start.
 WATCHED = {
     "0": ("totals", 1, None, ()),
     "1": ("totals", 1, 0, ()),
@@ -19,10 +19,10 @@ WATCHED = {
 KINDS = (int, int, str)
 NO_ROW, REMOVED_ROW, BUILDING, ABSENT, REGION_FULL = (f"refused {it}" for it in (8, 9, 15, 16, 17))
 PINNED, STALE_JOB, FAR_FAULT, FAILED = "refused 19", "refused 20", "refused 21", "failed"
-# What a call may get, and then change nothing, where objects are moved by the sessions, or where the far side may fail.
+# Replies of calls that change nothing, for runs whose sessions move objects, and for runs whose far side may fail.
 BY_HAND = {ABSENT, REGION_FULL}
 OF_FAR_SIDE = {FAR_FAULT, FAILED}
-# What movement may get at any time, since others move the same objects, and edit them.
+# Replies that movers may get at any time, since others move and edit the same objects.
 MOVES = {
     "evict": {ABSENT, PINNED, STALE_JOB},
     "evict the coldest": {PINNED, STALE_JOB},
@@ -36,15 +36,15 @@ MOVES = {
 
 
 class Wrong(Exception):
-    """What is wrong with a history."""
+    """A history is wrong."""
 
 
-# A row as a history has it, and the cells of a record. There are few different rows, so each is worked out once.
+# A row as in a history, and the cells of a record. There are few different rows, so each is computed once.
 row_told = functools.cache(record)
 
 
 def cell(text, column):
-    """The cell that a text is of."""
+    """Parses a cell."""
     return None if text == "\\N" else KINDS[column](text)
 
 
@@ -55,7 +55,7 @@ def cells_of(text):
 
 
 class Parts(dict):
-    """By the cells of a row, under which key an aggregate counts which value, or None if it does not keep the row."""
+    """Maps the cells of a row to the key and the value that an aggregate counts, or None if it skips the row."""
 
     def __init__(self, about):
         super().__init__()
@@ -70,19 +70,19 @@ class Parts(dict):
 
 @functools.cache
 def parts_of(*about):
-    """What all aggregates that are alike count of rows: each row is looked at once."""
+    """Returns the map that all aggregates with the same spec share, so that each row is computed once."""
     return Parts(Aggregate(*about, set()))
 
 
 class Answer:
-    """An aggregate, with how often each value is under each key."""
+    """An aggregate: how often each value occurs, by key."""
 
     def __init__(self, *about):
         self.parts = parts_of(*about)
         self.about, self.values, self.seen = self.parts.about, collections.defaultdict(collections.Counter), 0
 
     def take(self, changes):
-        """Takes note of rows that there are so often more, or less."""
+        """Applies changes: rows, and how many more or fewer of each there are."""
         parts, values = self.parts, self.values
         for cells, by in changes:
             part = parts[cells]
@@ -91,13 +91,13 @@ class Answer:
                 values[key][value] += by
 
     def told(self):
-        """The lines of the answer as a history has them."""
+        """Formats the answer as in a history."""
         if self.about.key is None and self.about.fold == "totals":
             return self.line(None)
         return "; ".join(self.line(key) for key in sorted(self.values) if any(self.values[key].values())) or "none"
 
     def line(self, key):
-        """The line of a key."""
+        """Formats the line of a key."""
         first, under = "" if key is None else record([key]) + " ", self.values[key]
         if self.about.fold == "extrema":
             there = [value for value, count in under.items() if count]
@@ -106,7 +106,7 @@ class Answer:
 
 
 class PlainTable:
-    """Rows as tuples, how often each is there, and all changes: an answer takes note of those that it has not seen when it is asked."""
+    """Rows as tuples, how often each occurs, and all changes. An answer applies the changes that it has not seen when it is asked."""
 
     def __init__(self):
         self.rows, self.removed, self.alive, self.changes = [], set(), collections.Counter(), []
@@ -115,29 +115,29 @@ class PlainTable:
             self.watch(name, *about)
 
     def watch(self, name, *about):
-        """Registers an aggregate over the rows that are there."""
+        """Registers an aggregate over the current rows."""
         self.answers[name] = answer = Answer(*about)
         answer.take(self.alive.items())
         answer.seen = len(self.changes)
 
     def count(self, cells, by):
-        """Takes note of a row more, or less."""
+        """Records an added or a removed row."""
         self.alive[cells] += by
         self.changes.append((cells, by))
 
     def told(self, name):
-        """An answer as a history has it."""
+        """Formats an answer as in a history."""
         answer = self.answers[name]
         answer.take(self.changes[answer.seen :])
         answer.seen = len(self.changes)
         return answer.told()
 
     def refusal(self, place):
-        """Why the row of a place is not edited, if it is not."""
+        """Why an edit of the row at a place is refused, or None."""
         return NO_ROW if place >= len(self.rows) else REMOVED_ROW if place in self.removed else None
 
     def due(self, verb, words):
-        """The reply that is due if nothing but rows matters."""
+        """The expected reply if only rows matter."""
         if verb == "insert":
             return f"place {len(self.rows)}"
         if verb == "row":
@@ -147,13 +147,13 @@ class PlainTable:
         return (self.refusal(int(words[0])) if verb in ("set", "remove") else None) or "ok"
 
     def row(self, place):
-        """A row as a history has it, with a mark."""
+        """Formats a row as in a history, with a mark."""
         if place >= len(self.rows):
             return NO_ROW
         return ("- " if place in self.removed else "+ ") + row_told(self.rows[place])
 
     def apply(self, verb, words):
-        """Does what a call does that is not refused."""
+        """Applies a call that is not refused."""
         if verb == "insert":
             self.rows.append(cells_of(" ".join(words)))
             self.count(self.rows[-1], 1)
@@ -173,7 +173,7 @@ class PlainTable:
 
 
 def may_get(verb, is_by_hand, may_fail):
-    """What a call may get beside the reply that is due, and then it changes nothing."""
+    """The replies that a call may get instead of the expected one; it changes nothing then."""
     if verb in ("watch", "unwatch"):
         return set()
     if is_by_hand:
@@ -182,7 +182,7 @@ def may_get(verb, is_by_hand, may_fail):
 
 
 def judge_moves(lines, is_by_hand, may_fail):
-    """Raises what is wrong with what movers got."""
+    """Raises Wrong for a reply that movers must not get."""
     for _, what, reply, _ in lines:
         may = MOVES[what] | {"ok"}
         if is_by_hand and what in ("fetch", "scan"):
@@ -194,8 +194,8 @@ def judge_moves(lines, is_by_hand, may_fail):
 
 
 def clocked(lines):
-    """Yields the session, the clock, the call and the reply of each line. Raises where a call was not between its begin and its end, or a
-    session made two calls at once. The order in which calls had the table is then one by which real time allows to explain them."""
+    """Yields the session, the clock, the call and the reply of each line. Raises if a call had the lock outside its begin and end, or a
+    session made two calls at once. So the order of the lock agrees with real time."""
     last, ends = -1, {}
     for line in lines:
         session, begun, at, ended, call, reply = line.split("\t")
@@ -207,7 +207,7 @@ def clocked(lines):
 
 
 def judge(text, sessions, edits):
-    """Raises what is wrong with a history of so many sessions of so many edits each. Returns how many calls it has."""
+    """Raises Wrong for a wrong history of so many sessions with so many edits each. Returns the number of its calls."""
     setup, *lines = text.splitlines()
     _, policy, far, _ = setup.split("\t")
     is_by_hand, may_fail = policy == "Manual", far == "faulty"
@@ -219,14 +219,14 @@ def judge(text, sessions, edits):
         due = table.due(verb, words)
         if reply != due:
             if due in (NO_ROW, REMOVED_ROW) or reply not in may_get(verb, is_by_hand, may_fail):
-                raise Wrong(f"session {session} at {at}: to '{call}' should come '{due}', and comes '{reply}'")
+                raise Wrong(f"session {session} at {at}: the reply to '{call}' should be '{due}', but is '{reply}'")
             continue
         if not due.startswith("refused"):
             table.apply(verb, words)
             made[session] += verb in ("insert", "set", "remove")
         looked = looked + 1 if verb == "row" and words[0] == str(looked) else looked if verb in ("ask", "recount") else 0
     if looked != len(table.rows):
-        raise Wrong(f"{looked} of {len(table.rows)} rows were read at the end")
+        raise Wrong(f"only {looked} of {len(table.rows)} rows were read at the end")
     if +made != {str(session): edits for session in range(sessions)}:
         raise Wrong(f"sessions made {dict(made)} edits")
     judge_answers(table)
@@ -234,8 +234,8 @@ def judge(text, sessions, edits):
 
 
 def judge_answers(table):
-    """Raises where an answer that was counted along is another than one that is folded anew from all rows."""
+    """Raises if an incremental answer differs from one computed from all rows."""
     rows = [cells for place, cells in enumerate(table.rows) if place not in table.removed]
     for name, it in table.answers.items():
         if table.told(name) != it.about.answer(rows).replace("\n", "; "):
-            raise Wrong(f"aggregate {name} is folded otherwise")
+            raise Wrong(f"the incremental answer of aggregate {name} is wrong")

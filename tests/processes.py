@@ -1,4 +1,4 @@
-"""What the commands of this folder share: their command line, the programs that they run, and how they tell what came of it."""
+"""Functions that the commands of this folder share: for options, for running programs, and for reporting results."""
 import argparse
 import os
 import subprocess
@@ -8,7 +8,7 @@ from pathlib import Path
 
 ROOT = Path(__file__).resolve().parent.parent
 PROCESSORS = len(os.sched_getaffinity(0))
-# After so many seconds a program that does not end is ended.
+# A program that takes longer, in seconds, is ended.
 PATIENCE = 120
 OPTIONS = {
     "--runs": {"type": int, "help": "how many runs"},
@@ -16,12 +16,12 @@ OPTIONS = {
     "--seconds": {"type": int, "help": "for how many seconds"},
     "--seed": {"type": int, "default": 0, "help": "the first seed"},
     "--jobs": {"type": int, "default": PROCESSORS, "help": "how many run at once"},
-    "--record": {"metavar": "FILE", "help": "add a line to this CSV of what was attacked, as docs/reliability.csv"},
+    "--record": {"metavar": "FILE", "help": "add a line with the results to this CSV, such as docs/reliability.csv"},
 }
 
 
 def parser(doc, *options, **defaults):
-    """Returns a parser with some of the options above. Its help is the text at the head of the command."""
+    """Returns a parser with some of the options above. Its help is the command's docstring."""
     made = argparse.ArgumentParser(description=doc, formatter_class=argparse.RawDescriptionHelpFormatter)
     for name in options:
         made.add_argument(name, **OPTIONS[name])
@@ -30,28 +30,28 @@ def parser(doc, *options, **defaults):
 
 
 def run(words, script=b"", seconds=PATIENCE, **how):
-    """Runs a command on these bytes. Returns what became of it, with what it wrote, to standard error too unless that is caught apart.
-    Raises TimeoutExpired where it does not end."""
+    """Runs a command on these bytes. Returns its status and its output, with standard error unless the caller captures that separately.
+    Raises TimeoutExpired if it does not end."""
     how = {"stderr": subprocess.STDOUT, **how}
     return subprocess.run(words, input=script, stdout=subprocess.PIPE, timeout=seconds, check=False, **how)
 
 
 def compiled(compiler, made, sources, *words):
-    """Compiles C programs of bindings/c by the pattern of their names, and returns the path of what was made."""
+    """Compiles C programs of bindings/c, named by a pattern, and returns the path of the executable."""
     flags = ["-std=c11", "-Wall", "-Wextra", "-Werror", "-pedantic", "-g", f"-I{ROOT}/include"]
     subprocess.run([compiler, *flags, *sorted(ROOT.glob(f"bindings/c/{sources}")), "-o", made, *words], check=True)
     return made
 
 
 class Series:
-    """What was attacked: how often, and how it came out."""
+    """A series of runs against one target, and its results."""
 
     def __init__(self, what, given):
         self.what, self.file, self.begun = what, given.record, time.monotonic()
 
     def end(self, runs, calls, failed):
-        """Adds a line to the file, if one is named: what was attacked, how many runs, how many calls they had if that is counted, in how
-        many seconds, and how many failed. tools/documents makes docs/RELIABILITY.md of such lines."""
+        """Adds a line to the file, if one is named: the target, the runs, their calls if these are counted, the seconds, and the failed
+        runs. tools/documents makes docs/RELIABILITY.md from such lines."""
         if self.file:
             with open(self.file, "a", encoding="utf-8") as it:
                 it.write(f"{self.what},{runs},{calls},{time.monotonic() - self.begun:.0f},{failed}\n")

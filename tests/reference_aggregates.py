@@ -1,4 +1,4 @@
-"""The aggregates of the reference model: each answer is folded anew, and written as a script shows it."""
+"""The aggregates of the reference model: each answer is computed from all rows, and formatted as in a script."""
 import operator
 from dataclasses import dataclass
 
@@ -9,20 +9,20 @@ TESTS = {
 
 
 def field_of(cell):
-    """A cell as a field of a record: quoted only if it must be."""
+    """Formats a cell as a field of a record, in quotes only if needed."""
     text = "\\N" if cell is None else str(cell)
     return text if frozenset(',"\r\n').isdisjoint(text) else '"' + text.replace('"', '""') + '"'
 
 
 def record(cells):
-    """Cells as a record. A record of one empty field is written in quotes."""
+    """Formats cells as a record. A record of one empty field gets quotes."""
     return ",".join(map(field_of, cells)) or '""'
 
 
 @dataclass(eq=False)
 class Aggregate:
-    """What was registered, and the row groups that are still pending. The key is None if there is none. A test has a column, an operator
-    and a constant."""
+    """A registered aggregate, and its pending row groups. The key is None if there is none. A test has a column, an operator and a
+    constant."""
 
     fold: str
     value: int
@@ -36,13 +36,13 @@ class Aggregate:
         return sorted({self.value, *keys, *(column for column, _, _ in self.tests)})
 
     def keeps(self, cells):
-        """Whether a row has a value and a key and passes all tests. A cell without a value passes none."""
+        """Whether a row has a value and a key and passes all tests. A missing cell passes none."""
         if cells[self.value] is None or self.key is not None and cells[self.key] is None:
             return False
         return all(cells[column] is not None and TESTS[op](cells[column], constant) for column, op, constant in self.tests)
 
     def answer(self, rows):
-        """The lines over these rows, in the order of their keys. The order of texts is that of their bytes, and so of their code points."""
+        """The lines over these rows, sorted by key. Texts are sorted by bytes, which is the order of their code points too."""
         by_key = {None: []} if self.fold == "totals" and self.key is None else {}
         for cells in filter(self.keeps, rows):
             key = None if self.key is None else cells[self.key]

@@ -1,4 +1,4 @@
-"""The objects of the reference model, the regions in which they lie, its store, and why a command is refused."""
+"""The objects of the reference model, their regions, its store, and the refusals of commands."""
 from dataclasses import dataclass
 
 REFUSALS = {
@@ -9,7 +9,7 @@ REFUSALS = {
 
 
 class Refused(Exception):
-    """Why a command is refused: a name, and the numbers that it names."""
+    """A refusal: its name, and the numbers in its reply."""
 
     def __init__(self, name, *carried):
         super().__init__(name)
@@ -21,20 +21,20 @@ class Refused(Exception):
 
 
 def refuse_if(is_due, name, *carried):
-    """Refuses a command if that is due."""
+    """Raises a refusal if its condition holds."""
     if is_due:
         raise Refused(name, *carried)
 
 
 def text_length(texts):
-    """How many bytes an object of these texts takes: a head, a bit for each text if one is missing, where each ends, and the texts."""
+    """The bytes of an object of these texts: a head, a bit for each text if one is missing, the end of each, and the texts."""
     mask = -(-len(texts) // 8) if None in texts else 0
     return 6 + mask + 4 * len(texts) + sum(len(text.encode()) for text in texts if text is not None)
 
 
 @dataclass(eq=False)
 class Part:
-    """Where the cells of an object lie."""
+    """The part of a segment that the cells of an object have."""
 
     segment: int
     offset: int
@@ -42,35 +42,35 @@ class Part:
 
 
 class Region:
-    """The segments of one kind, which have one size. Each has parts by ascending offset."""
+    """The segments of one kind, all of one size. Each has its parts by ascending offset."""
 
     def __init__(self, count, size):
         self.size = size
         self.segments = [[] for _ in range(count)]
 
     def place(self, length):
-        """Makes a part in the lowest segment that has space after its last part."""
+        """Allocates a part in the lowest segment with space after its last part."""
         for number in range(len(self.segments)):
             if self.end(number) + length <= self.size:
                 return self.append(number, length)
         raise Refused("RegionFull")
 
     def end(self, number):
-        """Where the last part of a segment ends."""
+        """The end of the last part of a segment."""
         parts = self.segments[number]
         return parts[-1].offset + parts[-1].length if parts else 0
 
     def append(self, number, length):
-        """Makes a part after the last one of a segment."""
+        """Allocates a part after the last one of a segment."""
         part = Part(number, self.end(number), length)
         self.segments[number].append(part)
         return part
 
     def drop(self, part):
-        """Takes a part away. What lies after it stays where it is."""
+        """Frees a part. The parts after it stay where they are."""
         self.segments[part.segment].remove(part)
 
-    def free_beside(self, number):
+    def other_free(self, number):
         """The lowest other segment without parts."""
         for other, parts in enumerate(self.segments):
             if other != number and not parts:
@@ -82,19 +82,19 @@ class Region:
 class Object:
     """The cells of one row group of one column."""
 
-    # where it lies, if it is local
+    # its part, if it is local
     part: Part = None
-    # the store does not have it as it is now
+    # whether the store lacks its current content
     dirty: bool = True
-    # it was written, lent or brought back since a compaction moved it
+    # whether it was written, lent or fetched since a compaction moved it
     hot: bool = True
     pins: int = 0
-    # how often it was written, and how often it went away
+    # how often it was written, and how often it was evicted
     version: int = 0
     leavings: int = 0
 
     def state(self):
-        """What a job of it rests on."""
+        """The state that a job of it depends on."""
         return self.version, self.leavings
 
     def write(self):
@@ -105,12 +105,12 @@ class Object:
 
 @dataclass
 class Store:
-    """A store that takes so many contents, and how many it has."""
+    """A store: how many contents it can take, and how many it has."""
 
     capacity: int
     contents: int = 0
 
     def put(self):
-        """Takes one more."""
+        """Takes one more content."""
         refuse_if(self.contents == self.capacity, "FarFull")
         self.contents += 1

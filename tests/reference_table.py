@@ -1,9 +1,9 @@
-"""The reference model of a table: what each command of a script replies, as docs/SCRIPT.md says it.
+"""The reference model of a table: the reply to each command of a script, as docs/SCRIPT.md says it.
 
-Read it beside that page. Rows are a list, each answer is folded anew, and the store is a count of its contents. Where each object lies
-decides which others fit, and is no rule of that page: `text_length` is that of docs/FORMATS.md, and `Region` and `compact` place parts as
-crates/far_log/specs/Effects.antt says. A command is a method of Table: it returns the reply, or raises Refused. Left out are `threads`,
-first lines that open no table, and how many pins an object may have.
+Read it together with that page. Rows are a list, each answer is computed from all rows, and the store is a count of contents. The page does
+not say where objects are, which decides which others fit: `text_length` follows docs/FORMATS.md, and `Region` and `compact` place parts as
+crates/far_log/specs/Effects.antt says. A command is a method of Table, which returns the reply or raises Refused. The model leaves out
+`threads`, first lines that open no table, and the limit of pins.
 """
 from dataclasses import dataclass
 
@@ -13,13 +13,13 @@ from reference_objects import Object, Refused, Region, Store, refuse_if, text_le
 LONGEST_TEXT = 4096
 MOST_AGGREGATES = 32
 MOST_TESTS = 4
-# How many contents the first store of a script takes.
+# How many contents the first store of a script can take.
 FIRST_STORE = 1_048_576
 TEXT_TESTS = ("=", "^=")
 
 
 def is_long(text):
-    """Whether this is a text of more bytes than one may have."""
+    """Whether this is a text with too many bytes."""
     return isinstance(text, str) and len(text.encode()) > LONGEST_TEXT
 
 
@@ -37,13 +37,13 @@ class Limits:
 
 
 def usual_limits(group):
-    """The limits of a table whose first line names none."""
+    """The default limits of a table."""
     return Limits(group, 16_777_216, 1_099_511_627_776, 64, max(group, 4096), 64, 65_536)
 
 
 @dataclass(eq=False)
 class Job:
-    """A job whose number is not spent, and what it rests on. An offload is of an aggregate and a row group, the others of an object."""
+    """A job whose number is not spent, and the state that it depends on. An offload has an aggregate and a row group, others an object."""
 
     kind: str
     column: int = None
@@ -52,13 +52,13 @@ class Job:
     aggregate: Aggregate = None
     group: int = None
     state: object = None
-    # its carry puts a content into the store
+    # whether its carry puts a content into the store
     puts: bool = False
     carried: bool = False
 
 
 class Table:
-    """A table, with its store and the jobs whose numbers are not spent. Its kinds are "int" and "text", one for each column."""
+    """A table, with its store and the jobs whose numbers are not spent. Its kinds are "int" or "text", one for each column."""
 
     def __init__(self, kinds, limits):
         self.kinds = kinds
@@ -67,10 +67,10 @@ class Table:
             "int": Region(limits.int_segments, limits.int_size),
             "text": Region(limits.text_segments, limits.text_size),
         }
-        # the cells of each place, and whether its row is still there
+        # the cells of each place, and whether its row is alive
         self.rows = []
         self.alive = []
-        # the objects of each column, and the row groups of it that were lent last
+        # the objects of each column, and its row groups that were lent last
         self.objects = [[] for _ in kinds]
         self.lent = [[] for _ in kinds]
         self.aggregates = [None] * MOST_AGGREGATES
@@ -81,7 +81,7 @@ class Table:
         self.store = Store(FIRST_STORE)
 
     def reply(self, verb, *arguments):
-        """Takes a command, and returns its reply."""
+        """Serves a command, and returns its reply."""
         self.commands += 1
         try:
             return getattr(self, verb)(*arguments)
@@ -89,17 +89,17 @@ class Table:
             return str(refused)
 
     def no_command(self, _):
-        """The reply to a line that is no command."""
+        """The reply to a line that is not a command."""
         return f"syntax command {self.commands}"
 
-    # What is there.
+    # Queries.
 
     def groups(self):
-        """How many row groups have a place."""
+        """The number of row groups with a place."""
         return len(self.objects[0])
 
     def places_of(self, group):
-        """The places of a row group that are there."""
+        """The used places of a row group."""
         first = group * self.limits.group
         return range(first, min(first + self.limits.group, len(self.rows)))
 
@@ -108,7 +108,7 @@ class Table:
         return [cells for cells, alive in zip(self.rows, self.alive) if alive]
 
     def need_column(self, column):
-        """Refuses a column that is not there."""
+        """Refuses a column that does not exist."""
         refuse_if(column >= len(self.kinds), "NoColumn")
 
     def object(self, column, group):
@@ -118,16 +118,16 @@ class Table:
         return self.objects[column][group]
 
     def need_local(self, columns, group):
-        """Refuses a row group of which an object is away."""
+        """Refuses a row group with an object that is away."""
         for column in columns:
             refuse_if(self.objects[column][group].part is None, "Absent", column, group)
 
     def region(self, column):
-        """Where the objects of a column lie."""
+        """The region of a column's objects."""
         return self.regions[self.kinds[column]]
 
     def length(self, column, cells):
-        """How long an object with these cells of a column is. One of numbers has space for a whole row group."""
+        """The length of a column's object with these cells. An object of numbers has space for a whole row group."""
         return self.limits.group if self.kinds[column] == "int" else text_length(cells)
 
     # Edits.
@@ -168,7 +168,7 @@ class Table:
         return "ok"
 
     def need_row(self, place):
-        """Refuses a place without a row, or with one that is not all local."""
+        """Refuses a place without a row, or whose row is not wholly local."""
         refuse_if(place >= len(self.rows), "NoRow")
         refuse_if(not self.alive[place], "RemovedRow")
         self.need_local(range(len(self.kinds)), place // self.limits.group)
@@ -179,8 +179,8 @@ class Table:
         self.edits += 1
 
     def write(self, place, cells):
-        """Writes the objects of a place that gets these cells, by column. Numbers are written where they lie. Texts are placed anew, beside
-        what they replace, and so is a new row group."""
+        """Writes these cells, by column, into the objects of a place. Numbers are written in place. Texts get a new part before the old one
+        is freed, and so does a new row group."""
         group = place // self.limits.group
         lengths = {column: self.length_with(place, column, cell) for column, cell in cells.items() if self.is_placed(column, group)}
         refuse_if(any(length > self.region(column).size for column, length in lengths.items()), "ChunkFull")
@@ -197,16 +197,16 @@ class Table:
             self.replace(column, group, parts.get(column))
 
     def is_placed(self, column, group):
-        """Whether a write places the object anew."""
+        """Whether a write gives the object a new part."""
         return self.kinds[column] == "text" or group == self.groups()
 
     def length_with(self, place, column, cell):
-        """How long an object is once one of its places has this cell."""
+        """The length of an object after one of its cells is set to this one."""
         cells = {it: self.rows[it][column] for it in self.places_of(place // self.limits.group)}
         return self.length(column, list({**cells, place: cell}.values()))
 
     def replace(self, column, group, part):
-        """Notes that an object was written, or made. If a part is given, it lies there from now on."""
+        """Records that an object was written or made. If a part is given, the object has it from now on."""
         objects = self.objects[column]
         if group == len(objects):
             objects.append(Object())
@@ -220,12 +220,12 @@ class Table:
     # Aggregates.
 
     def aggregate(self, a):
-        """The aggregate of a number."""
+        """The aggregate with a number."""
         refuse_if(a >= MOST_AGGREGATES or self.aggregates[a] is None, "NoAggregate")
         return self.aggregates[a]
 
     def watch(self, fold, value, key, tests):
-        """Registers an aggregate. Each row group that has a place is pending."""
+        """Registers an aggregate. Each row group with a place is pending."""
         it = Aggregate(fold, value, key, tests, set(range(self.groups())))
         refuse_if(len(tests) > MOST_TESTS or any(is_long(constant) for _, _, constant in tests), "BadSpec")
         for column in it.columns():
@@ -237,7 +237,7 @@ class Table:
         return f"aggregate {a}"
 
     def is_of_other_test(self, test):
-        """Whether a test is of the other kind than its column. In a column of texts a constant like a number is a text."""
+        """Whether a test does not have the kind of its column. For a column of texts, a constant like a number is a text."""
         column, op, constant = test
         if self.kinds[column] == "int":
             return op == "^=" or isinstance(constant, str)
@@ -250,7 +250,7 @@ class Table:
         return "ok"
 
     def need_pending(self, a, group):
-        """The aggregate of a number, if a row group is pending there."""
+        """The aggregate with a number, if a row group is pending in it."""
         it = self.aggregate(a)
         refuse_if(group >= self.groups(), "OutOfRange")
         refuse_if(group not in it.pending, "StaleJob")
@@ -273,7 +273,7 @@ class Table:
         """Computes an aggregate from scratch."""
         return self.aggregate(a).answer(self.live_rows())
 
-    # Lent parts.
+    # Lent parts of columns.
 
     def lend(self, column, start, stop):
         """Lends a part of a column."""
@@ -288,13 +288,13 @@ class Table:
         return "\n".join(self.piece(column, group, start, stop) for group in groups) or "empty"
 
     def piece(self, column, group, start, stop):
-        """The line of a row group of which some places are lent."""
+        """The line of a row group with the lent places."""
         places = [it for it in self.places_of(group) if start <= it < stop]
         marks = "".join("+" if self.alive[it] else "-" for it in places)
         return f"piece {marks} {record(self.rows[it][column] for it in places)}"
 
     def prefetch(self, column):
-        """Proposes the next two row groups, if the last four that were lent lie equally far apart."""
+        """Proposes the next two row groups of the stride, if the last four that were lent have one."""
         self.need_column(column)
         lent = self.lent[column]
         strides = {there - here for here, there in zip(lent, lent[1:])}
@@ -328,25 +328,25 @@ class Table:
         return f"job {self.begun - 1}"
 
     def evac(self, column, group):
-        """Begins to send an object away. Its carry puts nothing if the store has it as it is."""
+        """Begins to evict an object. Its carry puts nothing if the store has its current content."""
         it = self.object(column, group)
         self.need_local([column], group)
         return self.begin(Job("evac", column=column, group=group, object=it, state=it.state(), puts=it.dirty))
 
     def fetch(self, column, group):
-        """Begins to bring an object back."""
+        """Begins to fetch an object."""
         it = self.object(column, group)
         refuse_if(it.part is not None, "StaleJob")
         return self.begin(Job("fetch", column=column, group=group, object=it, state=it.state()))
 
     def offload(self, a, group):
-        """Begins to build a row group into an aggregate from the store, which must have its columns as they are now."""
+        """Begins to build a row group into an aggregate from the store, which must have the current contents of its columns."""
         it = self.need_pending(a, group)
         refuse_if(any(self.objects[column][group].dirty for column in it.columns()), "StaleJob")
         return self.begin(Job("offload", a=a, aggregate=it, group=group, state=self.build_state(it, group)))
 
     def build_state(self, aggregate, group):
-        """What an offloaded build rests on: the cells of its columns, and which rows there are."""
+        """The state that an offloaded build depends on: the writes of its columns, and which rows are alive."""
         versions = [self.objects[column][group].version for column in aggregate.columns()]
         return versions, [self.alive[it] for it in self.places_of(group)]
 
@@ -360,7 +360,7 @@ class Table:
         return "carried"
 
     def commit(self, n):
-        """Ends an evacuation."""
+        """Ends an eviction."""
         return self.end(n, "evac", self.leave)
 
     def install(self, n):
@@ -372,7 +372,7 @@ class Table:
         return self.end(n, "offload", self.build)
 
     def end(self, n, kind, ending):
-        """Ends a job. Its number is spent, unless it is refused for a reason that may pass."""
+        """Ends a job. Its number is spent, unless the refusal may pass."""
         job = self.jobs.pop(n, None)
         refuse_if(job is None or job.kind != kind, "StaleJob")
         try:
@@ -384,7 +384,7 @@ class Table:
         return "ok"
 
     def leave(self, job):
-        """Sends the object of a job away, if it was neither written nor away since the job began."""
+        """Evicts the object of a job, if it was neither written nor away since the job began."""
         it = job.object
         refuse_if(not job.carried or it.part is None or it.state() != job.state, "StaleJob")
         refuse_if(it.pins, "Pinned")
@@ -393,7 +393,7 @@ class Table:
         it.leavings += 1
 
     def arrive(self, job):
-        """Brings the object of a job back, if it was not back since the job began."""
+        """Fetches the object of a job, if it was not fetched since the job began."""
         it = job.object
         refuse_if(not job.carried or it.part is not None or it.state() != job.state, "StaleJob")
         cells = [self.rows[place][job.column] for place in self.places_of(job.group)]
@@ -401,17 +401,17 @@ class Table:
         it.hot = True
 
     def build(self, job):
-        """Builds the row group of a job into its aggregate, if nothing that the job rests on has changed."""
+        """Builds the row group of a job into its aggregate, if the state that the job depends on has not changed."""
         it = self.aggregate(job.a)
         refuse_if(not job.carried or it is not job.aggregate or job.group not in it.pending, "StaleJob")
         refuse_if(self.build_state(it, job.group) != job.state, "StaleJob")
         it.pending.remove(job.group)
 
     def compact(self, kind, segment):
-        """Moves the parts of a segment into the lowest free one: those of hot objects first, else in the order in which they lie."""
+        """Moves the parts of a segment into the lowest free one: hot objects first, otherwise in their order."""
         region = self.regions[kind]
         refuse_if(segment >= len(region.segments), "OutOfRange")
-        free = region.free_beside(segment)
+        free = region.other_free(segment)
         objects = [it for column in range(len(self.kinds)) if self.kinds[column] == kind for it in self.objects[column]]
         moved = [it for it in objects if it.part is not None and it.part.segment == segment]
         for it in sorted(moved, key=lambda it: (not it.hot, it.part.offset)):
@@ -423,7 +423,7 @@ class Table:
     # Whole tables.
 
     def renew(self, capacity):
-        """Goes on with a new store, into which all that is away is put. What is local has no copy there."""
+        """Moves all objects that are away to a new store. Local objects have no copy there."""
         store = Store(capacity)
         objects = [it for column in self.objects for it in column]
         for it in objects:

@@ -1,4 +1,4 @@
-/* Refuses the allocation of one number, for failed-allocations, which preloads it. */
+/* Lets the N-th allocation fail. failed-allocations preloads it. */
 #include <errno.h>
 #include <fcntl.h>
 #include <stdatomic.h>
@@ -15,7 +15,7 @@ static int refuses(void) {
     return atomic_fetch_add(count, 1) + 1 == refused && (errno = ENOMEM);
 }
 
-/* The count lies in a file, so it is there however the program ends. */
+/* The count is in a file, so that it survives however the program ends. */
 __attribute__((constructor)) static void begin(void) {
     int file = open(getenv("FAILED_ALLOCATIONS_COUNT"), O_RDWR);
     void *at = mmap(0, sizeof *count, PROT_READ | PROT_WRITE, MAP_SHARED, file, 0);

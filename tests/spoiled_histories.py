@@ -1,10 +1,10 @@
-"""Histories that are wrong: each is one that was printed, with something in it that no table replies. tests/random-threads has each found.
+"""Makes wrong histories from a printed one, each with a reply that no table gives. tests/random-threads must find each.
 
-What is spoiled is in the middle of all that could be.
+Of all lines that could be spoiled, each takes the middle one.
 """
 # A number that no session writes.
 NOWHERE = "41"
-# The calls whose replies are spoiled.
+# The calls whose replies to spoil.
 VERBS = ("insert", "set", "remove", "row", "ask", "recount")
 
 
@@ -19,7 +19,7 @@ def joined(lines):
 
 
 def is_done(line, verb):
-    """Whether a line is of a call with this verb that was done, and said more than that nothing is there."""
+    """Whether a line has a call with this verb that succeeded with a non-empty reply."""
     return line[-2].startswith(f"{verb} ") and not line[-1].startswith(("refused", "failed", "none"))
 
 
@@ -37,7 +37,7 @@ def another_reply(history, verb):
 
 
 def lost_edit(history):
-    """A number that was set is another one than the one that is there from then on."""
+    """A set of another number than the one that is read from then on."""
     lines, later, last = parts(history), set(), []
     for line in reversed(lines):
         verb, *words = line[-2].split(" ")
@@ -50,7 +50,7 @@ def lost_edit(history):
 
 
 def edit_twice(history):
-    """A row is inserted once more, in place of a call that read one."""
+    """A row inserted once more, in place of a call that read one."""
     lines = parts(history)
     line = middle([it for it in lines if is_done(it, "row") and it[0] == "0"])
     line[-2:] = middle([it for it in lines if is_done(it, "insert")])[-2:]
@@ -58,7 +58,7 @@ def edit_twice(history):
 
 
 def stale_answer(history):
-    """An answer that is asked is the one of the time before."""
+    """An ask with the answer of the previous ask."""
     lines = parts(history)
     asked = [it for it in lines if is_done(it, "ask") and it[-2] == "ask 1"]
     line, before = middle([(it, old) for old, it in zip(asked, asked[1:]) if old[-1] != it[-1]])
@@ -67,7 +67,7 @@ def stale_answer(history):
 
 
 def other_order(history):
-    """Two sessions that inserted one after the other have each other's reply."""
+    """Two sessions that inserted in turn, with each other's replies."""
     lines = parts(history)
     inserted = [it for it in lines if is_done(it, "insert")]
     one, other = middle([two for two in zip(inserted, inserted[1:]) if two[0][0] != two[1][0]])
@@ -84,7 +84,7 @@ def clock_back(history):
 
 
 def unread_row(history):
-    """The last row is not read at the end."""
+    """The last row not read at the end."""
     lines = parts(history)
     del lines[max(number for number, it in enumerate(lines) if is_done(it, "row"))]
     return joined(lines)
@@ -94,7 +94,7 @@ WAYS = (lost_edit, edit_twice, stale_answer, other_order, clock_back, unread_row
 
 
 def all_spoiled(history):
-    """Yields what is spoiled, and the history with that."""
+    """Yields the name of each fault, and the history with it."""
     for verb in VERBS:
         yield f"a reply to '{verb}'", another_reply(history, verb)
     for way in WAYS:

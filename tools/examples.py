@@ -1,5 +1,5 @@
-"""The examples of the documents: scripts with their replies in docs/SCRIPT.md, the session of README.md, the table of docs/SCRIPT.md that
-says where each rule is, and code in comments and in some pages of docs/."""
+"""The examples of the documents: scripts with their replies in docs/SCRIPT.md, the session of README.md, the table of docs/SCRIPT.md with
+the files of each rule, and code in comments and in some pages of docs/."""
 import re
 
 from sources import ROOT, Wrong, indent, need, read, text_of
@@ -19,7 +19,7 @@ def block(path):
 
 
 def scripts(pages):
-    """Makes each example of a script: the line that names its file, the script, an empty line and the replies."""
+    """Updates each example of a script: the line that names its file, the script, an empty line and the replies."""
     made = lambda found: f"`{found[1]}.txt`:\n\n{block(f'{found[1]}.txt')}\n{block(f'{found[1]}.out')}\n"
     pages[SCRIPT] = EXAMPLE.sub(made, pages[SCRIPT])
 
@@ -34,15 +34,15 @@ def session(_):
     need(said == (text_of(f"{SESSION}.txt"), text_of(f"{SESSION}.out")), f"the session in README.md is not that of {SESSION}.txt and .out")
 
 
-# ---- where each rule is
+# ---- the files of each rule
 
 RULES = "\n## Where each rule is\n"
 NAMED = re.compile(r"((?:`\w+` and )?`\w+` in )?`([\w/]+\.(?:antt|rt))`")
 
 
 def check_files(cell):
-    """Checks that the files of a cell exist, and that `name` in `file` is there. A cell leaves out the folders specs/ and src/ of a crate,
-    and the crate of a file that is of the same one as the file before it."""
+    """Checks that the files of a cell exist, and that each file has the `name` before it. A cell leaves out the folders specs/ and src/ of
+    a crate, and the crate of a file if it is that of the file before."""
     crate = ""
     for names, file in NAMED.findall(cell):
         first, _, rest = file.partition("/")
@@ -54,7 +54,7 @@ def check_files(cell):
 
 
 def rules(_):
-    """Checks the table of rules: the files of definitions and of code, and the examples, which may be a folder of them."""
+    """Checks the table of rules: the files of definitions and of code, and the examples, or a folder of them."""
     rows = [it.strip("|").split("|") for it in text_of(SCRIPT).partition(RULES)[2].split("\n") if it.startswith("| ")][1:]
     need(rows, f"{SCRIPT} has no table of rules")
     for _, defined, done, example in rows:
@@ -67,7 +67,7 @@ def rules(_):
 
 # ---- code
 
-# What a program in Rattle begins with: each of these has an example.
+# The items that a program in Rattle begins with: each must have an example.
 SHOWN = """
 far_types::Cell far_types::Key far_types::Row far_types::Schema far_types::Limits far_types::Filter far_types::Spec far_types::TotalLines
 far_types::Refusal far_frame::Frame far_frame::World far_frame::View far_shared::Plan far_shared::Shared far_shared::Background
@@ -101,14 +101,14 @@ def blocks_in(lines):
 
 
 def blocks_of_page(lines):
-    """Yields the same of a page, which has no items."""
+    """Yields the same for a page, which has no items."""
     for at, line in enumerate(lines):
         if line == "```rust":
             yield None, at + 2, lines[at + 1 : lines.index("```", at)]
 
 
 class Code:
-    """All code of the crates: where each line is, without its indent."""
+    """All code of the crates: the positions of each line, without its indent."""
 
     def __init__(self):
         paths = sorted(ROOT.glob("crates/*/src/**/*.rt"))
@@ -119,22 +119,22 @@ class Code:
                     self.places.setdefault(line.strip(), []).append((path, at))
 
     def has(self, block):
-        """Returns whether the lines of a block are somewhere, one below the other, however far they are indented."""
+        """Returns whether the code has the lines of a block in a row, with any indent."""
         moved = lambda lines: [line[indent(lines[0]) :] for line in lines]
         places = self.places.get(block[0].strip(), []) if block else []
         return any(moved(self.files[path][at : at + len(block)]) == moved(block) for path, at in places)
 
 
 def code(_):
-    """Checks the examples of code. Each is, line for line, in a crate's code: so it is proved with that, and the tests that call it run
-    it. In a comment it is one whole function."""
+    """Checks that each example of code is, line for line, in a crate's code, which is proved, and which tests may run. In a comment an
+    example is one whole function."""
     crates, with_example, wrong = Code(), set(), []
     found = [(path, it) for path, lines in crates.files.items() for it in blocks_in(lines)]
     found += [(path, it) for path in PAGES for it in blocks_of_page(text_of(path).split("\n"))]
     for path, (name, first, block) in found:
         with_example.add(f"{path.split('/')[1]}::{name}")
         if not crates.has(block):
-            wrong.append(f"{path}:{first}: this example is in no crate's code")
+            wrong.append(f"{path}:{first}: no crate's code has this example")
         if name and not (FUNCTION.match(block[0]) and block[-1] == "}"):
             wrong.append(f"{path}:{first}: this example is not one whole function")
     wrong += [f"{name} has no example" for name in sorted(set(SHOWN) - with_example)]

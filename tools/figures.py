@@ -1,19 +1,18 @@
-"""The figures of docs/RELIABILITY.md: how often each thing was attacked, and what the limits cost.
+"""The figures of docs/RELIABILITY.md: the runs against each target, and the costs of the limits.
 
-The first are the sums of the lines of docs/reliability.csv. The commands that attack write such a line each with --record: what was
-attacked, how many runs, how many calls or commands they had if that is counted, in how many seconds, and how many failed. After what was
-attacked there may be a colon and how the runs were hindered. A row of the document's table that names such a command gets its figures in
-the second cell, and all else stays. The rows of its table of limits are the lines of docs/full-size.tsv, which the example full_size of
-the Rust crate writes."""
+The first are the sums of the lines of docs/reliability.csv. The commands write such a line with --record: the target, the runs, their
+calls or commands if these are counted, the seconds, and the failed runs. The target may have a suffix after a colon that says how the runs
+were hindered. In the document's table, the row that names the command gets the figures in its second cell; all else stays. The rows of its
+table of limits are the lines of docs/full-size.tsv, which the example full_size of the Rust crate writes."""
 import collections
 import re
 
 from sources import need, text_of
 
 PAGE, RESULTS, LIMITS = "docs/RELIABILITY.md", "docs/reliability.csv", "docs/full-size.tsv"
-# The head of the table of limits: below it and the line of dashes are its rows.
+# The head of the table of limits, which its rows follow.
 HEAD = "| Limit | What was met | One more | Refused with | Processor seconds | Most memory, MB |\n|---|---|---|---|---|---|\n"
-# By what a line is of: a word of the command in a row of the table, and how its figures are told.
+# By target: a word of the command in the table's row, and the form of its figures.
 TOLD = {
     "simulator": ("--example simulator", "{runs:,} seeds of {calls:,} calls"),
     "fuzz": ("tests/fuzz --seconds", "{runs:,} inputs"),
@@ -23,14 +22,14 @@ TOLD = {
     "threads": ("tests/random-threads --runs", "{runs:,} scripts of {calls:,} edits"),
     "histories": ("tests/random-threads --history", "{runs:,} histories of {calls:,} calls"),
 }
-# How runs were hindered, and how that is told.
+# By suffix: the words for how runs were hindered.
 HINDERED = {"1": "on one processor", "2": "on two", "stolen": "on two of which one was half stolen"}
-# How many pieces a row of the table has between its bars, the empty ones at its ends among them.
+# How many pieces a row of the table has between its bars, including the empty ones at its ends.
 PIECES = 7
 
 
 def sums():
-    """Returns the sums of the results, by what was attacked, and how many runs were hindered how."""
+    """Returns the sums of the results by target, and how many runs were hindered in each way."""
     found = collections.defaultdict(lambda: dict.fromkeys(("runs", "calls", "seconds", "failed", *HINDERED), 0))
     for line in text_of(RESULTS).splitlines()[1:]:
         what, *numbers = line.split(",")
@@ -43,7 +42,7 @@ def sums():
 
 
 def told(what, one):
-    """Returns the figures of a row as they are told."""
+    """Formats the figures of a row."""
     text = TOLD[what][1].format(**one) + f", in {max(one['seconds'] // 60, 1):,} minutes"
     hindered = [f"{one[how]:,} {it}" for how, it in HINDERED.items() if one[how]]
     text += f"; of them {', '.join(hindered)}" * bool(hindered)
@@ -51,7 +50,7 @@ def told(what, one):
 
 
 def reliability(pages):
-    """Makes the figures."""
+    """Updates the figures."""
     lines, results = pages[PAGE].splitlines(), sums()
     for number, line in enumerate(lines):
         cells = line.split("|")

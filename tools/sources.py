@@ -39,10 +39,15 @@ def text_of(path):
 # ---- definitions
 
 
-def words_of(text):
-    """Returns the names in a text: whole, up to their first dot, and in parts."""
+def names_of(text):
+    """Returns the names in a text: whole, and up to their first dot."""
     whole = re.findall(r"[^\s(){}\[\],;:λ∷×⊎→↔¬≡≤<]+", text)
-    return {it.strip("◌") for it in whole} | {it.split(".")[0] for it in whole} | set(re.findall(r"[\w'-]+", text))
+    return {it.strip("◌") for it in whole} | {it.split(".")[0] for it in whole}
+
+
+def words_of(text):
+    """Returns the names in a text and all parts of them, as fields."""
+    return names_of(text) | set(re.findall(r"[\w'-]+", text))
 
 
 def imports_of(text):
@@ -69,8 +74,8 @@ class Definition:
     scope: list
     lines: list = field(default_factory=list)
 
-    def words(self):
-        return words_of("\n".join([*self.scope, *self.lines]))
+    def text(self):
+        return "\n".join([*self.scope, *self.lines])
 
     def is_law(self):
         """Returns whether it is a proved fact, which needs no reader."""
@@ -143,9 +148,10 @@ def closure(specs, texts):
         reach_all(words_of(text), imports)
     while waiting:
         key, name = waiting.pop()
-        words = specs[key].definitions[name].words()
-        reach_all(words, specs[key].imports)
-        for word in words & specs[key].definitions.keys():
+        text = specs[key].definitions[name].text()
+        reach_all(words_of(text), specs[key].imports)
+        # (after a dot it is a variant or a field, not the definition of that name)
+        for word in names_of(text) & specs[key].definitions.keys():
             reach(key, word)
     return reached
 

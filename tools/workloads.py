@@ -12,7 +12,7 @@ OFFLOAD = "offload 0 {1}\ncarry {2}\nmerge {2}\n"
 
 
 def opening(kinds, watched=()):
-    """Returns the lines that open a table of the largest limits, with these aggregates."""
+    """Returns the lines that open a table with the largest limits and these aggregates."""
     texts = "1024 1048576" if "text" in kinds else "1 64"
     return [f"schema {GROUP} {kinds} 16777216 1099511627776 1024 65536 {texts}\n", *(f"watch {it}\n" for it in watched)]
 
@@ -22,9 +22,9 @@ def number(draw):
 
 
 def rows(draw, count, kinds):
-    """Returns rows of a number and what is beside it: nothing, one of the keys, or one of 400 texts."""
-    beside = {"int": lambda: "", "int,int": lambda: f",{draw.randrange(KEYS)}", "int,text": lambda: f",town{draw.randrange(400)}"}
-    return [f"{number(draw)}{beside[kinds]()}\n" for _ in range(count)]
+    """Returns rows of a number alone, or with one of the keys, or with one of 400 texts."""
+    rest = {"int": lambda: "", "int,int": lambda: f",{draw.randrange(KEYS)}", "int,text": lambda: f",town{draw.randrange(400)}"}
+    return [f"{number(draw)}{rest[kinds]()}\n" for _ in range(count)]
 
 
 def load(records):
@@ -34,12 +34,12 @@ def load(records):
 
 
 def jobs(form, column, groups, first):
-    """Returns a job for each row group: the commands of a form, which get a column, the row group and the job's number."""
+    """Returns a job for each row group: commands by a template with a column, the row group and the job's number."""
     return [form.format(column, group, first + group) for group in range(groups)]
 
 
 def inserts(draw, size, kinds, count):
-    """Rows, under the first few aggregates, which are asked at the end."""
+    """Inserts under the first few aggregates, which are asked at the end."""
     asked = [f"ask {it}\n" for it in range(count)]
     return opening(kinds, AGGREGATES[:count]) + [f"insert {it}" for it in rows(draw, size, kinds)] + asked
 
@@ -59,12 +59,12 @@ def edits(draw, size, count):
 
 
 def asks(draw, size):
-    """Asks of totals over 4,096 rows, and one by a key for 50 of them."""
+    """Asks of totals over 4,096 rows, with one ask by key for each 50."""
     return inserts(draw, 4096, "int,int", 2) + ["ask 0\n"] * size + ["ask 1\n"] * (size // 50)
 
 
 def loads(draw, size, kinds, after=""):
-    """One load under totals, an ask, and what is to come after it."""
+    """One load under totals, an ask, and the lines after it."""
     return opening(kinds, ["totals 0"]) + load(rows(draw, size, kinds)) + ["ask 0\n", after]
 
 
@@ -78,25 +78,25 @@ def asks_after_sets(draw, size, watched):
 
 
 def queue(_, size, watched):
-    """A queue: its least number goes, a greater one comes, and the aggregate is asked."""
+    """A queue: removes its least number, inserts a greater one, and asks the aggregate."""
     rising = [f"insert {it},{it % KEYS}\n" for it in range(2 * size)]
     turns = [f"remove {it}\n{rising[size + it]}ask 0\n" for it in range(size)]
     return opening("int,int", [watched]) + rising[:size] + turns
 
 
 def scans(draw, size, watched):
-    """An aggregate that is built over all row groups, asked and forgotten, and so four times."""
+    """An aggregate, built over all row groups, asked and forgotten, four times."""
     build = [f"watch {watched}\n", *(f"scan 0 {it}\n" for it in range(size)), "ask 0\n", "unwatch 0\n"]
     return opening("int,int") + load(rows(draw, size * GROUP, "int,int")) + build * TURNS
 
 
 def lends(draw, size, kinds, column):
-    """A column that is lent eight times, from its first places on to its end."""
+    """A column lent eight times, from one of its first places to its end."""
     return opening(kinds) + load(rows(draw, size, kinds)) + [f"lend {column} {it} {size}\n" for it in range(8)]
 
 
 def moves(draw, size, places, is_written):
-    """All row groups of a column go away and come back, four times; where they are written, each is set once in between."""
+    """Evicts and fetches all row groups of a column, four times; if they are written, sets a number of each between."""
     room = max(places, 4096)
     script = [f"schema {places} int {size * places} 1099511627776 {size * places // room + 2} {room} 1 64\n"]
     script += load(rows(draw, size * places, "int"))
@@ -121,9 +121,9 @@ def recounts(draw, size):
     return opening("int,int", ["totals 0 by 1"]) + load(rows(draw, size, "int,int")) + ["recount 0\n"] * 20
 
 
-# For each workload what makes its script, its size, and what else its maker is told.
+# For each workload, the function that makes its script, its size, and the function's other arguments.
 def sets(draw, size, count, edited=True):
-    """A load of rows, and then as many sets at random, under the first few aggregates."""
+    """A load of rows, and then sets at random, under the first few aggregates."""
     filled = opening("int,int", AGGREGATES[:count]) + load(rows(draw, size, "int,int"))
     return filled + [f"set {draw.randrange(size)} 0 {number(draw)}\n" for _ in range(size * edited)]
 
@@ -180,7 +180,7 @@ LINES, JOBS = 200_000, 2_000
 
 
 def turns(opening, turn):
-    """Returns so many turns, of which each begins its jobs with the next number."""
+    """Returns turns whose jobs have successive numbers."""
     jobs = sum(turn.count(verb) for verb in ("evac", "fetch", "offload"))
     if not jobs:
         return [turn] * LINES
@@ -189,12 +189,12 @@ def turns(opening, turn):
 
 
 def script_of(name, size):
-    """Returns the script of a workload at a size, from drawn numbers that are the same in each run."""
+    """Returns the script of a workload at a size, from random numbers that are the same in each run."""
     make, _, *told = WORKLOADS[name]
     return "".join(make(random.Random(name), size, *told))
 
 
 def filling_of(name, size):
-    """Returns the part of a workload's script that only fills the table, and is not counted; nothing for most."""
+    """Returns the part of a workload's script that only fills the table, which is not timed; empty for most."""
     make, _, *told = WORKLOADS[name]
     return "".join(make(random.Random(name), size, *told, False)) if make is sets else ""
