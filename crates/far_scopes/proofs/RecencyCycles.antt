@@ -1,9 +1,9 @@
 -- Objects that are used in turn, and the order of use after some of these uses.
-use Rattle.std.proofs.Common.{◌≡◌, ℕ, ◌+◌, ◌-◌, ◌<◌, ◌≤◌, ◌||◌, ◌++◌, Bool, true, false, inl, inr, List, [], ◌∷◌, cond, length, get_or, take, drop, reverse, nat_eq, refl, sym, ap, subst, ◌∙◌, arith}
+use Rattle.std.proofs.Common.{◌≡◌, ℕ, ◌+◌, ◌<◌, ◌≤◌, ◌++◌, true, false, inl, inr, List, [], ◌∷◌, cond, length, get_or, take, drop, reverse, nat_eq, refl, sym, ap, subst, ◌∙◌, arith}
 use Rattle.std.specs.List.{IsDistinct, AllByRecursion}
 use Rattle.std.proofs.Math.Bool.{or_comm}
 use Rattle.std.proofs.lemmas.Bool.{cases_eq, cases_Bool, eq-eqb, ne_eqb}
-use Rattle.std.proofs.lemmas.List.{append_assoc, reverse-append, take-append-drop, take-take, take_more, drop_more, drop_all, drop_at, drop-append-le, length-take, length-take-le, length-reverse}
+use Rattle.std.proofs.lemmas.List.{append_assoc, reverse-append, take-append-drop, take-take, take_more, drop_more, drop_all, drop_at, length-take, length-take-le, length-reverse}
 use Rattle.std.proofs.lemmas.Map.Keys.{IsDistinct-head, IsDistinct-tail}
 use Rattle.far_scopes.specs.Recency.{has, without, after_use, after_uses, Once, IsCycle}
 use Rattle.far_scopes.proofs.RecencyLaws.{has-cons_same, has-cons_other, without-cons, after_use-first, once-after_use, or-left, or-right}
