@@ -1,10 +1,9 @@
 -- The search for the eviction victim, from the end of the order of use.
 use Rattle.std.proofs.Common.{◌≡◌, ◌≢◌, ℕ, ◌<◌, ◌||◌, ◌&&◌, nat_eq, length, subst, not, Bool, true, false, inl, inr, List, [], ◌∷◌, ◌++◌, Option, Some, None, reverse, refl, sym, ap, ◌∙◌}
 use Rattle.std.specs.Prelude.{◌↔◌, IfSome}
-use Rattle.std.specs.Map.{keys_of}
 use Rattle.std.specs.Option.{option_or}
 use Rattle.std.specs.List.{find}
-use Rattle.std.proofs.lemmas.List.{map_push, append_assoc}
+use Rattle.std.proofs.lemmas.List.{append_assoc}
 use Rattle.std.proofs.Math.Bool.{or_comm}
 use Rattle.std.proofs.lemmas.Bool.{eq-eqb, eqb-true}
 use Rattle.std.proofs.lemmas.List.Folds.{list_any-append}
@@ -98,15 +97,12 @@ module _ {X K : Type 0} (m : Movement X K) where
     coldest-exactly found is = subst (λ (f : Option ℕ). (f ≡ None) ↔ ((o : ℕ) → is_local m o ≡ true → pins_of m o ≢ 0)) is exactly
 
   -- one step of the search, which takes the last object of the rest
-  module _ (left rest : List (ℕ × Unit {0})) (visited : List ℕ) (pair : ℕ × Unit {0}) (step : left ≡ rest ++ pair ∷ []) where
-    pub keys-step : keys_of left ≡ keys_of rest ++ pair.0 ∷ []
-    keys-step = ap keys_of step ∙ map_push (λ (p : ℕ × Unit {0}). p.0) rest pair
-
-    pub order-step : m.order ≡ keys_of left ++ visited → m.order ≡ keys_of rest ++ pair.0 ∷ visited
-    order-step is = is ∙ ap (λ l. l ++ visited) keys-step ∙ append_assoc (keys_of rest) (pair.0 ∷ []) visited
+  module _ (left rest visited : List ℕ) (o : ℕ) (step : left ≡ rest ++ o ∷ []) where
+    pub order-step : m.order ≡ left ++ visited → m.order ≡ rest ++ o ∷ visited
+    order-step is = is ∙ ap (λ l. l ++ visited) step ∙ append_assoc rest (o ∷ []) visited
 
     -- the number of the taken object is in use
-    pub last-within : {meaning : List ℕ → List X} {content : K → List ℕ} {spelled : List X → List ℕ → Type 0} → AreTracked meaning content spelled m → m.order ≡ keys_of left ++ visited → pair.0 < length m.records
+    pub last-within : {meaning : List ℕ → List X} {content : K → List ℕ} {spelled : List X → List ℕ → Type 0} → AreTracked meaning content spelled m → m.order ≡ left ++ visited → o < length m.records
     last-within tracked is =
-        let there : has m.order pair.0 ≡ true = ap (λ l. has l pair.0) (order-step is) ∙ list_any-append (λ p. nat_eq pair.0 p) (keys_of rest) (pair.0 ∷ visited) ∙ ap (λ b. has (keys_of rest) pair.0 || b) (has-cons_same visited pair.0) ∙ or_comm (has (keys_of rest) pair.0) true in
-        subst (λ n. pair.0 < n) (sym tracked.same_length) (place-within m.memory.words pair.0 (some-true (place_of m.memory.words pair.0) (sym (tracked.ordered pair.0) ∙ there)))
+        let there : has m.order o ≡ true = ap (λ l. has l o) (order-step is) ∙ list_any-append (λ p. nat_eq o p) rest (o ∷ visited) ∙ ap (λ b. has rest o || b) (has-cons_same visited o) ∙ or_comm (has rest o) true in
+        subst (λ n. o < n) (sym tracked.same_length) (place-within m.memory.words o (some-true (place_of m.memory.words o) (sym (tracked.ordered o) ∙ there)))

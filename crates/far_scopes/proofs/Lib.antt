@@ -11,6 +11,7 @@ pub mod MemoryLaws
 pub mod CoolLaws
 pub mod RecencyKeys
 pub mod RecencyLaws
+pub mod RecencyCycles
 pub mod RecencySearch
 pub mod ColdestLaws
 pub mod RecencyAllLocal

@@ -1,20 +1,13 @@
 -- An order of use of objects below a bound has all of them exactly if its length is the bound.
-use Rattle.std.proofs.Common.{◌≡◌, ◌≢◌, ℕ, zero, suc, ◌+◌, ◌<◌, ◌≤◌, ◌||◌, Bool, true, false, nat_eq, inl, inr, List, [], ◌∷◌, length, refl, sym, ap, subst, ◌∙◌, arith}
+use Rattle.std.proofs.Common.{◌≡◌, ℕ, zero, suc, ◌<◌, ◌≤◌, true, false, inl, inr, List, [], ◌∷◌, length, sym, ap, subst, ◌∙◌, arith}
 use Rattle.std.specs.Prelude.{◌↔◌}
-use Rattle.std.proofs.lemmas.Bool.{cases_eq, cases_Bool, eq-eqb, ne_eqb}
+use Rattle.std.proofs.lemmas.Bool.{cases_eq, cases_Bool}
 use Rattle.far_scopes.specs.Recency.{has, without, Once}
 use Rattle.far_scopes.specs.Memory.{place_of}
 use Rattle.far_scopes.specs.Movement.{Movement, is_local, AreTracked}
 use Rattle.far_scopes.proofs.RecencyLaws.{has-cons_same, has-cons_other, has-without_other, has-without_same, once-without}
+use Rattle.far_scopes.proofs.RecencyCycles.{length-without}
 use Rattle.far_scopes.proofs.MemoryWordPlaces.{place-within, some-true}
-
--- removing an object that is in an order makes the order shorter by one
-length-without : (order : List ℕ) (o : ℕ) → has order o ≡ true → length order ≡ length (without order o) + 1
-length-without [] o there = cc
-length-without (q ∷ order) o there = elim (cases_eq o q) [
-  | inl same ↦ rw (eq-eqb o q same) (omega arith)
-  | inr ne ↦ (let rest = length-without order o (sym (has-cons_other order q o ne) ∙ there) in rw (ne_eqb o q ne) (omega (arith, rest)))
-]
 
 -- an order of objects below a bound is at most as long as the bound
 at-most : (n : ℕ) (order : List ℕ) → Once order → ((p : ℕ) → has order p ≡ true → p < n) → length order ≤ n

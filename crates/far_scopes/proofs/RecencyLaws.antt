@@ -24,11 +24,11 @@ has-without_same (q ∷ order) o once = elim (cases_eq o q) [
   | inr differ ↦ rw (ne_eqb o q differ, ne_eqb o q differ) (has-without_same order o once.1)
 ]
 
-or-left : (a b : Bool) → a || b ≡ false → a ≡ false
+pub or-left : (a b : Bool) → a || b ≡ false → a ≡ false
 or-left true b e = cc
 or-left false b e = refl
 
-or-right : (a b : Bool) → a || b ≡ false → b ≡ false
+pub or-right : (a b : Bool) → a || b ≡ false → b ≡ false
 or-right true b e = cc
 or-right false b e = e
 

@@ -31,10 +31,10 @@ impl<T: Elem, S: FarTickets> Objects<T, S> {
     fn last_unpinned(&self) -> Option<u32>
         ensures { result ≡ find (is_unpinned self.now) (reverse self.now.order) }
     {
-        let mut rest = self.order.iter();
-        while let Some((last, _)) = rest.next_back() {
-            if self.pins(*last) == 0 {
-                return Some(*last);
+        let mut rest = self.order.least_recent();
+        while let Some(last) = rest.next() {
+            if self.pins(last) == 0 {
+                return Some(last);
             }
         }
         None
@@ -45,13 +45,13 @@ impl<T: Elem, S: FarTickets> Objects<T, S> {
         ensures { result ≡ coldest self.now }
     {
         let mut hot = None;
-        let mut rest = self.order.iter();
-        while let Some((o, _)) = rest.next_back() {
-            if self.pins(*o) == 0 {
-                if !self.word(*o).hot() {
-                    return Some(*o);
+        let mut rest = self.order.least_recent();
+        while let Some(o) = rest.next() {
+            if self.pins(o) == 0 {
+                if !self.word(o).hot() {
+                    return Some(o);
                 }
-                hot = hot.or(Some(*o));
+                hot = hot.or(Some(o));
             }
         }
         hot

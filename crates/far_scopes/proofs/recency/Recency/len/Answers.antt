@@ -1,6 +1,13 @@
-use Rattle.std.proofs.Common.{length, sym, ap, ◌∙◌}
+use Rattle.std.proofs.Common.{length, take, sym, ap, ◌∙◌}
+use Rattle.std.specs.Map.{keys_of}
 use Rattle.std.proofs.lemmas.List.{length-map}
+use Rattle.far_scopes.proofs.RecencyCycles.{length-after_uses}
 use Rattle.far_scopes.proofs.recency.Recency.len.Goals as goal
 
 pub returns : goal.returns
-returns c = c.len.ensures.len ∙ sym (length-map c.self.inside.cache.entries (λ e. e.0)) ∙ ap length c.self.view_is
+returns c =
+    let r = c.self.inside in
+    c.len.ensures.len
+    ∙ sym (length-map r.cache.entries (λ e. e.0))
+    ∙ sym (length-after_uses (keys_of r.cache.entries) (take r.cycle.deferred r.cycle.objects))
+    ∙ ap length c.self.view_is
