@@ -11,7 +11,7 @@ from . import _header as header
 from ._asking import Slots
 from ._buffers import cell_value
 from ._handle import leave
-from ._lines import LineReader
+from ._lines import KeptLines, LineReader
 from ._options import needed
 from .errors import BadArgument, BadSpec, NoAggregate, Nothing, WrongKind
 from .schema import Schema
@@ -60,8 +60,12 @@ class Spec:
 
     def columns(self) -> set[str]:
         """Returns the names of the columns that the aggregate reads."""
+        return {self.value} | self.deciding()
+
+    def deciding(self) -> set[str]:
+        """Returns the names of the columns that decide whether a row counts, and under which key."""
         by = [] if self.by is None else [self.by]
-        return {self.value, *by, *(column for column, _, _ in self.where)}
+        return {*by, *(column for column, _, _ in self.where)}
 
     def __repr__(self) -> str:
         by = f", by={self.by!r}" if self.by is not None else ""
@@ -186,6 +190,7 @@ class Watched(Generic[Line]):
         self._handle = handle
         self._at = handle.at
         self._lines = LineReader(handle, self._fold, self._key_kind)
+        self._kept = KeptLines(self._lines)
         self._slots = slots = Slots(handle, self._fold)
         lock, ask = table._lock, slots.fc_ask_key
         parts = lock.acquire, lock.release, slots, slots.of_key, ask, slots.unpack, self._fold
@@ -342,7 +347,7 @@ class Watched(Generic[Line]):
     def lines(self) -> list[tuple[Key, Line]]:
         """Returns all keys with their lines, sorted: numbers by value, texts by their bytes."""
         with self.table._lock:
-            return self._lines.first(self._ask())
+            return self._kept.pairs(self._ask(), self.table._retractions)
 
     def items(self) -> list[tuple[Key, Line]]:
         """Returns all keys with their lines, sorted, as of one moment."""
