@@ -484,10 +484,11 @@ class Editing:
 
     def _long_text(self, code: int, buffers: list[ColumnBuffer], row: int) -> dict[str, Any]:
         """Returns the column whose text in this row was refused as too long."""
+        if code != TextTooLong.number:
+            return {}
         cells = [(name, buffer.value(row)) for name, buffer in zip(self.schema, buffers)]
         lengths = {name: len(cell.encode()) for name, cell in cells if isinstance(cell, str)}
-        found = code == TextTooLong.number and max(lengths, key=lambda name: lengths[name])
-        return {"column": found} if found else {}
+        return {"column": max(lengths, key=lambda name: lengths[name])}
 
     def _match_places(self) -> None:
         """Reads the number of places again after an insert of many rows, also a refused one."""

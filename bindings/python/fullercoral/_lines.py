@@ -162,7 +162,9 @@ class LineReader:
     def _keys_in(self, lines: LineBuffer, length: int) -> Iterable[Any]:
         if self._key is str:
             return lines.texts(length)
-        return lines.numbers(_KEY_NUMBER, 0, length) if self._key is int else [None] * length
+        if self._key is int:
+            return lines.numbers(_KEY_NUMBER, 0, length)
+        return [None] * length
 
     def values_in(self, lines: LineBuffer, start: int, stop: int) -> Iterable[Any]:
         """Yields a range of the lines in the buffer, without their keys."""

@@ -104,7 +104,7 @@ def _spec(fold: str, value: str, by: str | None, where: Sequence[Test]) -> Spec:
 
 
 def _tests(where: Sequence[Test]) -> tuple[Test, ...]:
-    tests = [where] if isinstance(where, str) else list(where)
+    tests: list[Any] = [where] if isinstance(where, str) else list(where)
     if any(isinstance(test, str) for test in tests):
         raise BadSpec(f"where is a list of tests: where=[('amount', '>', 0)], not {where!r}")
     for test in tests:

@@ -25,7 +25,7 @@ from .engines import Engine, Memory, close_engine, release, take
 from .errors import Absent, BadArgument, Closed, NoAggregate, NoColumn, RemovedRow, WrongKind
 from .limits import Limits
 from .movement import Mover
-from .policy import Helper, Policy, build
+from .policy import Policy, build
 from .progress import Shown
 from .schema import Schema, SchemaLike
 
