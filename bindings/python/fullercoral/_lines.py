@@ -202,7 +202,7 @@ class KeptLines:
         if count > MOST_KEPT:
             self._pairs, self._parts = [], []
             return self._reader.first(count)
-        has_same_keys = (count, retractions) == (len(self._pairs), self._retractions)
+        has_same_keys = self._has_same_keys(count, retractions)
         self._retractions = -1  # until all lines are read
         if has_same_keys:
             self._read_changed(count)
@@ -210,6 +210,21 @@ class KeptLines:
             self._read_all(count)
         self._retractions = retractions
         return self._pairs.copy()
+
+    def keys(self, count: int, retractions: int) -> list[Any]:
+        """Returns the keys of the answer."""
+        if self._has_same_keys(count, retractions):
+            return [key for key, _ in self._pairs]
+        return self._reader.keys(count)
+
+    def values(self, count: int, retractions: int) -> list[Any]:
+        """Returns the lines of the answer without their keys."""
+        if count > MOST_KEPT:
+            return self._reader.values(count)
+        return [line for _, line in self.pairs(count, retractions)]
+
+    def _has_same_keys(self, count: int, retractions: int) -> bool:
+        return count == len(self._pairs) and retractions == self._retractions
 
     def _read_all(self, count: int) -> None:
         self._pairs, self._parts = [], []

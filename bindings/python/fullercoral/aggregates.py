@@ -356,12 +356,12 @@ class Watched(Generic[Line]):
     def keys(self) -> list[Key]:
         """Returns all keys, sorted."""
         with self.table._lock:
-            return self._lines.keys(self._ask())
+            return self._kept.keys(self._ask(), self.table._retractions)
 
     def values(self) -> list[Line]:
         """Returns the lines of all keys, in the order of the keys."""
         with self.table._lock:
-            return self._lines.values(self._ask())
+            return self._kept.values(self._ask(), self.table._retractions)
 
     def __iter__(self) -> Iterator[Key]:
         return iter(self.keys())

@@ -94,7 +94,10 @@ class Reused(unittest.TestCase):
                 self.table.unwatch(watched[0])
                 watched.append(self.table.watch(watched.pop(0).spec))
             for one in self.random.sample(watched, 2):
-                self.assertEqual(one.items(), in_order(self.plain.answer(one.spec)), one.spec)
+                due = in_order(self.plain.answer(one.spec))
+                ask = self.random.choice(["items", "keys", "values"])
+                part = {"items": due, "keys": [k for k, _ in due], "values": [v for _, v in due]}
+                self.assertEqual(getattr(one, ask)(), part[ask], (one.spec, ask))
 
     def test_a_key_in_the_place_of_another(self) -> None:
         edits: list[Callable[[fc.Table], Any]] = [
@@ -145,7 +148,10 @@ class Reused(unittest.TestCase):
                 while len(sold) > cities:
                     self.table.remove(self.table.places - 1 - (40 - len(sold)))
                 self.table.set(0, "quantity", cities)
-                self.assertEqual(sold.items(), list(self.table.recount(sold).items()))
+                due = self.table.recount(sold)
+                self.assertEqual(sold.values(), list(due.values()))
+                self.assertEqual(sold.items(), list(due.items()))
+                self.assertEqual(sold.keys(), list(due))
                 self.assertEqual(len(sold._kept._pairs), cities if cities <= 35 else 0)
 
     def test_an_engine_that_asks_while_an_edit_waits(self) -> None:
