@@ -40,7 +40,8 @@ def greatest(places: Any) -> int:
     numpy: Any = sys.modules.get("numpy") if len(places) >= _MANY else None
     if hasattr(numpy, "frombuffer"):
         return int(numpy.frombuffer(places, "uint32").max())
-    return max(places)
+    most: int = max(places)
+    return most
 
 
 def _is_plain(places: Any) -> bool:
