@@ -129,7 +129,7 @@ class CallsAlone(Ours):
         self._index = self.table.schema.index("quantity")
         slots = self.sold._slots
         self._slots = {key: slots.take(key) for key in map(drawn.key, range(KEYS))}
-        self.all = self.sold._ask
+        self.all = lambda: [*self.sold._lines.parts(self.sold._ask())]  # read, and not converted
 
     def one(self, key: Key) -> Any:  # type: ignore[override]
         cell_at, line_at, *_ = self._slots[key]

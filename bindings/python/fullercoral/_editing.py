@@ -13,7 +13,7 @@ import threading
 from ctypes import ArgumentError, byref, c_size_t, c_uint32
 from itertools import islice
 from operator import index as index_of
-from typing import Any, Callable, Iterable, Mapping, Sequence, Union
+from typing import TYPE_CHECKING, Any, Callable, Iterable, Mapping, Sequence, Union
 
 from . import _header as header
 from . import _setting
@@ -31,6 +31,10 @@ Progress = Callable[[int, int], Any]
 _ROWS_AT_ONCE = 1 << 16  # how many rows one call inserts; a multiple of 8, for the masks
 _ROWS_OF_EXTEND = 10_000
 _WORDS = 4  # the words of a cell: number, address of its text, length of its text, kind
+
+# What `Editing.set` needs of a column: its index, the words of the cell (None for texts), a pointer
+# to the cell, and whether a set may retract a row from its key.
+_Plan = tuple[int, Any, Any, bool]
 
 _encode = str.encode  # raises TypeError for anything but a str
 
@@ -70,9 +74,16 @@ class Editing:
     _lock: threading.RLock
     _handle: Handle
     _mover: Mover
+    _watched: list[Any]
     _answer: Any
+    _retractions: int
     _places: int
     _live: int
+
+    if TYPE_CHECKING:
+
+        def _column(self, name: str) -> tuple[int, type]:
+            ...
 
     def _prepare_edits(self) -> None:
         """Allocates the arguments that every edit reuses."""
@@ -91,17 +102,27 @@ class Editing:
         lib = self._handle.lib
         self._fc_insert, self._fc_set = lib.short("fc_insert"), lib.short("fc_set")
         self._fc_remove = lib.short("fc_remove")
-        self._for_set = self._parts_of_set()
+        self._set_plan: dict[str, _Plan] = {}
+        self._plan_sets()
+        lock = self._lock
+        self._for_set = lock.acquire, lock.release, self._set_plan, self._fc_set, self._at
         self._arrays = _setting.Arrays(self._handle)
 
-    def _parts_of_set(self) -> tuple[Any, ...]:
-        """Returns each column's index and cell, for `set`."""
+    def _plan_sets(self) -> None:
+        """Plans the sets of each column.
+
+        A set may retract a row if an aggregate has the column as its key or in a test.
+        """
+        deciding = {name for watched in self._watched for name in watched.spec.deciding()}
         number, text = (self._number_words, self._number_at), (None, self._text_at)
-        by_name = {
-            name: (index, *(text if kind is str else number))
-            for index, (name, kind) in enumerate(zip(self.schema.names, self.schema.kinds))
-        }
-        return self._lock.acquire, self._lock.release, by_name, self._fc_set, self._at
+        for index, (name, kind) in enumerate(self.schema.pairs()):
+            cell = text if kind is str else number
+            self._set_plan[name] = (index, *cell, name in deciding)
+
+    def _forget_answers(self) -> None:
+        """Notes that an edit may have changed each answer, and retracted rows from their keys."""
+        self._answer = None
+        self._retractions += 1
 
     # One row
 
@@ -171,16 +192,16 @@ class Editing:
 
     def _insert_filled(self, texts: list[bytes]) -> int:
         """Inserts the row that was filled in, with these texts, and returns its place."""
+        self._answer = None
         code = self._fc_insert(self._at, self._row_at, self._width, self._place_at)
         if code:
             arguments = self._at, self._row_at, self._width, self._place_at
-            self._go_on(code, self._fc_insert, *arguments)
+            self._go_on_editing(code, self._fc_insert, *arguments)
         place = self._place.value
         if place == MANY:
             self._handle.use_large_pages()
         self._places = place + 1
         self._live += 1
-        self._answer = None
         return place
 
     def _in_order(self, row: Mapping[str, Any]) -> list[Any]:
@@ -200,15 +221,15 @@ class Editing:
         >>> table[place]
         Row(sku='bread', quantity=7)
         """
-        acquire, release, by_name, fc_set, at = self._for_set
+        acquire, release, plan, fc_set, at = self._for_set
         try:
             acquire()
             if not 0 <= place < self._places:
                 place = self._place_of(place)
             try:
-                index, words, cell = by_name[column]
+                index, words, cell, may_retract = plan[column]
                 if value is None:
-                    cell = self._missing_at
+                    cell, may_retract = self._missing_at, True
                 elif words is not None:
                     words[0] = value
                 else:
@@ -216,13 +237,16 @@ class Editing:
                     words = self._text_words
                     words[1] = id(text) + BYTES_AT
                     words[2] = len(text)
+                self._answer = None
+                if may_retract:
+                    self._retractions += 1
                 code = fc_set(at, index, place, cell)
             except (KeyError, TypeError, ValueError, ArgumentError):
                 index, place, cell = self._odd_cell(place, column, value)
+                self._forget_answers()
                 code = fc_set(at, index, place, cell)
             if code:
-                self._go_on(code, fc_set, at, index, place, cell)
-            self._answer = None
+                self._go_on_editing(code, fc_set, at, index, place, cell)
         except BaseException as error:
             leave(self._lock)
             if error.__class__ is TypeError:
@@ -263,17 +287,17 @@ class Editing:
         if values is ...:
             places, values = _setting.as_pairs(places)
         with self._lock:
-            if not self._handle.is_open:
-                raise Closed()
-            index, code, done = self.schema.index(column), 0, 0
+            (index, kind), code, done = self._column(column), 0, 0
+            if _setting.are_plain(kind, places, values, self._places):
+                self._answer = None
+                self._retractions += self._set_plan[column][-1]
+                code, done = self._arrays.set(index, places, values)
+                if not code:
+                    return
             try:
-                if _setting.are_plain(self.schema.kinds[index], places, values, self._places):
-                    code, done = self._arrays.set(index, places, values)
-                    if not code:
-                        return
                 _setting.Cells(self, column, places, values).set(code, done)
             finally:
-                self._answer = None
+                self._forget_answers()
 
     def remove(self, place: int) -> None:
         """Removes a row. Its place is never reused. ``del table[place]`` does the same.
@@ -286,11 +310,11 @@ class Editing:
         """
         with self._lock:
             place = self._place_of(place)
+            self._forget_answers()
             code = self._fc_remove(self._at, place)
             if code:
-                self._go_on(code, self._fc_remove, self._at, place)
+                self._go_on_editing(code, self._fc_remove, self._at, place)
             self._live -= 1
-            self._answer = None
 
     def _place_of(self, place: int) -> int:
         """Returns an existing place, counted from 0."""
@@ -311,6 +335,13 @@ class Editing:
             code = helper.until_done(call, *arguments, code=code)
         if code:
             raise self._handle.refusal(code, **self._about(code, call, arguments))
+
+    def _go_on_editing(self, code: int, call: Callable[..., int], *arguments: Any) -> None:
+        """Retries a refused edit. An engine that the policy calls may ask for answers meanwhile."""
+        try:
+            self._go_on(code, call, *arguments)
+        finally:
+            self._forget_answers()
 
     def _about(self, code: int, call: Any, arguments: Any) -> dict[str, Any]:
         """Returns the place that a refused edit is about, or the column of a text too long."""
@@ -453,10 +484,11 @@ class Editing:
 
     def _long_text(self, code: int, buffers: list[ColumnBuffer], row: int) -> dict[str, Any]:
         """Returns the column whose text in this row was refused as too long."""
+        if code != TextTooLong.number:
+            return {}
         cells = [(name, buffer.value(row)) for name, buffer in zip(self.schema, buffers)]
         lengths = {name: len(cell.encode()) for name, cell in cells if isinstance(cell, str)}
-        found = code == TextTooLong.number and max(lengths, key=lambda name: lengths[name])
-        return {"column": found} if found else {}
+        return {"column": max(lengths, key=lambda name: lengths[name])}
 
     def _match_places(self) -> None:
         """Reads the number of places again after an insert of many rows, also a refused one."""

@@ -17,9 +17,6 @@ from .picture import Map, read_map
 from .policy import Helper, Policy, build
 from .schema import Schema
 
-if TYPE_CHECKING:
-    from .table import Table
-
 
 @dataclass(frozen=True)
 class Stats:

@@ -37,10 +37,11 @@ def place_buffer(places: Any, count: int) -> Any:
 
 def greatest(places: Any) -> int:
     """Returns the maximum of a buffer of 32-bit numbers, by numpy if the program has loaded it."""
-    numpy = sys.modules.get("numpy") if len(places) >= _MANY else None
+    numpy: Any = sys.modules.get("numpy") if len(places) >= _MANY else None
     if hasattr(numpy, "frombuffer"):
         return int(numpy.frombuffer(places, "uint32").max())
-    return max(places)
+    most: int = max(places)
+    return most
 
 
 def _is_plain(places: Any) -> bool:

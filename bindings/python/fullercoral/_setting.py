@@ -54,14 +54,15 @@ class Arrays:
 
     def set(self, column: int, places: array[int], values: array[int]) -> tuple[int, int]:
         """Sets the cells in order until one is refused; returns the code, and how many were set."""
-        with memoryview(places), memoryview(values):  # so no other thread resizes them
-            self._places_at.value, count = places.buffer_info()
-            self._words[0], length = values.buffer_info()
-            if count != length or not count:  # another thread resized them before
-                return (BadArgument.number if count != length else 0), 0
-            self._words[1], self._done.value = length, 0
-            arguments = self._places_at, count, self._column_at, self._done_at
-            code: int = self._fc_set_column(self._at, column, *arguments)
+        kept = memoryview(places), memoryview(values)  # so no other thread resizes them
+        self._places_at.value, count = places.buffer_info()
+        self._words[0], length = values.buffer_info()
+        if count != length or not count:  # another thread resized them before
+            return (BadArgument.number if count != length else 0), 0
+        self._words[1], self._done.value = length, 0
+        arguments = self._places_at, count, self._column_at, self._done_at
+        code: int = self._fc_set_column(self._at, column, *arguments)
+        del kept
         return code, self._done.value
 
 

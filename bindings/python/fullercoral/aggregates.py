@@ -11,7 +11,7 @@ from . import _header as header
 from ._asking import Slots
 from ._buffers import cell_value
 from ._handle import leave
-from ._lines import LineReader
+from ._lines import KeptLines, LineReader
 from ._options import needed
 from .errors import BadArgument, BadSpec, NoAggregate, Nothing, WrongKind
 from .schema import Schema
@@ -60,8 +60,12 @@ class Spec:
 
     def columns(self) -> set[str]:
         """Returns the names of the columns that the aggregate reads."""
+        return {self.value} | self.deciding()
+
+    def deciding(self) -> set[str]:
+        """Returns the names of the columns that decide whether a row counts, and under which key."""
         by = [] if self.by is None else [self.by]
-        return {self.value, *by, *(column for column, _, _ in self.where)}
+        return {*by, *(column for column, _, _ in self.where)}
 
     def __repr__(self) -> str:
         by = f", by={self.by!r}" if self.by is not None else ""
@@ -100,7 +104,7 @@ def _spec(fold: str, value: str, by: str | None, where: Sequence[Test]) -> Spec:
 
 
 def _tests(where: Sequence[Test]) -> tuple[Test, ...]:
-    tests = [where] if isinstance(where, str) else list(where)
+    tests: list[Any] = [where] if isinstance(where, str) else list(where)
     if any(isinstance(test, str) for test in tests):
         raise BadSpec(f"where is a list of tests: where=[('amount', '>', 0)], not {where!r}")
     for test in tests:
@@ -186,6 +190,7 @@ class Watched(Generic[Line]):
         self._handle = handle
         self._at = handle.at
         self._lines = LineReader(handle, self._fold, self._key_kind)
+        self._kept = KeptLines(self._lines)
         self._slots = slots = Slots(handle, self._fold)
         lock, ask = table._lock, slots.fc_ask_key
         parts = lock.acquire, lock.release, slots, slots.of_key, ask, slots.unpack, self._fold
@@ -342,7 +347,7 @@ class Watched(Generic[Line]):
     def lines(self) -> list[tuple[Key, Line]]:
         """Returns all keys with their lines, sorted: numbers by value, texts by their bytes."""
         with self.table._lock:
-            return self._lines.first(self._ask())
+            return self._kept.pairs(self._ask(), self.table._retractions)
 
     def items(self) -> list[tuple[Key, Line]]:
         """Returns all keys with their lines, sorted, as of one moment."""
@@ -351,12 +356,12 @@ class Watched(Generic[Line]):
     def keys(self) -> list[Key]:
         """Returns all keys, sorted."""
         with self.table._lock:
-            return self._lines.keys(self._ask())
+            return self._kept.keys(self._ask(), self.table._retractions)
 
     def values(self) -> list[Line]:
         """Returns the lines of all keys, in the order of the keys."""
         with self.table._lock:
-            return self._lines.values(self._ask())
+            return self._kept.values(self._ask(), self.table._retractions)
 
     def __iter__(self) -> Iterator[Key]:
         return iter(self.keys())

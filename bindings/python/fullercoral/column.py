@@ -3,7 +3,7 @@
 from __future__ import annotations
 
 from itertools import compress, groupby
-from typing import TYPE_CHECKING, Any, Iterator, Mapping, Union, overload
+from typing import TYPE_CHECKING, Any, Iterator, Mapping, NoReturn, Union, overload
 
 from ._options import needed
 from ._places import place_buffer
@@ -14,6 +14,8 @@ if TYPE_CHECKING:
     from .table import Table
 
 Value = Union[int, str, None]
+
+_FOLDS = {"count": "totals", "sum": "totals", "mean": "totals", "min": "extrema", "max": "extrema"}
 
 
 class Column:
@@ -42,6 +44,14 @@ class Column:
         self.table = table
         self.name = name
         self.index, self.kind = table._column(name)
+
+    if not TYPE_CHECKING:  # types know the attributes that there are
+
+        def __getattr__(self, name: str) -> NoReturn:
+            """Names the aggregate that has a column's sum, say."""
+            fold = _FOLDS.get(name)
+            asked = f": ask table.watch(fc.{fold}({self.name!r})).{name}" if fold else ""
+            raise AttributeError(f"a column has no {name}{asked}")
 
     def __len__(self) -> int:
         """The number of places, with those of removed rows."""

@@ -4,6 +4,7 @@ from __future__ import annotations
 
 from html import escape
 from typing import TYPE_CHECKING, Any, Iterator, Sequence
+from unicodedata import combining, east_asian_width
 
 from .errors import Refused
 from .picture import counted
@@ -100,14 +101,22 @@ def lines_as_text(watched: Watched[Any], lines: Sequence[tuple[Any, Any]]) -> st
     return _columns(shown, right) + (f"\nand {more:,} lines more" if more > 0 else "")
 
 
+def _width(text: str) -> int:
+    """Returns how many places of a terminal's line a text takes: a Chinese character takes two."""
+    if text.isascii():
+        return len(text)
+    return sum(0 if combining(char) else 1 + (east_asian_width(char) in "WF") for char in text)
+
+
 def _columns(lines: Sequence[Sequence[str]], right: Sequence[bool]) -> str:
-    widths = [max(len(line[at]) for line in lines) for at in range(len(lines[0]))]
+    widths = [max(_width(line[at]) for line in lines) for at in range(len(lines[0]))]
     return "\n".join("  ".join(_aligned(line, widths, right)).rstrip() for line in lines)
 
 
 def _aligned(line: Sequence[str], widths: Sequence[int], right: Sequence[bool]) -> Iterator[str]:
     for text, width, is_right in zip(line, widths, right):
-        yield text.rjust(width) if is_right else text.ljust(width)
+        space = " " * (width - _width(text))
+        yield space + text if is_right else text + space
 
 
 def _about(table: Table) -> str:

@@ -133,15 +133,16 @@ class Mover:
         if kind != header.EVICT and not carried:
             self._deliver_all(job, group)
         handle.step("carry", job)
-        content = handle.outgoing(job)
-        if content is None:
+        outgoing = handle.outgoing(job)
+        if outgoing is None:
             return None
+        number, content = outgoing
         try:
-            self._put(*content, lambda: self._object(job, content[0], group))
+            self._put(number, content, lambda: self._object(job, number, group))
         except EngineError:
             handle.lib.fc_fault(handle.at, job)
             raise
-        return content[0]
+        return number
 
     def fetch(self, column: int, group: int) -> None:
         """Fetches an object: it becomes local, and keeps its far copy until it is written."""

@@ -158,7 +158,7 @@ class Script:
         if serve is None:
             raise NoCommand
         with self.table._lock:
-            self.table._answer = None
+            self.table._forget_answers()
             return serve(self, words)
 
     def _schema(self, verb: str, words: _Words) -> str:
@@ -211,7 +211,7 @@ class Script:
         if rows is None:
             raise NoCommand
         with self.table._lock:
-            self.table._answer = None
+            self.table._forget_answers()
             for done, fields in enumerate(found := records(rows(count))):
                 try:
                     self._insert_fields(fields)
@@ -279,7 +279,7 @@ class Script:
             for struct, (column, op, constant) in zip(array, tests)
         )
         about = Spec(fold, names[value], None if key is None else names[key], where)
-        table._watched.append(Watched(table, about, number))
+        table._add_watched(Watched(table, about, number))
         table._watched[-1]._struct = (spec, array)
         return number
 

@@ -52,16 +52,9 @@ _SCRIPT_WORDS = (
     "carry commit install merge compact prefetch renew load dump"
 ).split()
 
-# Which words after a command name columns, counted from 0.
-_COLUMN_WORDS = {
-    "set": (1,),
-    "lend": (0,),
-    "pin": (0,),
-    "unpin": (0,),
-    "evac": (0,),
-    "fetch": (0,),
-    "prefetch": (0,),
-}
+_COLUMN_FIRST = ("lend", "pin", "unpin", "evac", "fetch", "prefetch")
+_WORD = '"[^"]*"|[^ ]+'
+_SET = re.compile(f" *([^ ]+) +({_WORD})( .*)?", re.DOTALL)  # place, column, record
 
 
 class Shell:
@@ -125,7 +118,7 @@ class Shell:
             if self.friendly:
                 self._open()
             return self.script.printed(line, rows)
-        return self._scripted(self._with_numbers(line), rows)
+        return self._scripted(self._with_numbers(line) if self.friendly else line, rows)
 
     def _scripted(self, line: str, rows: Callable[[int], str] | None) -> str:
         """Serves a line as a script; with a policy, fetches what it needs and repeats it."""
@@ -153,18 +146,19 @@ class Shell:
     # Names for numbers
 
     def _with_numbers(self, line: str) -> str:
-        """Returns a line with names of columns replaced by their numbers."""
-        verb, space, rest = line.partition(" ")
-        places = _COLUMN_WORDS.get(verb, ())
-        if verb != "watch" and not places:
-            return line
-        words = _words(rest, 2 if verb == "set" else -1)
+        """Returns a script's command: numbers for names of columns, and single spaces."""
+        verb, _, rest = line.lstrip().partition(" ")
+        if verb == "insert":
+            return f"{verb} {rest}"
+        if verb == "set":
+            found = _SET.fullmatch(rest)
+            return f"set {found[1]} {self._number(found[2])}{found[3] or ''}" if found else line
+        words = _words(rest)
         if verb == "watch":
-            return verb + space + " ".join(self._watch_words(words))
-        for place in places:
-            if place < len(words):
-                words[place] = self._number(words[place])
-        return verb + space + " ".join(words)
+            words = [*self._watch_words(words)]
+        elif verb in _COLUMN_FIRST:
+            words[:1] = map(self._number, words[:1])
+        return " ".join([verb, *words])
 
     def _watch_words(self, words: list[str]) -> Iterator[str]:
         before = ""
@@ -178,8 +172,6 @@ class Shell:
             return word
         if name in table.schema:
             return str(table.schema.index(name))
-        if not self.friendly:
-            return word
         raise NoColumn(column=name, columns=table.schema.names)
 
     # What goes wrong, in sentences
@@ -252,7 +244,7 @@ class Shell:
         return f"{self._open().to_csv(rest, progress=self.friendly):,} rows"
 
     def _rows(self, rest: str) -> str:
-        table, bounds = self._open(), [int(word) for word in rest.split()]
+        table, bounds = self._open(), [_whole(word) for word in rest.split()]
         if not bounds:
             return repr(table)
         start = bounds[0]
@@ -277,7 +269,7 @@ class Shell:
         return f"aggregate {number}\n{self._ask(number)}" if len(table) else f"aggregate {number}"
 
     def _ask(self, rest: str) -> str:
-        watched = self.script._watched(int(rest or "0"))
+        watched = self.script._watched(_whole(rest or "0"))
         if watched.pending:
             with Shown(self.friendly, "building", " row groups") as shown:
                 self._open().build(watched, shown)
@@ -294,10 +286,11 @@ class Shell:
         return "\n".join(parts)
 
     def _evict(self, rest: str) -> str:
-        words = rest.split()
-        column = self._open().schema.names[int(words[0])] if words and words[0].isdigit() else None
-        column = column or (words[0] if words else None)
-        gone = self._open().evict(column, int(words[1]) if len(words) > 1 else None)
+        table, words = self._open(), _words(rest)
+        column, names = words[0].strip('"') if words else None, table.schema.names
+        if column and column.isdecimal() and int(column) < len(names):
+            column = names[int(column)]
+        gone = table.evict(column, _whole(words[1]) if len(words) > 1 else None)
         return f"evicted {counted(gone, 'object')}"
 
     def _plot(self, rest: str) -> str:
@@ -344,17 +337,15 @@ def _switch(text: str, name: str) -> bool:
     return text == "on"
 
 
-def _words(text: str, most: int) -> list[str]:
-    """Splits a text at spaces outside quotes, at most ``most`` times."""
-    if '"' not in text:
-        return text.split(" ", most)
-    words: list[str] = []
-    while text and (most < 0 or len(words) < most):
-        found = re.match(r'("[^"]*"|[^ ]*) ?', text)
-        assert found is not None
-        words.append(found[1])
-        text = text[found.end() :]
-    return [*words, text] if text else words
+def _words(text: str) -> list[str]:
+    """Splits a text at spaces outside quotes."""
+    return re.findall(_WORD, text)
+
+
+def _whole(word: str) -> int:
+    if not word.isdecimal():
+        raise ValueError(f"give a whole number, not {word!r}")
+    return int(word)
 
 
 def _options(text: str, known: tuple[str, ...]) -> tuple[str, dict[str, str]]:

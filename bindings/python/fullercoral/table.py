@@ -25,7 +25,7 @@ from .engines import Engine, Memory, close_engine, release, take
 from .errors import Absent, BadArgument, Closed, NoAggregate, NoColumn, RemovedRow, WrongKind
 from .limits import Limits
 from .movement import Mover
-from .policy import Helper, Policy, build
+from .policy import Policy, build
 from .progress import Shown
 from .schema import Schema, SchemaLike
 
@@ -81,6 +81,7 @@ class Table(Editing, Moving):
         self._mover = Mover(self._handle, engine, contents)
         self._watched: list[Watched[Any]] = []
         self._answer: Watched[Any] | None = None  # whose current answer the handle holds
+        self._retractions = 0  # edits that may have retracted a row from its key in an answer
         self._places = 0
         self._live = 0
         self._kind_of = {name: (at, kind) for at, (name, kind) in enumerate(self.schema.pairs())}
@@ -345,8 +346,12 @@ class Table(Editing, Moving):
             number = handle.watch(struct)
             del kept
             watched: Watched[Any] = Watched(self, spec, number)
-            self._watched.append(watched)
+            self._add_watched(watched)
             return watched
+
+    def _add_watched(self, watched: Watched[Any]) -> None:
+        self._watched.append(watched)
+        self._plan_sets()
 
     def unwatch(self, watched: Watched[Any]) -> None:
         """Forgets an aggregate; a later one may get its number.
@@ -363,6 +368,7 @@ class Table(Editing, Moving):
             self._open_handle().step("unwatch", watched.number)
             watched._number = -1
             self._watched.remove(watched)
+            self._plan_sets()
             self._answer = None
 
     def _check_watched(self, watched: Any) -> None:

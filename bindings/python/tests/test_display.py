@@ -37,6 +37,12 @@ class Texts(unittest.TestCase):
             places = [line.split()[0] for line in lines[3:]]
             self.assertEqual(places, "1 2 600 601 602 … 994 995 996 997 999".split())
 
+    def test_characters_of_two_places_are_aligned(self) -> None:
+        with fc.Table({"name": str, "quantity": int}) as table:
+            table.extend([("日本", 5), ("Zoe\u0308", 12), ("bread", 7)])
+            due = ["    0  日本          5", "    1  Zoe\u0308          12", "    2  bread         7"]
+            self.assertEqual(repr(table).splitlines()[3:], due)
+
     def test_what_cannot_be_printed_is_escaped(self) -> None:
         with fc.Table(KINDS, local="1MB") as table:
             table.extend([("two\nlines", 1), ("x" * 100, None), (None, 2), ("é", 3)])

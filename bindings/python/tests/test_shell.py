@@ -111,6 +111,21 @@ class Replies(unittest.TestCase):
         )
         self.says_like(".watch sum Qty", r"this is not a valid \.watch command: \.watch totals")
 
+    def test_spaces_that_completion_leaves(self) -> None:
+        self.path.write_text("Unit Price,Qty,note\n199,5,fresh\n250,3,\n")
+        self.says_like(f".import {self.path} local=1MB", "^2 rows")
+        self.says(".watch  totals  Qty  if  Qty  >  3 ", "aggregate 0\ncount  sum\n    1    5")
+        self.says("watch totals  Qty ", "aggregate 1")
+        self.says("ask  1 ", "count 2 sum 8")
+        self.says('set  0  "Unit Price" 300', "ok")
+        self.says("set 0 note   two ", "ok")
+        self.says(" lend  note  0  2", "piece ++   two ,")
+        self.says('.evict  "Unit Price"  0 ', "evicted 1 object")
+        self.says(".evict 1", "evicted 1 object")
+        self.says(".evict Qty x", "give a whole number, not 'x'")
+        self.says(".rows 0 x", "give a whole number, not 'x'")
+        self.says_like(".evict 9", "no column '9'; the columns are Unit Price, Qty, note")
+
     def test_open_and_options(self) -> None:
         far = self.folder / "x.far"
         self.says(f".open sku:text, quantity:int local=1MB far={far} group=16", "ok")

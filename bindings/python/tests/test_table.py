@@ -200,6 +200,14 @@ class Refusals(Case):
         table.set(0, "quantity", 6)
         self.assertEqual(list(table), [("bread", 6)])
 
+    def test_what_pandas_has_and_a_column_has_not(self) -> None:
+        column: Any = self.table["quantity"]
+        asked = r"a column has no max: ask table.watch\(fc.extrema\('quantity'\)\).max"
+        with self.assertRaisesRegex(AttributeError, asked):
+            column.max()
+        with self.assertRaisesRegex(AttributeError, "^a column has no describe$"):
+            column.describe()
+
     def test_row_groups_that_do_not_exist(self) -> None:
         table = self.table
         self.refused(errors.OutOfRange, "it has none yet", lambda: table.evict("sku", 0))
