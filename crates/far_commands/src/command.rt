@@ -1,5 +1,5 @@
 // Parses lines as commands.
-ghost use Rattle.std.specs.Prelude.{◌≡◌, IfOk, IfErr, option_map};
+ghost use Rattle.std.specs.Prelude.{◌≡◌, IfOk, option_map};
 ghost use Rattle.far_commands.specs.Commands.{lend_of, object_in, compact_of, movement_of, offload_of, command_of, insert_of, set_of, numbered, scan_of, command_by};
 ghost use Rattle.far_script.specs.Watches.{spec_of};
 
@@ -10,8 +10,8 @@ use far_script::opening::read_kind;
 use far_script::verb::{Movement, Verb, read_verb};
 use far_script::watch::spec;
 use far_store::FarStore;
-use far_types::{Cell, Edit, Kind, Name, Refusal};
-use std::alloc::Global;
+use far_types::{Cell, Edit, Kind, Name};
+use std::alloc::{AllocError, Global};
 
 /// A command of a script, after the line that opens the table.
 #[derive(Drop, Debug)]
@@ -38,9 +38,8 @@ fn insert(
     spare: Vec<Cell>,
     kinds: &[Kind],
     words: Words,
-) -> Result<Option<Command>, Refusal>
+) -> Result<Option<Command>, AllocError>
     ensures command { IfOk result (λ command. command ≡ insert_of kinds.now words.entry) }
-    ensures memory { IfErr result (λ e. e ≡ Refusal.NoMemory) }
 {
     let Some(text) = words.rest() else {
         return Ok(None);
@@ -52,9 +51,8 @@ fn insert(
 }
 
 /// Reads `PLACE COLUMN CSV`, where `CSV` must be exactly one record of one field.
-fn set(alloc: Global, kinds: &[Kind], mut words: Words) -> Result<Option<Command>, Refusal>
+fn set(alloc: Global, kinds: &[Kind], mut words: Words) -> Result<Option<Command>, AllocError>
     ensures command { IfOk result (λ command. command ≡ set_of kinds.now words.entry) }
-    ensures memory { IfErr result (λ e. e ≡ Refusal.NoMemory) }
 {
     let Some(place) = words.number() else {
         return Ok(None);
@@ -179,11 +177,10 @@ fn ask(words: Words) -> Option<Command>
 }
 
 /// Reads `FOLD COLUMN [by COLUMN] [if COLUMN OPERATOR CONSTANT]..`.
-fn watch(alloc: Global, kinds: &[Kind], words: Words) -> Result<Option<Command>, Refusal>
+fn watch(alloc: Global, kinds: &[Kind], words: Words) -> Result<Option<Command>, AllocError>
     ensures command { IfOk result
         (λ command. command
         ≡ option_map (λ spec. Command.Step (Step.Watch spec)) (spec_of kinds.now words.entry)) }
-    ensures memory { IfErr result (λ e. e ≡ Refusal.NoMemory) }
 {
     match spec(alloc, kinds, words)? {
         Some(spec) => Ok(Some(Command::Step(Step::Watch(spec)))),
@@ -206,9 +203,8 @@ fn complete(
     kinds: &[Kind],
     verb: Verb,
     words: Words,
-) -> Result<Option<Command>, Refusal>
+) -> Result<Option<Command>, AllocError>
     ensures command { IfOk result (λ command. command ≡ command_by kinds.now verb words.entry) }
-    ensures memory { IfErr result (λ e. e ≡ Refusal.NoMemory) }
 {
     match verb {
         Verb::Insert => insert(alloc, spare, kinds, words),
@@ -250,16 +246,14 @@ fn spare_for<S: FarStore>(alloc: Global, world: &mut World<S>, verb: Verb) -> Ve
 }
 
 /// Parses a line as a command over the world's table; `None` if it spells none. A row reuses the memory of the row before it.
-/// Refused only with `NoMemory` (1).
 pub fn parse<S: FarStore>(
     alloc: Global,
     world: &mut World<S>,
     line: &str,
-) -> Result<Option<Command>, Refusal>
+) -> Result<Option<Command>, AllocError>
     ensures command { IfOk result
         (λ command. command ≡ command_of world.old.state.table.schema line.now) }
     ensures same { world.new ≡ world.old }
-    ensures memory { IfErr result (λ e. e ≡ Refusal.NoMemory) }
 {
     let mut words = Words::new(line);
     let Some(word) = words.word() else {

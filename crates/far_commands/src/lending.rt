@@ -1,5 +1,5 @@
 // Prints parts of columns without copying a value.
-ghost use Rattle.std.specs.Prelude.{◌≡◌, [], ◌∷◌, ◌++◌, true, false, map, slice_range, OnOk, IfOk, IfErr};
+ghost use Rattle.std.specs.Prelude.{◌≡◌, [], ◌∷◌, ◌++◌, true, false, map, slice_range, OnOk, IfOk};
 ghost use Rattle.csv.specs.Writing.{default_writer, fields_text};
 ghost use Rattle.far_types.specs.Lent.{lent_cell, text_cell};
 ghost use Rattle.far_types.specs.Table.{part};
@@ -14,7 +14,8 @@ use far_frame::{Frame, View};
 use far_script::Page;
 use far_store::FarTickets;
 use far_texts::TextCells;
-use far_types::{CellRef, Kind, Refusal};
+use far_types::{CellRef, Kind};
+use std::alloc::AllocError;
 
 /// Prints the pieces of a part of a column of numbers. Returns false if the part cannot be lent.
 fn lent_ints<S: FarTickets>(
@@ -23,11 +24,10 @@ fn lent_ints<S: FarTickets>(
     column: u32,
     from: u32,
     to: u32,
-) -> Result<bool, Refusal>
+) -> Result<bool, AllocError>
     ensures ok { IfOk result
         (λ lent. lent ≡ true
         → page.new ≡ page.old ++ texts_of piece_text (lent_part view.now.table column from to)) }
-    ensures memory { IfErr result (λ e. e ≡ Refusal.NoMemory) }
 {
     let Ok(mut lents) = view.ints(column, from, to) else {
         return Ok(false);
@@ -44,11 +44,10 @@ fn marks_at<S: FarTickets>(
     view: &View<'_, S>,
     from: u32,
     to: u32,
-) -> Result<(), Refusal>
+) -> Result<(), AllocError>
     ensures ok { OnOk result
         (page.new
         ≡ page.old ++ texts_of flag_text (slice_range (flags_of view.now.table.places) from to)) }
-    ensures memory { IfErr result (λ e. e ≡ Refusal.NoMemory) }
 {
     for place in from..to {
         let Some(alive) = view.is_alive(place) else {
@@ -60,12 +59,14 @@ fn marks_at<S: FarTickets>(
 }
 
 /// Prints the texts of a row after the first two.
-fn more_texts<S: FarTickets>(page: &mut Page, texts: &mut TextCells<'_, S>) -> Result<(), Refusal>
+fn more_texts<S: FarTickets>(
+    page: &mut Page,
+    texts: &mut TextCells<'_, S>,
+) -> Result<(), AllocError>
     ensures ok { OnOk result
         (page.new
         ≡ page.old
         ++ fields_text default_writer (map cell_text (map (λ it. text_cell it.0) texts.old))) }
-    ensures memory { IfErr result (λ e. e ≡ Refusal.NoMemory) }
 {
     while let Some(it) = texts.next() {
         page.byte(b',')?;
@@ -76,12 +77,11 @@ fn more_texts<S: FarTickets>(page: &mut Page, texts: &mut TextCells<'_, S>) -> R
 
 /// Prints the first two fields of a row. Inlined, since the caller knows the kind of the cells.
 #[inline(always)]
-fn two_fields(page: &mut Page, first: CellRef, second: CellRef) -> Result<(), Refusal>
+fn two_fields(page: &mut Page, first: CellRef, second: CellRef) -> Result<(), AllocError>
     ensures ok { OnOk result
         (page.new
         ≡ ((page.old ++ field_in_record false (cell_text (lent_cell first.entry))) ++ 44 ∷ [])
         ++ field_in_record false (cell_text (lent_cell second.entry))) }
-    ensures memory { IfErr result (λ e. e ≡ Refusal.NoMemory) }
 {
     cell(page, false, first)?;
     page.byte(b',')?;
@@ -89,10 +89,9 @@ fn two_fields(page: &mut Page, first: CellRef, second: CellRef) -> Result<(), Re
 }
 
 /// Prints texts as a row, with its line feed.
-fn text_row<S: FarTickets>(page: &mut Page, texts: &mut TextCells<'_, S>) -> Result<(), Refusal>
+fn text_row<S: FarTickets>(page: &mut Page, texts: &mut TextCells<'_, S>) -> Result<(), AllocError>
     ensures ok { OnOk result
         (page.new ≡ page.old ++ row_line (map (λ it. text_cell it.0) texts.old)) }
-    ensures memory { IfErr result (λ e. e ≡ Refusal.NoMemory) }
 {
     let Some(first) = texts.next() else {
         return page.text("\"\"\n");
@@ -117,7 +116,7 @@ fn text_piece<S: FarTickets>(
     column: u32,
     from: u32,
     to: u32,
-) -> Result<bool, Refusal>
+) -> Result<bool, AllocError>
     ensures ok { IfOk result
         (λ lent. lent ≡ true
         → page.new
@@ -126,7 +125,6 @@ fn text_piece<S: FarTickets>(
           cells = part column from to view.now.table.places;
           flags = slice_range (flags_of view.now.table.places) from to;
         }) }
-    ensures memory { IfErr result (λ e. e ≡ Refusal.NoMemory) }
 {
     let Ok(mut texts) = view.texts(column, from, to) else {
         return Ok(false);
@@ -145,11 +143,10 @@ fn lent_texts<S: FarTickets>(
     column: u32,
     from: u32,
     to: u32,
-) -> Result<bool, Refusal>
+) -> Result<bool, AllocError>
     ensures ok { IfOk result
         (λ lent. lent ≡ true
         → page.new ≡ page.old ++ texts_of piece_text (lent_part view.now.table column from to)) }
-    ensures memory { IfErr result (λ e. e ≡ Refusal.NoMemory) }
 {
     let size = view.size();
     let mut start = from;
@@ -172,10 +169,9 @@ pub fn lent<S: FarTickets>(
     column: u32,
     from: u32,
     to: u32,
-) -> Result<bool, Refusal>
+) -> Result<bool, AllocError>
     ensures ok { IfOk result
         (λ lent. lent ≡ true → reply.new ≡ pieces_text (lent_part frame.now.table column from to)) }
-    ensures memory { IfErr result (λ e. e ≡ Refusal.NoMemory) }
 {
     let view = frame.scope();
     // For the proof: shows that row groups are not empty.

@@ -16,14 +16,14 @@ use far_script::print::numbered;
 use far_script::{Output, Page, ShellFault, Sink};
 use far_store::FarTickets;
 use far_types::{CellRef, Refusal};
+use std::alloc::AllocError;
 
 /// How many bytes of rows are printed before they are added to the output.
 const GATHERED: usize = 4_096;
 
 /// Prints a field, alone in its record or as one of several.
-fn field(page: &mut Page, is_lone: bool, text: &[u8]) -> Result<(), Refusal>
+fn field(page: &mut Page, is_lone: bool, text: &[u8]) -> Result<(), AllocError>
     ensures ok { OnOk result (page.new ≡ page.old ++ field_in_record is_lone text.now) }
-    ensures memory { IfErr result (λ e. e ≡ Refusal.NoMemory) }
 {
     if is_lone {
         page.lone_field(text)
@@ -34,20 +34,18 @@ fn field(page: &mut Page, is_lone: bool, text: &[u8]) -> Result<(), Refusal>
 
 /// Prints a number as a field. A number needs no quotes.
 #[inline(always)]
-fn number(page: &mut Page, _is_lone: bool, value: i64) -> Result<(), Refusal>
+fn number(page: &mut Page, _is_lone: bool, value: i64) -> Result<(), AllocError>
     ensures ok { OnOk result
         (page.new ≡ page.old ++ field_in_record _is_lone (signed_decimal value)) }
-    ensures memory { IfErr result (λ e. e ≡ Refusal.NoMemory) }
 {
     page.signed(value)
 }
 
 /// Prints a cell as a field. Inlined, since the callers know the kind of the cell.
 #[inline(always)]
-pub fn cell(page: &mut Page, is_lone: bool, cell: CellRef) -> Result<(), Refusal>
+pub fn cell(page: &mut Page, is_lone: bool, cell: CellRef) -> Result<(), AllocError>
     ensures ok { OnOk result
         (page.new ≡ page.old ++ field_in_record is_lone (cell_text (lent_cell cell.entry))) }
-    ensures memory { IfErr result (λ e. e ≡ Refusal.NoMemory) }
 {
     match cell {
         CellRef::Int(value) => number(page, is_lone, value),
@@ -57,10 +55,9 @@ pub fn cell(page: &mut Page, is_lone: bool, cell: CellRef) -> Result<(), Refusal
 }
 
 /// Prints the fields of a row after the first.
-fn more_fields<S: FarTickets>(page: &mut Page, row: &RowRef<'_, S>) -> Result<(), Refusal>
+fn more_fields<S: FarTickets>(page: &mut Page, row: &RowRef<'_, S>) -> Result<(), AllocError>
     ensures ok { OnOk result
         (page.new ≡ page.old ++ fields_text default_writer (map cell_text (drop 1 row.now))) }
-    ensures memory { IfErr result (λ e. e ≡ Refusal.NoMemory) }
 {
     for column in 1..row.len() {
         let Some(lent) = row.get(column) else {
@@ -73,9 +70,8 @@ fn more_fields<S: FarTickets>(page: &mut Page, row: &RowRef<'_, S>) -> Result<()
 }
 
 /// Prints a row as a line.
-fn print_row<S: FarTickets>(page: &mut Page, row: &RowRef<'_, S>) -> Result<(), Refusal>
+fn print_row<S: FarTickets>(page: &mut Page, row: &RowRef<'_, S>) -> Result<(), AllocError>
     ensures ok { OnOk result (page.new ≡ page.old ++ row_line row.now) }
-    ensures memory { IfErr result (λ e. e ≡ Refusal.NoMemory) }
 {
     match row.get(0) {
         None => page.text("\"\"")?,
@@ -99,7 +95,8 @@ fn print_place<S: FarTickets>(
     ensures memory { IsHere view.now place → IfErr result (λ e. e ≡ Refusal.NoMemory) }
 {
     let cells = view.row_ref(place)?;
-    print_row(page, &cells)
+    print_row(page, &cells)?;
+    Ok(())
 }
 
 /// Returns whether the row of a place is alive.
@@ -174,10 +171,7 @@ pub fn dump<S: FarTickets, W: Sink>(
         }
     }
     output.reply.truncate(0);
-    match numbered(&mut output.reply, "rows", live_rows(frame)) {
-        Ok(()) => {}
-        Err(refusal) => return Err(ShellFault::of_memory(refusal)),
-    }
+    numbered(&mut output.reply, "rows", live_rows(frame))?;
     for place in 0..frame.places() {
         if is_live(&view, place) {
             match print_place(&mut output.reply, &view, place) {

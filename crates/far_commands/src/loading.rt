@@ -1,5 +1,5 @@
 // Inserts the rows of a load.
-ghost use Rattle.std.specs.Prelude.{◌≡◌, ℕ, List, [], ◌∷◌, true, false, OnOk, IfErr, IfOk};
+ghost use Rattle.std.specs.Prelude.{◌≡◌, ℕ, List, [], ◌∷◌, true, false, OnOk, IfOk};
 ghost use Rattle.std.specs.List.{slice_split};
 ghost use Rattle.csv.specs.Records.{fields_of};
 ghost use Rattle.far_frame.specs.Steps.{IsStep};
@@ -20,7 +20,7 @@ use far_script::lines::{are_plain_lines, next_line};
 use far_script::print::{numbered, refused};
 use far_store::FarStore;
 use far_types::{Edit, Refusal, Row};
-use std::alloc::Global;
+use std::alloc::{AllocError, Global};
 use std::io::Read;
 
 /// The result of a load: how many rows were inserted, and the refusal of the next row, if it was refused.
@@ -30,13 +30,12 @@ struct Loaded {
     refusal: Option<Refusal>,
 }
 
-/// Inserts the fields of a record as a row. Fails only with `NoMemory` (1), if there is no memory for its cells; the table
-/// then never got the row.
+/// Inserts the fields of a record as a row. Fails only if there is no memory for its cells; the table then never got the row.
 fn insert_record<S: FarStore>(
     alloc: Global,
     world: &mut World<S>,
     fields: &StringRecord,
-) -> Result<Reply, Refusal>
+) -> Result<Reply, AllocError>
     ensures step { IfOk result
         (λ reply. IsStep S.content S.number_of world.old
         (insert_of_record world.old.state.table.schema (fields_of fields.now)) reply
@@ -46,7 +45,6 @@ fn insert_record<S: FarStore>(
         (insert_of_record world.old.state.table.schema (fields_of fields.now)) reply
         (table_of world.new.state)) }
     ensures faults { world.new.faults ≡ world.old.faults }
-    ensures memory { IfErr result (λ e. e ≡ Refusal.NoMemory) }
 {
     let cells = record_cells(alloc, world.frame().schema().as_slice(), fields)?;
     Ok(world.edit(Edit::Insert(Row::new(cells))))
@@ -57,7 +55,7 @@ fn insert_line<S: FarStore>(
     alloc: Global,
     world: &mut World<S>,
     line: &str,
-) -> Result<Reply, Refusal>
+) -> Result<Reply, AllocError>
     ensures step { IfOk result
         (λ reply. IsStep S.content S.number_of world.old
         (insert_of_record world.old.state.table.schema (slice_split is_comma line.now)) reply
@@ -67,7 +65,6 @@ fn insert_line<S: FarStore>(
         (insert_of_record world.old.state.table.schema (slice_split is_comma line.now)) reply
         (table_of world.new.state)) }
     ensures faults { world.new.faults ≡ world.old.faults }
-    ensures memory { IfErr result (λ e. e ≡ Refusal.NoMemory) }
 {
     let spare = world.spare_cells();
     let cells = cells_in(alloc, spare, world.frame().schema().as_slice(), line)?;
@@ -81,13 +78,12 @@ fn load_lines<S: FarStore>(
     alloc: Global,
     world: &mut World<S>,
     text: &str,
-) -> Result<Loaded, Refusal>
+) -> Result<Loaded, AllocError>
     requires { are_plain_lines text.now ≡ true }
     ensures ok { IfOk result
         (λ loaded. Loads (both_rules S.FarTickets) 0 world.old (records_of text.now)
         (loaded_text loaded.count loaded.refusal) world.new) }
     ensures faults { world.new.faults ≡ world.old.faults }
-    ensures memory { IfErr result (λ e. e ≡ Refusal.NoMemory) }
 {
     let mut rest = text;
     let mut count = 0u64;
@@ -110,8 +106,8 @@ fn load_lines<S: FarStore>(
     })
 }
 
-/// Reads the next record, and returns whether there was one. Refused only with `NoMemory` (1).
-fn read_next<R: Read>(reader: &mut Reader<R>, fields: &mut StringRecord) -> Result<bool, Refusal>
+/// Reads the next record, and returns whether there was one.
+fn read_next<R: Read>(reader: &mut Reader<R>, fields: &mut StringRecord) -> Result<bool, AllocError>
     ensures none { IfOk result
         (λ found. found ≡ false
         → (rows : List (List (List ℕ))) → Remains R.remaining reader.old rows
@@ -121,10 +117,9 @@ fn read_next<R: Read>(reader: &mut Reader<R>, fields: &mut StringRecord) -> Resu
         → (rows : List (List (List ℕ))) → Remains R.remaining reader.old rows
         → (more : List (List (List ℕ))) × (rows ≡ fields_of fields.new ∷ more)
         × Remains R.remaining reader.new more) }
-    ensures memory { IfErr result (λ e. e ≡ Refusal.NoMemory) }
 {
     let Ok(found) = reader.read_record(fields) else {
-        return Err(Refusal::NoMemory);
+        return Err(AllocError);
     };
     Ok(found)
 }
@@ -137,13 +132,12 @@ fn insert_records<S: FarStore, R: Read>(
     world: &mut World<S>,
     reader: &mut Reader<R>,
     fields: &mut StringRecord,
-) -> Result<Loaded, Refusal>
+) -> Result<Loaded, AllocError>
     ensures ok { IfOk result
         (λ loaded. (rows : List (List (List ℕ))) → Remains R.remaining reader.old rows
         → Loads (both_rules S.FarTickets) 0 world.old rows
         (loaded_text loaded.count loaded.refusal) world.new) }
     ensures faults { world.new.faults ≡ world.old.faults }
-    ensures memory { IfErr result (λ e. e ≡ Refusal.NoMemory) }
 {
     for count in 0..MAX_BYTES {
         if !read_next(reader, fields)? {
@@ -159,7 +153,7 @@ fn insert_records<S: FarStore, R: Read>(
             });
         }
     }
-    Err(Refusal::NoMemory)
+    Err(AllocError)
 }
 
 /// Inserts the records of a text with the csv reader. Not inlined: the reader has a large stack frame, for which each
@@ -169,12 +163,11 @@ fn load_records<S: FarStore>(
     alloc: Global,
     world: &mut World<S>,
     text: &str,
-) -> Result<Loaded, Refusal>
+) -> Result<Loaded, AllocError>
     ensures ok { IfOk result
         (λ loaded. Loads (both_rules S.FarTickets) 0 world.old (records_of text.now)
         (loaded_text loaded.count loaded.refusal) world.new) }
     ensures faults { world.new.faults ≡ world.old.faults }
-    ensures memory { IfErr result (λ e. e ≡ Refusal.NoMemory) }
 {
     let mut reader = ReaderBuilder::new()
         .has_headers(false)
@@ -189,12 +182,11 @@ fn insert_all<S: FarStore>(
     alloc: Global,
     world: &mut World<S>,
     text: &str,
-) -> Result<Loaded, Refusal>
+) -> Result<Loaded, AllocError>
     ensures ok { IfOk result
         (λ loaded. Loads (both_rules S.FarTickets) 0 world.old (records_of text.now)
         (loaded_text loaded.count loaded.refusal) world.new) }
     ensures faults { world.new.faults ≡ world.old.faults }
-    ensures memory { IfErr result (λ e. e ≡ Refusal.NoMemory) }
 {
     if are_plain_lines(text) {
         load_lines(alloc, world, text)
@@ -204,9 +196,8 @@ fn insert_all<S: FarStore>(
 }
 
 /// Writes `loaded COUNT`, and the refusal if there is one, to an empty page.
-fn print_loaded(reply: &mut Page, loaded: &Loaded) -> Result<(), Refusal>
+fn print_loaded(reply: &mut Page, loaded: &Loaded) -> Result<(), AllocError>
     ensures ok { OnOk result (reply.new ≡ loaded_text loaded.now.count loaded.now.refusal) }
-    ensures memory { IfErr result (λ e. e ≡ Refusal.NoMemory) }
 {
     reply.truncate(0);
     numbered(reply, "loaded", loaded.count)?;
@@ -217,17 +208,16 @@ fn print_loaded(reply: &mut Page, loaded: &Loaded) -> Result<(), Refusal>
 }
 
 /// Inserts the records of a text in order, up to the first that is refused. Prints `loaded COUNT`, and the refusal if there
-/// is one. Fails only with `NoMemory` (1), if the shell itself runs out of memory.
+/// is one. Fails only if the shell itself runs out of memory.
 pub fn load<S: FarStore>(
     alloc: Global,
     world: &mut World<S>,
     text: &str,
     reply: &mut Page,
-) -> Result<(), Refusal>
+) -> Result<(), AllocError>
     ensures ok { OnOk result
         (Loads (both_rules S.FarTickets) 0 world.old (records_of text.now) reply.new world.new) }
     ensures faults { world.new.faults ≡ world.old.faults }
-    ensures memory { IfErr result (λ e. e ≡ Refusal.NoMemory) }
 {
     let loaded = insert_all(alloc, world, text)?;
     print_loaded(reply, &loaded)

@@ -1,5 +1,5 @@
 // Prints lent parts of columns, and the row groups to fetch next.
-ghost use Rattle.std.specs.Prelude.{◌≡◌, ◌++◌, ◌∷◌, [], map, OnOk, IfErr};
+ghost use Rattle.std.specs.Prelude.{◌≡◌, ◌++◌, ◌∷◌, [], map, OnOk};
 ghost use Rattle.csv.specs.Writing.{default_writer, fields_text};
 ghost use Rattle.far_types.specs.declared.cell.Cell.{Cell};
 ghost use Rattle.far_types.specs.Lent.{int_cell, lent_cell, text_cell};
@@ -11,7 +11,8 @@ ghost use Rattle.far_script.specs.Printing.{texts_of};
 use super::listing::cell;
 use far_frame::{IntPiece, TextPiece};
 use far_script::Page;
-use far_types::{CellRef, Refusal, Text};
+use far_types::{CellRef, Text};
+use std::alloc::AllocError;
 
 /// A value of a piece: a number or a text, or none.
 pub trait Value {
@@ -50,9 +51,8 @@ pub fn mark(alive: bool) -> u8
 }
 
 /// Prints the marks of places.
-fn marks(page: &mut Page, flags: &[bool]) -> Result<(), Refusal>
+fn marks(page: &mut Page, flags: &[bool]) -> Result<(), AllocError>
     ensures ok { OnOk result (page.new ≡ page.old ++ texts_of flag_text flags.now) }
-    ensures memory { IfErr result (λ e. e ≡ Refusal.NoMemory) }
 {
     for alive in flags {
         page.byte(mark(*alive))?;
@@ -61,11 +61,10 @@ fn marks(page: &mut Page, flags: &[bool]) -> Result<(), Refusal>
 }
 
 /// Prints the values of a row after the first.
-fn more_values<V: Value>(page: &mut Page, values: &[V]) -> Result<(), Refusal>
+fn more_values<V: Value>(page: &mut Page, values: &[V]) -> Result<(), AllocError>
     ensures ok { OnOk result
         (page.new
         ≡ page.old ++ fields_text default_writer (map cell_text (map V.cell values.now))) }
-    ensures memory { IfErr result (λ e. e ≡ Refusal.NoMemory) }
 {
     for value in values {
         page.byte(b',')?;
@@ -75,9 +74,8 @@ fn more_values<V: Value>(page: &mut Page, values: &[V]) -> Result<(), Refusal>
 }
 
 /// Prints values as a row, with its line feed.
-fn row<V: Value>(page: &mut Page, values: &[V]) -> Result<(), Refusal>
+fn row<V: Value>(page: &mut Page, values: &[V]) -> Result<(), AllocError>
     ensures ok { OnOk result (page.new ≡ page.old ++ row_line (map V.cell values.now)) }
-    ensures memory { IfErr result (λ e. e ≡ Refusal.NoMemory) }
 {
     match values {
         [] => page.text("\"\"\n"),
@@ -90,11 +88,10 @@ fn row<V: Value>(page: &mut Page, values: &[V]) -> Result<(), Refusal>
 }
 
 /// Prints `piece FLAGS VALUES`.
-pub fn piece<V: Value>(page: &mut Page, values: &[V], flags: &[bool]) -> Result<(), Refusal>
+pub fn piece<V: Value>(page: &mut Page, values: &[V], flags: &[bool]) -> Result<(), AllocError>
     ensures ok { OnOk result
         (page.new
         ≡ page.old ++ piece_text record { cells = map V.cell values.now; flags = flags.now }) }
-    ensures memory { IfErr result (λ e. e ≡ Refusal.NoMemory) }
 {
     page.text("piece ")?;
     marks(page, flags)?;
@@ -103,9 +100,8 @@ pub fn piece<V: Value>(page: &mut Page, values: &[V], flags: &[bool]) -> Result<
 }
 
 /// Prints pieces of numbers, one a line, or `empty` if there are none.
-pub fn ints(page: &mut Page, pieces: &[IntPiece]) -> Result<(), Refusal>
+pub fn ints(page: &mut Page, pieces: &[IntPiece]) -> Result<(), AllocError>
     ensures ok { OnOk result (page.new ≡ page.old ++ pieces_text (map int_piece pieces.now)) }
-    ensures memory { IfErr result (λ e. e ≡ Refusal.NoMemory) }
 {
     if pieces.is_empty() {
         return page.text("empty\n");
@@ -117,9 +113,8 @@ pub fn ints(page: &mut Page, pieces: &[IntPiece]) -> Result<(), Refusal>
 }
 
 /// Prints pieces of texts, one a line, or `empty` if there are none.
-pub fn texts(page: &mut Page, pieces: &[TextPiece]) -> Result<(), Refusal>
+pub fn texts(page: &mut Page, pieces: &[TextPiece]) -> Result<(), AllocError>
     ensures ok { OnOk result (page.new ≡ page.old ++ pieces_text (map text_piece pieces.now)) }
-    ensures memory { IfErr result (λ e. e ≡ Refusal.NoMemory) }
 {
     if pieces.is_empty() {
         return page.text("empty\n");
@@ -131,9 +126,8 @@ pub fn texts(page: &mut Page, pieces: &[TextPiece]) -> Result<(), Refusal>
 }
 
 /// Prints `next` and the row groups, or `next none` if there are none.
-pub fn next(page: &mut Page, groups: &[u32]) -> Result<(), Refusal>
+pub fn next(page: &mut Page, groups: &[u32]) -> Result<(), AllocError>
     ensures ok { OnOk result (page.new ≡ page.old ++ next_text groups.now) }
-    ensures memory { IfErr result (λ e. e ≡ Refusal.NoMemory) }
 {
     if groups.is_empty() {
         return page.text("next none\n");

@@ -9,6 +9,7 @@ use far_script::Page;
 use far_script::print::{answer, refused};
 use far_store::{FarStore, Meter};
 use far_types::{Answer, Refusal};
+use std::alloc::AllocError;
 
 /// Returns the number of threads for a recount.
 fn workers() -> u32
@@ -40,9 +41,8 @@ pub fn recount<S: FarStore, A: Resources<S>>(
     world: &World<S>,
     aggregate: u32,
     reply: &mut Page,
-) -> Result<(), Refusal>
+) -> Result<(), AllocError>
     ensures ok { OnOk result (Recounts world.now.state.table aggregate reply.new) }
-    ensures memory { IfErr result (λ e. e ≡ Refusal.NoMemory) }
 {
     reply.truncate(0);
     match from_scratch(resources, world, aggregate) {

@@ -11,6 +11,7 @@ use far_script::print::refused;
 use far_script::{Opening, Page};
 use far_store::FarStore;
 use far_types::{Kind, Limits, Refusal};
+use std::alloc::AllocError;
 use std::mem;
 
 /// The smallest limits that a table may have.
@@ -24,10 +25,8 @@ const SMALLEST: Limits = Limits {
     text_size: 64,
 };
 
-/// Returns an empty table, which takes the place of the script's table during the move. Refused only with `NoMemory` (1).
-fn stand_in<S: FarStore, A: Resources<S>>(resources: &A) -> Result<World<S>, Refusal>
-    ensures memory { IfErr result (λ e. e ≡ Refusal.NoMemory) }
-{
+/// Returns an empty table, which takes the place of the script's table during the move.
+fn stand_in<S: FarStore, A: Resources<S>>(resources: &A) -> Result<World<S>, AllocError> {
     let mut kinds = Vec::new(resources.alloc());
     kinds.push(Kind::Int)?;
     let opening = Opening {
@@ -37,7 +36,7 @@ fn stand_in<S: FarStore, A: Resources<S>>(resources: &A) -> Result<World<S>, Ref
     let store = resources.store(0)?;
     match open_table(resources.alloc(), store, opening) {
         Ok(world) => Ok(world),
-        Err(_) => Err(Refusal::NoMemory),
+        Err(_) => Err(AllocError),
     }
 }
 
@@ -99,12 +98,11 @@ pub fn renew<S: FarStore, A: Resources<S>>(
     world: &mut World<S>,
     capacity: u32,
     reply: &mut Page,
-) -> Result<(), Refusal>
+) -> Result<(), AllocError>
     requires few { world.old.faults < 2 ^ 62 }
     ensures ok { OnOk result (Renews S.FarTickets capacity world.old reply.new world.new) }
     ensures table { table_of world.new.state ≡ table_of world.old.state }
     ensures faults { world.new.faults ≤ world.old.faults + 1 }
-    ensures memory { IfErr result (λ e. e ≡ Refusal.NoMemory) }
 {
     reply.truncate(0);
     match go_on(resources, world, capacity) {

@@ -1,9 +1,8 @@
 // What a script needs from its environment.
-ghost use Rattle.std.specs.Prelude.{◌≡◌, IfOk, IfErr};
+ghost use Rattle.std.specs.Prelude.{◌≡◌, IfOk};
 
 use far_store::{AgentStore, FarTickets};
-use far_types::Refusal;
-use std::alloc::Global;
+use std::alloc::{AllocError, Global};
 use std::thread::Threads;
 
 /// What a script needs from its environment: an allocator, a runtime that makes threads, and empty stores.
@@ -18,10 +17,9 @@ pub trait Resources<S: FarTickets> {
     /// known to be `Sync`.
     fn runtime(&self) -> &Self::Runtime;
 
-    /// Returns an empty store for `capacity` contents. Refused only with `NoMemory` (1).
-    fn store(&self, capacity: u64) -> Result<S, Refusal>
-        ensures capacity { IfOk result (λ store. S.capacity_of store ≡ capacity) }
-        ensures memory { IfErr result (λ e. e ≡ Refusal.NoMemory) };
+    /// Returns an empty store for `capacity` contents.
+    fn store(&self, capacity: u64) -> Result<S, AllocError>
+        ensures capacity { IfOk result (λ store. S.capacity_of store ≡ capacity) };
 }
 
 /// Resources in this process: stores that keep contents in memory and whose puts wait by `rt`, and threads of `rt`.
@@ -52,7 +50,10 @@ impl<R: Copy + Threads + Sync + Drop> Resources<AgentStore<R>> for Agents<R> {
         &self.rt
     }
 
-    fn store(&self, capacity: u64) -> Result<AgentStore<R>, Refusal> {
-        AgentStore::new(self.rt, self.alloc, capacity)
+    fn store(&self, capacity: u64) -> Result<AgentStore<R>, AllocError> {
+        match AgentStore::new(self.rt, self.alloc, capacity) {
+            Ok(store) => Ok(store),
+            Err(_) => Err(AllocError),
+        }
     }
 }

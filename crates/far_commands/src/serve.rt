@@ -27,7 +27,7 @@ use far_script::print::{answer, extrema, numbered, refused, total};
 use far_script::{ByteRange, Input, Output, Page, ShellFault, Sink, Source};
 use far_store::FarStore;
 use far_types::Refusal;
-use std::alloc::Global;
+use std::alloc::{AllocError, Global};
 
 /// Returns the text for `Done` as the reply to a step.
 fn done(step: &Step) -> &'static str
@@ -41,9 +41,8 @@ fn done(step: &Step) -> &'static str
 
 /// Prints a reply, with `done` as the text for `Reply::Done`. Not inlined, so that the calls in it are.
 #[inline(never)]
-fn print_reply(page: &mut Page, done: &str, reply: &Reply) -> Result<(), Refusal>
+fn print_reply(page: &mut Page, done: &str, reply: &Reply) -> Result<(), AllocError>
     ensures ok { OnOk result (page.new ≡ reply_text done.now reply.now) }
-    ensures memory { IfErr result (λ e. e ≡ Refusal.NoMemory) }
 {
     page.truncate(0);
     match reply {
@@ -67,14 +66,13 @@ fn take_lending<S: FarStore>(
     from: u32,
     to: u32,
     reply: &mut Page,
-) -> Result<bool, Refusal>
+) -> Result<bool, AllocError>
     ensures lent { IfOk result
         (λ lent. lent ≡ true
         → Takes (both_rules S.FarTickets) world.old (Step.Lend column from to) reply.new
         world.new) }
     ensures refused { IfOk result (λ lent. lent ≡ false → world.new ≡ world.old) }
     ensures faults { world.new.faults ≡ world.old.faults }
-    ensures memory { IfErr result (λ e. e ≡ Refusal.NoMemory) }
 {
     if !lent(reply, world.frame(), column, from, to)? {
         return Ok(false);
@@ -94,12 +92,11 @@ fn take_lend<S: FarStore>(
     from: u32,
     to: u32,
     reply: &mut Page,
-) -> Result<(), Refusal>
+) -> Result<(), AllocError>
     requires few { world.old.faults < 2 ^ 62 }
     ensures ok { OnOk result
         (Takes (both_rules S.FarTickets) world.old (Step.Lend column from to) reply.new world.new) }
     ensures faults { world.new.faults ≤ world.old.faults + 1 }
-    ensures memory { IfErr result (λ e. e ≡ Refusal.NoMemory) }
 {
     if take_lending(world, column, from, to, reply)? {
         return Ok(());
@@ -111,11 +108,10 @@ fn take_lend<S: FarStore>(
 
 /// Answers an `ask` of totals without key column directly, without making lines. Returns false if the aggregate is of
 /// another form or has pending row groups.
-fn answer_plain<S: FarStore>(world: &World<S>, a: u32, reply: &mut Page) -> Result<bool, Refusal>
+fn answer_plain<S: FarStore>(world: &World<S>, a: u32, reply: &mut Page) -> Result<bool, AllocError>
     ensures plain { IfOk result
         (λ plain. plain ≡ true
         → Takes (both_rules S.FarTickets) world.now (Step.Ask a) reply.new world.now) }
-    ensures memory { IfErr result (λ e. e ≡ Refusal.NoMemory) }
 {
     let Some((count, sum)) = world.frame().plain(a) else {
         return Ok(false);
@@ -127,11 +123,14 @@ fn answer_plain<S: FarStore>(world: &World<S>, a: u32, reply: &mut Page) -> Resu
 
 /// Answers an `ask` of extrema without key column directly, from their one line and without making a list. Returns false if
 /// there are no such extrema, they have no line, or row groups are pending.
-fn answer_extrema<S: FarStore>(world: &World<S>, a: u32, reply: &mut Page) -> Result<bool, Refusal>
+fn answer_extrema<S: FarStore>(
+    world: &World<S>,
+    a: u32,
+    reply: &mut Page,
+) -> Result<bool, AllocError>
     ensures plain { IfOk result
         (λ plain. plain ≡ true
         → Takes (both_rules S.FarTickets) world.now (Step.Ask a) reply.new world.now) }
-    ensures memory { IfErr result (λ e. e ≡ Refusal.NoMemory) }
 {
     let frame = world.frame();
     let Some(spec) = frame.spec(a) else {
@@ -149,12 +148,11 @@ fn answer_extrema<S: FarStore>(world: &World<S>, a: u32, reply: &mut Page) -> Re
 }
 
 /// Serves `ask`, and prints the answer or the refusal.
-fn take_ask<S: FarStore>(world: &mut World<S>, a: u32, reply: &mut Page) -> Result<(), Refusal>
+fn take_ask<S: FarStore>(world: &mut World<S>, a: u32, reply: &mut Page) -> Result<(), AllocError>
     requires few { world.old.faults < 2 ^ 62 }
     ensures ok { OnOk result
         (Takes (both_rules S.FarTickets) world.old (Step.Ask a) reply.new world.new) }
     ensures faults { world.new.faults ≤ world.old.faults + 1 }
-    ensures memory { IfErr result (λ e. e ≡ Refusal.NoMemory) }
 {
     if answer_plain(world, a, reply)? || answer_extrema(world, a, reply)? {
         return Ok(());
@@ -164,11 +162,14 @@ fn take_ask<S: FarStore>(world: &mut World<S>, a: u32, reply: &mut Page) -> Resu
 }
 
 /// Serves a step, and prints its reply. Edits, which most steps are, go to the table on a shorter path.
-fn take_step<S: FarStore>(world: &mut World<S>, step: Step, reply: &mut Page) -> Result<(), Refusal>
+fn take_step<S: FarStore>(
+    world: &mut World<S>,
+    step: Step,
+    reply: &mut Page,
+) -> Result<(), AllocError>
     requires few { world.old.faults < 2 ^ 62 }
     ensures ok { OnOk result (Takes (both_rules S.FarTickets) world.old step reply.new world.new) }
     ensures faults { world.new.faults ≤ world.old.faults + 1 }
-    ensures memory { IfErr result (λ e. e ≡ Refusal.NoMemory) }
 {
     match step {
         Step::Edit(edit) => {
@@ -348,6 +349,6 @@ pub fn answer_line<S: FarStore, A: Resources<S>, R: Source + Drop, W: Sink>(
             served
         }
         Ok(None) => print_syntax(output, progress.number),
-        Err(refusal) => Err(ShellFault::of_memory(refusal)),
+        Err(_) => Err(ShellFault::Memory),
     }
 }

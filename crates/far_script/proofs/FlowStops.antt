@@ -8,7 +8,8 @@ use Rattle.far_script.specs.declared.fault.ShellFault.{ShellFault}
 use Rattle.far_script.specs.declared.fault.ShellFault.TheVariants as fault
 use Rattle.far_script.specs.declared.input.Input.{Input}
 use Rattle.far_script.specs.Faults.{IfInput, IfHalted, IsCut}
-use Rattle.far_script.specs.Flow.{Counts, Gives, IsFrontOf, IsShort, IsAtEnd, IsUnseen, Leaves, Reads, StartsWith, Stops, unread}
+use Rattle.far_script.specs.Flow.{Counts, Gives, IsFrontOf, IsShort, IsAtEnd, IsUnseen, Leaves, Reads, StartsWith, Stops, TakesNoLine, unread}
+use Rattle.far_script.specs.Lines.{IsOneLine}
 use Rattle.far_script.specs.Reading.{IsCutOff}
 use Rattle.far_script.proofs.FlowLaws.{few-bytes, not-before, reads-then, spent-nothing, spent-stays}
 
@@ -222,6 +223,14 @@ module _ {R : Type 0} (read : Ghosts R) (may_fail : Type 0) where
   pub if-unseen : (why : ShellFault) (old mid new : Input R read) (bytes : List ℕ) → Reads read old bytes mid → mid.source.reads ≤ old.source.reads → IfInput why (IsUnseen read may_fail mid new)
       → IfInput why (IsUnseen read may_fail old new)
   if-unseen why old mid new bytes p low u = if-input why (IsUnseen read may_fail mid new) (IsUnseen read may_fail old new) (λ x. unseen-later old mid new bytes p low x) u
+
+  pub no-line-later : (why : ShellFault) (old mid new : Input R read) → Reads read old [] mid → mid.source.reads ≤ old.source.reads → TakesNoLine read may_fail why mid new
+      → TakesNoLine read may_fail why old new
+  no-line-later why old mid new p low h = record {
+    stopped = if-input why _ _ (λ s. stops-then read old mid new [] (λ bytes rest. IsOneLine bytes) (λ bytes rest. IsOneLine bytes) p (λ bytes rest one. one) s) h.stopped;
+    unseen = if-unseen why old mid new [] p low h.unseen;
+    kept = if-halted why _ _ (λ t. reads-then read old mid new [] [] p t) h.kept;
+  }
 
   pub short-later : (old mid new : Input R read) (bytes rest : List ℕ) → Reads read old bytes mid → mid.source.reads ≤ old.source.reads → IsShort read may_fail mid new rest → IsShort read may_fail old new rest
   short-later old mid new bytes rest p low (inl ended) = inl ended

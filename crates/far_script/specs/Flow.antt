@@ -13,6 +13,7 @@ use Rattle.far_script.specs.declared.input.Line.{Line}
 use Rattle.far_script.specs.declared.input.Line.TheVariants as line
 use Rattle.far_script.specs.declared.output.Output.{Output}
 use Rattle.far_script.specs.Faults.{IfInput, IfHalted, IsCut}
+use Rattle.far_script.specs.Lines.{IsOneLine}
 
 -- a text was printed: of the bytes held before and the text, the writer got a prefix and the rest is held
 abbrev pub Prints : Option (List ℕ) → List ℕ → List ℕ → Option (List ℕ) → List ℕ → Type 0
@@ -129,3 +130,13 @@ module _ {R : Type 0} (read : Ghosts R) where
   Stops said old new = (bytes : List ℕ) × (rest : List ℕ) × StartsWith old bytes rest
       × Counts old bytes new
       × said bytes rest
+
+  -- no line was taken, because of a fault
+  pub record TakesNoLine (may_fail : Type 0) (why : ShellFault) (old new : Input R read)
+      : Type 0 where
+    -- if the fault is `Input`, the bytes that came have no line feed
+    pub stopped : IfInput why (Stops (λ bytes rest. IsOneLine bytes) old new)
+    -- and the end of the script was not found
+    pub unseen : IfInput why (IsUnseen may_fail old new)
+    -- if the fault is `Memory` or `Output`, nothing was taken
+    pub kept : IfHalted why (Reads old [] new)

@@ -1,13 +1,12 @@
 // Bytes of replies that are not written yet.
-ghost use Rattle.std.specs.Prelude.{◌≡◌, ◌==◌, ◌++◌, ◌∷◌, true, IfOk, OnOk, OnErr, IfErr, length, take, drop, ◌≤◌, ◌+◌, []};
+ghost use Rattle.std.specs.Prelude.{◌≡◌, ◌==◌, ◌++◌, ◌∷◌, true, IfOk, OnOk, OnErr, length, take, drop, ◌≤◌, ◌+◌, []};
 ghost use Rattle.csv.specs.Writing.{default_writer, field_text, needs_quotes, row_text};
 ghost use Rattle.far_script.specs.Printing.{record_text};
 
 mod numbers;
 
 use csv::WriterBuilder;
-use far_types::Refusal;
-use std::alloc::Global;
+use std::alloc::{AllocError, Global};
 use std::marker::Model;
 
 /// A growing text of replies. Contracts see its bytes.
@@ -98,21 +97,19 @@ impl Page {
         };
     }
 
-    /// Adds bytes. Refused only with `NoMemory` (1).
-    pub fn bytes(&mut self, bytes: &[u8]) -> Result<(), Refusal>
+    /// Adds bytes.
+    pub fn bytes(&mut self, bytes: &[u8]) -> Result<(), AllocError>
         ensures ok { OnOk result (self.new ≡ self.old ++ bytes.now) }
         ensures err { OnErr result (self.new ≡ self.old) }
-        ensures memory { IfErr result (λ e. e ≡ Refusal.NoMemory) }
     {
         self.bytes.extend_from_slice(bytes)?;
         Ok(())
     }
 
-    /// Adds bytes before the others. Refused only with `NoMemory` (1).
-    pub(crate) fn bytes_before(&mut self, bytes: &[u8]) -> Result<(), Refusal>
+    /// Adds bytes before the others.
+    pub(crate) fn bytes_before(&mut self, bytes: &[u8]) -> Result<(), AllocError>
         ensures ok { OnOk result (self.new ≡ bytes.now ++ self.old) }
         ensures err { OnErr result (self.new ≡ self.old) }
-        ensures memory { IfErr result (λ e. e ≡ Refusal.NoMemory) }
     {
         let len = self.bytes.len();
         self.bytes.extend_from_slice(bytes)?;
@@ -120,20 +117,18 @@ impl Page {
         Ok(())
     }
 
-    /// Adds a text. Refused only with `NoMemory` (1).
-    pub fn text(&mut self, text: &str) -> Result<(), Refusal>
+    /// Adds a text.
+    pub fn text(&mut self, text: &str) -> Result<(), AllocError>
         ensures ok { OnOk result (self.new ≡ self.old ++ text.now) }
         ensures err { OnErr result (self.new ≡ self.old) }
-        ensures memory { IfErr result (λ e. e ≡ Refusal.NoMemory) }
     {
         self.bytes(text.as_bytes())
     }
 
-    /// Adds a byte. Refused only with `NoMemory` (1).
+    /// Adds a byte.
     #[inline(always)]
-    pub fn byte(&mut self, byte: u8) -> Result<(), Refusal>
+    pub fn byte(&mut self, byte: u8) -> Result<(), AllocError>
         ensures ok { OnOk result (self.new ≡ self.old ++ byte ∷ []) }
-        ensures memory { IfErr result (λ e. e ≡ Refusal.NoMemory) }
     {
         self.bytes.push(byte)?;
         Ok(())
@@ -156,17 +151,16 @@ fn needs_quotes(field: &[u8]) -> bool
 }
 
 /// Returns a record of one field as the csv writer writes it, with its line feed.
-fn write_record(alloc: Global, field: &[u8]) -> Result<Vec<u8>, Refusal>
+fn write_record(alloc: Global, field: &[u8]) -> Result<Vec<u8>, AllocError>
     ensures row { IfOk result (λ text. text.items ≡ row_text default_writer (field.now ∷ [])) }
-    ensures memory { IfErr result (λ e. e ≡ Refusal.NoMemory) }
 {
     let mut writer = WriterBuilder::new().from_writer(Vec::new(alloc));
     if writer.write_fields(&[field]).is_err() {
-        return Err(Refusal::NoMemory);
+        return Err(AllocError);
     }
     match writer.into_inner() {
         Ok(text) => Ok(text),
-        Err(_) => Err(Refusal::NoMemory),
+        Err(_) => Err(AllocError),
     }
 }
 
@@ -174,20 +168,18 @@ impl Page {
     /// Adds a field that the csv writer quotes. Not inlined: the writer has a large stack frame, for which each call would
     /// pay.
     #[inline(never)]
-    fn quoted_field(&mut self, field: &[u8]) -> Result<(), Refusal>
+    fn quoted_field(&mut self, field: &[u8]) -> Result<(), AllocError>
         requires { needs_quotes default_writer field.now ≡ true }
         ensures ok { OnOk result (self.new ≡ self.old ++ field_text default_writer field.now) }
-        ensures memory { IfErr result (λ e. e ≡ Refusal.NoMemory) }
     {
         let mut text = write_record(*self.bytes.allocator(), field)?;
         let _end = text.pop();
         self.bytes(text.as_slice())
     }
 
-    /// Adds a field as the csv writer writes it in a record of several. Refused only with `NoMemory` (1).
-    pub fn field(&mut self, field: &[u8]) -> Result<(), Refusal>
+    /// Adds a field as the csv writer writes it in a record of several.
+    pub fn field(&mut self, field: &[u8]) -> Result<(), AllocError>
         ensures ok { OnOk result (self.new ≡ self.old ++ field_text default_writer field.now) }
-        ensures memory { IfErr result (λ e. e ≡ Refusal.NoMemory) }
     {
         if needs_quotes(field) {
             self.quoted_field(field)
@@ -196,10 +188,9 @@ impl Page {
         }
     }
 
-    /// Adds a field as the csv writer writes it alone in its record, without a line feed. Refused only with `NoMemory` (1).
-    pub fn lone_field(&mut self, field: &[u8]) -> Result<(), Refusal>
+    /// Adds a field as the csv writer writes it alone in its record, without a line feed.
+    pub fn lone_field(&mut self, field: &[u8]) -> Result<(), AllocError>
         ensures ok { OnOk result (self.new ≡ self.old ++ record_text (field.now ∷ [])) }
-        ensures memory { IfErr result (λ e. e ≡ Refusal.NoMemory) }
     {
         if field.is_empty() {
             self.text("\"\"")

@@ -1,16 +1,16 @@
 // Prints replies as lines.
-ghost use Rattle.std.specs.Prelude.{◌≡◌, ◌++◌, ◌∷◌, [], OnOk, IfErr, codes, length, take};
+ghost use Rattle.std.specs.Prelude.{◌≡◌, ◌++◌, ◌∷◌, [], OnOk, codes, length, take};
 ghost use Rattle.std.specs.Fmt.{signed_decimal};
 ghost use Rattle.far_script.specs.Printing.{answer_text, carried_text, extrema_text, gauge_text, key_text, numbered_text, reading_text, record_text, refusal_text, space, texts_of, total_text};
 
 use super::page::Page;
 use far_types::{Answer, ExtremaLines, Key, Refusal, TotalLines};
+use std::alloc::AllocError;
 
 /// Prints a line of a word and a number.
 #[inline(always)]
-pub fn numbered(page: &mut Page, word: &str, number: u64) -> Result<(), Refusal>
+pub fn numbered(page: &mut Page, word: &str, number: u64) -> Result<(), AllocError>
     ensures ok { OnOk result (page.new ≡ page.old ++ numbered_text word.now number) }
-    ensures memory { IfErr result (λ e. e ≡ Refusal.NoMemory) }
 {
     page.text(word)?;
     page.byte(b' ')?;
@@ -19,9 +19,8 @@ pub fn numbered(page: &mut Page, word: &str, number: u64) -> Result<(), Refusal>
 }
 
 /// Prints the details that a refusal carries.
-fn carried(page: &mut Page, refusal: &Refusal) -> Result<(), Refusal>
+fn carried(page: &mut Page, refusal: &Refusal) -> Result<(), AllocError>
     ensures ok { OnOk result (page.new ≡ page.old ++ carried_text refusal.now) }
-    ensures memory { IfErr result (λ e. e ≡ Refusal.NoMemory) }
 {
     match refusal {
         Refusal::Building(left) => {
@@ -39,9 +38,8 @@ fn carried(page: &mut Page, refusal: &Refusal) -> Result<(), Refusal>
 }
 
 /// Prints `refused NUMBER NAME` and the details of the refusal.
-pub fn refused(page: &mut Page, refusal: &Refusal) -> Result<(), Refusal>
+pub fn refused(page: &mut Page, refusal: &Refusal) -> Result<(), AllocError>
     ensures ok { OnOk result (page.new ≡ page.old ++ refusal_text refusal.now) }
-    ensures memory { IfErr result (λ e. e ≡ Refusal.NoMemory) }
 {
     page.text("refused ")?;
     page.number(u64::from(refusal.number()))?;
@@ -53,10 +51,9 @@ pub fn refused(page: &mut Page, refusal: &Refusal) -> Result<(), Refusal>
 
 /// Prints the key of a line, a number, and a space. A number needs no quotes.
 #[inline(always)]
-fn number_key(page: &mut Page, number: i64) -> Result<(), Refusal>
+fn number_key(page: &mut Page, number: i64) -> Result<(), AllocError>
     ensures ok { OnOk result
         (page.new ≡ page.old ++ (record_text (signed_decimal number ∷ []) ++ space)) }
-    ensures memory { IfErr result (λ e. e ≡ Refusal.NoMemory) }
 {
     page.signed(number)?;
     page.byte(b' ')
@@ -64,9 +61,8 @@ fn number_key(page: &mut Page, number: i64) -> Result<(), Refusal>
 
 /// Prints the key of a line and a space, or nothing if the aggregate has no key column.
 #[inline(always)]
-fn key(page: &mut Page, key: &Option<Key>) -> Result<(), Refusal>
+fn key(page: &mut Page, key: &Option<Key>) -> Result<(), AllocError>
     ensures ok { OnOk result (page.new ≡ page.old ++ key_text key.now) }
-    ensures memory { IfErr result (λ e. e ≡ Refusal.NoMemory) }
 {
     match key {
         None => Ok(()),
@@ -79,9 +75,8 @@ fn key(page: &mut Page, key: &Option<Key>) -> Result<(), Refusal>
 }
 
 /// Prints a line of totals.
-pub fn total(page: &mut Page, line: &(Option<Key>, u64, i128)) -> Result<(), Refusal>
+pub fn total(page: &mut Page, line: &(Option<Key>, u64, i128)) -> Result<(), AllocError>
     ensures ok { OnOk result (page.new ≡ page.old ++ total_text line.now) }
-    ensures memory { IfErr result (λ e. e ≡ Refusal.NoMemory) }
 {
     key(page, &line.0)?;
     page.text("count ")?;
@@ -92,9 +87,8 @@ pub fn total(page: &mut Page, line: &(Option<Key>, u64, i128)) -> Result<(), Ref
 }
 
 /// Prints a line of extrema.
-pub fn extrema(page: &mut Page, line: &(Option<Key>, i64, i64)) -> Result<(), Refusal>
+pub fn extrema(page: &mut Page, line: &(Option<Key>, i64, i64)) -> Result<(), AllocError>
     ensures ok { OnOk result (page.new ≡ page.old ++ extrema_text line.now) }
-    ensures memory { IfErr result (λ e. e ≡ Refusal.NoMemory) }
 {
     key(page, &line.0)?;
     page.text("min ")?;
@@ -104,9 +98,8 @@ pub fn extrema(page: &mut Page, line: &(Option<Key>, i64, i64)) -> Result<(), Re
     page.byte(b'\n')
 }
 
-fn totals(page: &mut Page, lines: &TotalLines) -> Result<(), Refusal>
+fn totals(page: &mut Page, lines: &TotalLines) -> Result<(), AllocError>
     ensures ok { OnOk result (page.new ≡ page.old ++ texts_of total_text lines.now) }
-    ensures memory { IfErr result (λ e. e ≡ Refusal.NoMemory) }
 {
     for line in lines.as_slice() {
         total(page, line)?;
@@ -114,9 +107,8 @@ fn totals(page: &mut Page, lines: &TotalLines) -> Result<(), Refusal>
     Ok(())
 }
 
-fn all_extrema(page: &mut Page, lines: &ExtremaLines) -> Result<(), Refusal>
+fn all_extrema(page: &mut Page, lines: &ExtremaLines) -> Result<(), AllocError>
     ensures ok { OnOk result (page.new ≡ page.old ++ texts_of extrema_text lines.now) }
-    ensures memory { IfErr result (λ e. e ≡ Refusal.NoMemory) }
 {
     for line in lines.as_slice() {
         extrema(page, line)?;
@@ -125,9 +117,8 @@ fn all_extrema(page: &mut Page, lines: &ExtremaLines) -> Result<(), Refusal>
 }
 
 /// Prints `EDITS COUNT SUM`.
-fn reading(page: &mut Page, edits: u64, count: u64, sum: i128) -> Result<(), Refusal>
+fn reading(page: &mut Page, edits: u64, count: u64, sum: i128) -> Result<(), AllocError>
     ensures ok { OnOk result (page.new ≡ page.old ++ reading_text edits count sum) }
-    ensures memory { IfErr result (λ e. e ≡ Refusal.NoMemory) }
 {
     page.number(edits)?;
     page.byte(b' ')?;
@@ -144,9 +135,8 @@ pub fn gauge(
     edits: u64,
     count: u64,
     sum: i128,
-) -> Result<(), Refusal>
+) -> Result<(), AllocError>
     ensures ok { OnOk result (page.new ≡ page.old ++ gauge_text session edits count sum) }
-    ensures memory { IfErr result (λ e. e ≡ Refusal.NoMemory) }
 {
     page.text("session ")?;
     page.number(session)?;
@@ -155,9 +145,8 @@ pub fn gauge(
 }
 
 /// Prints the lines of an answer, or `none`.
-pub fn answer(page: &mut Page, answer: &Answer) -> Result<(), Refusal>
+pub fn answer(page: &mut Page, answer: &Answer) -> Result<(), AllocError>
     ensures ok { OnOk result (page.new ≡ page.old ++ answer_text answer.now) }
-    ensures memory { IfErr result (λ e. e ≡ Refusal.NoMemory) }
 {
     match answer {
         Answer::Totals(lines) if lines.as_slice().is_empty() => page.text("none\n"),

@@ -40,10 +40,7 @@ pub fn open<S: FarStore, A: Resources<S>, W: Sink>(
         × Rejection fault (IsRefused (opening.kinds.items, opening.limits)) text) }
     ensures unwritten { IfErr result (λ fault. fault ≢ ShellFault.Output) }
 {
-    let store = match resources.store(STORE_CAPACITY) {
-        Ok(store) => store,
-        Err(refusal) => return Err(ShellFault::of_memory(refusal)),
-    };
+    let store = resources.store(STORE_CAPACITY)?;
     match open_table(resources.alloc(), store, opening) {
         Ok(world) => {
             let said = output.add_text("ok\n");

@@ -7,7 +7,7 @@ use super::sessions::{Outcome, Stop, run_sessions};
 use far_script::print::{answer, gauge};
 use far_script::{Output, Page, ShellFault, Sink};
 use far_sessions::Reading;
-use far_types::Refusal;
+use std::alloc::AllocError;
 use std::sync::Wait;
 use std::thread::Threads;
 
@@ -22,18 +22,16 @@ fn fault_of(stop: Stop) -> ShellFault
     }
 }
 
-/// Prints the gauge line of a session. Refused only with `NoMemory` (1).
-fn gauge_line(page: &mut Page, session: u64, reading: &Reading) -> Result<(), Refusal>
+/// Prints the gauge line of a session.
+fn gauge_line(page: &mut Page, session: u64, reading: &Reading) -> Result<(), AllocError>
     ensures ok { OnOk result (page.new ≡ page.old ++ session_line session reading.now) }
-    ensures memory { IfErr result (λ e. e ≡ Refusal.NoMemory) }
 {
     gauge(page, session, reading.edits, reading.count, reading.sum)
 }
 
-/// Prints the gauge lines of sessions 0, 1 and so on. Refused only with `NoMemory` (1).
-fn gauges(page: &mut Page, readings: &[Reading]) -> Result<(), Refusal>
+/// Prints the gauge lines of sessions 0, 1 and so on.
+fn gauges(page: &mut Page, readings: &[Reading]) -> Result<(), AllocError>
     ensures ok { OnOk result (page.new ≡ page.old ++ gauges_text 0 readings.now) }
-    ensures memory { IfErr result (λ e. e ≡ Refusal.NoMemory) }
 {
     for session in 0..readings.len() {
         gauge_line(page, session as u64, &readings[session])?;
@@ -41,10 +39,9 @@ fn gauges(page: &mut Page, readings: &[Reading]) -> Result<(), Refusal>
     Ok(())
 }
 
-/// Prints the gauge lines of the sessions, and the answer over all rows. Refused only with `NoMemory` (1).
-fn outcome(page: &mut Page, outcome: &Outcome) -> Result<(), Refusal>
+/// Prints the gauge lines of the sessions, and the answer over all rows.
+fn outcome(page: &mut Page, outcome: &Outcome) -> Result<(), AllocError>
     ensures ok { OnOk result (page.new ≡ page.old ++ outcome_text outcome.now) }
-    ensures memory { IfErr result (λ e. e ≡ Refusal.NoMemory) }
 {
     gauges(page, outcome.gauges.as_slice())?;
     answer(page, &outcome.answer)

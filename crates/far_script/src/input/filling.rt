@@ -95,9 +95,7 @@ impl<R: Source + Drop> Input<R> {
         let len = self.held.len();
         let is_plain = self.is_ascii || len == 0;
         // The space is allocated before the read, so that no byte is read and then lost.
-        if let Err(refusal) = self.held.bytes(self.chunk.as_slice()) {
-            return Err(ShellFault::of_memory(refusal));
-        }
+        self.held.bytes(self.chunk.as_slice())?;
         match self.source.read(self.chunk.as_mut_slice()) {
             Ok(count) => {
                 let came = &self.chunk[..count];

@@ -2,7 +2,7 @@
 ghost use Rattle.std.specs.Prelude.{◌↔◌, ◌≡◌, ◌≢◌, ◌≤◌, ◌<◌, [], true, length, take, IsTrue, IsUtf8, IfNone, IfErr, IfOk, IfSome, OnOk};
 ghost use Rattle.std.specs.Io.BufRead.{strip_last};
 ghost use Rattle.far_script.specs.Faults.{IfInput, IfHalted};
-ghost use Rattle.far_script.specs.Flow.{Holds, IsShort, IsUnseen, Prints, Reads, Stops, TakesLine, has_failed, byte_range_of, bytes_in, unread};
+ghost use Rattle.far_script.specs.Flow.{Holds, IsShort, Prints, Reads, Stops, TakesLine, TakesNoLine, has_failed, byte_range_of, bytes_in, unread};
 ghost use Rattle.far_script.specs.Lines.{IsOneLine};
 ghost use Rattle.far_script.specs.Reading.{EndsAt};
 
@@ -50,12 +50,8 @@ impl<R: Source + Drop> Input<R> {
         ensures read { OnOk result (Reads R.Read self.old [] self.new) }
         ensures fault { IfErr result
             (λ fault. (fault ≢ ShellFault.BadStart) × (fault ≢ ShellFault.Turns)) }
-        ensures stopped { IfErr result
-            (λ fault. IfInput fault
-            (Stops R.Read (λ bytes rest. IsOneLine bytes) self.old self.new)) }
-        ensures unseen { IfErr result
-            (λ fault. IfInput fault (IsUnseen R.Read R.may_fail self.old self.new)) }
-        ensures kept { IfErr result (λ fault. IfHalted fault (Reads R.Read self.old [] self.new)) }
+        ensures no_line { IfErr result
+            (λ fault. TakesNoLine R.Read R.may_fail fault self.old self.new) }
         ensures asked { self.new.source.reads ≤ self.old.source.reads }
         ensures printed { Prints (W.contents writer.old) output.old.page [] (W.contents writer.new)
             output.new.page }
@@ -104,12 +100,8 @@ impl<R: Source + Drop> Input<R> {
             × TakesLine R.Read self.old line self.new) }
         ensures fault { IfErr result (λ fault. fault ≢ ShellFault.BadStart) }
         ensures turns { IfErr result (λ fault. fault ≢ ShellFault.Turns) }
-        ensures stopped { IfErr result
-            (λ fault. IfInput fault
-            (Stops R.Read (λ bytes rest. IsOneLine bytes) self.old self.new)) }
-        ensures unseen { IfErr result
-            (λ fault. IfInput fault (IsUnseen R.Read R.may_fail self.old self.new)) }
-        ensures kept { IfErr result (λ fault. IfHalted fault (Reads R.Read self.old [] self.new)) }
+        ensures no_line { IfErr result
+            (λ fault. TakesNoLine R.Read R.may_fail fault self.old self.new) }
         ensures asked { self.new.source.reads ≤ self.old.source.reads }
         ensures printed { Prints (W.contents writer.old) output.old.page [] (W.contents writer.new)
             output.new.page }

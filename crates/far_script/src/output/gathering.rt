@@ -9,7 +9,7 @@ use crate::page::Page;
 use crate::print::refused;
 use crate::sink::Sink;
 use far_types::Refusal;
-use std::alloc::Global;
+use std::alloc::{AllocError, Global};
 use std::marker::PhantomData;
 use std::mem::swap;
 
@@ -35,36 +35,26 @@ impl<W: Sink> Output<W> {
         ensures memory { IfErr result (λ fault. fault ≡ ShellFault.Memory) }
     {
         if self.reply.len() > self.page.len() {
-            if let Err(refusal) = self.reply.bytes_before(self.page.as_slice()) {
-                return Err(ShellFault::of_memory(refusal));
-            }
+            self.reply.bytes_before(self.page.as_slice())?;
             swap(&mut self.page, &mut self.reply);
             return Ok(());
         }
-        match self.page.bytes(self.reply.as_slice()) {
-            Ok(()) => Ok(()),
-            Err(refusal) => Err(ShellFault::of_memory(refusal)),
-        }
+        self.page.bytes(self.reply.as_slice())?;
+        Ok(())
     }
 
     /// Adds the current reply if `printed` says that it is complete. Ends with `Memory`, and adds nothing, if it is not or
     /// if memory runs out now. Inlined, since each step ends with it.
     #[inline(always)]
-    pub fn add_printed(&mut self, printed: Result<(), Refusal>) -> Result<(), ShellFault>
-        requires { IfErr printed (λ e. e ≡ Refusal.NoMemory) }
+    pub fn add_printed(&mut self, printed: Result<(), AllocError>) -> Result<(), ShellFault>
         ensures printed { OnOk result (IsOk printed) }
         ensures ok { OnOk result (self.new.page ≡ self.old.page ++ self.old.reply) }
         ensures err { OnErr result (self.new.page ≡ self.old.page) }
         ensures failed { has_failed self.new ≡ has_failed self.old }
         ensures memory { IfErr result (λ fault. fault ≡ ShellFault.Memory) }
     {
-        match printed {
-            Ok(()) => {
-                self.add()?;
-                Ok(())
-            }
-            Err(refusal) => Err(ShellFault::of_memory(refusal)),
-        }
+        printed?;
+        self.add()
     }
 
     /// Adds a text as a reply. Ends with `Memory`, and adds nothing, if memory runs out.
@@ -74,10 +64,8 @@ impl<W: Sink> Output<W> {
         ensures failed { has_failed self.new ≡ has_failed self.old }
         ensures memory { IfErr result (λ fault. fault ≡ ShellFault.Memory) }
     {
-        match self.page.text(text) {
-            Ok(()) => Ok(()),
-            Err(refusal) => Err(ShellFault::of_memory(refusal)),
-        }
+        self.page.text(text)?;
+        Ok(())
     }
 
     /// Adds the line of a refusal as a reply. Ends with `Memory`, and adds nothing, if memory runs out.
@@ -88,12 +76,7 @@ impl<W: Sink> Output<W> {
         ensures memory { IfErr result (λ fault. fault ≡ ShellFault.Memory) }
     {
         self.reply.truncate(0);
-        match refused(&mut self.reply, refusal) {
-            Ok(()) => {
-                self.add()?;
-                Ok(())
-            }
-            Err(unprinted) => Err(ShellFault::of_memory(unprinted)),
-        }
+        refused(&mut self.reply, refusal)?;
+        self.add()
     }
 }

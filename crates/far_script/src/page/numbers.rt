@@ -1,10 +1,10 @@
 // Prints numbers in decimal digits.
-ghost use Rattle.std.specs.Prelude.{◌≡◌, ◌<◌, ◌≤◌, ◌+◌, ◌%◌, ◌++◌, length, OnOk, IfErr, decimal};
+ghost use Rattle.std.specs.Prelude.{◌≡◌, ◌<◌, ◌≤◌, ◌+◌, ◌%◌, ◌++◌, length, OnOk, decimal};
 ghost use Rattle.std.specs.Fmt.{signed_decimal};
 
 use super::Page;
-use far_types::Refusal;
 use itoa::{Buffer, write_digits};
+use std::alloc::AllocError;
 
 /// Numbers below this have at most four digits. Most are, so the code for them is inlined.
 const SHORT: u64 = 10_000;
@@ -42,11 +42,10 @@ fn digit_count(number: u64) -> usize
 }
 
 impl Page {
-    /// Adds a number in decimal digits. Refused only with `NoMemory` (1).
+    /// Adds a number in decimal digits.
     #[inline(always)]
-    pub fn number(&mut self, number: u64) -> Result<(), Refusal>
+    pub fn number(&mut self, number: u64) -> Result<(), AllocError>
         ensures ok { OnOk result (self.new ≡ self.old ++ decimal number) }
-        ensures memory { IfErr result (λ e. e ≡ Refusal.NoMemory) }
     {
         if number < SHORT {
             return self.digits(number, short_count(number), &[0u8; 4]);
@@ -57,11 +56,10 @@ impl Page {
     /// Adds a number of `count` digits, for which `zeros` has room. They are written in place: a copy of bytes that were just
     /// written one by one or in pairs would have to wait for them. Inlined, so that the copy of the zeros has a constant length.
     #[inline(always)]
-    fn digits(&mut self, number: u64, count: usize, zeros: &[u8]) -> Result<(), Refusal>
+    fn digits(&mut self, number: u64, count: usize, zeros: &[u8]) -> Result<(), AllocError>
         requires count { count ≡ length (decimal number) }
         requires room { count ≤ length zeros.now }
         ensures ok { OnOk result (self.new ≡ self.old ++ decimal number) }
-        ensures memory { IfErr result (λ e. e ≡ Refusal.NoMemory) }
     {
         let len = self.len();
         self.bytes(zeros)?;
@@ -72,9 +70,8 @@ impl Page {
 
     /// Adds a number of any length. Not inlined, so that a short number needs no stack frame.
     #[inline(never)]
-    fn any_number(&mut self, number: u64) -> Result<(), Refusal>
+    fn any_number(&mut self, number: u64) -> Result<(), AllocError>
         ensures ok { OnOk result (self.new ≡ self.old ++ decimal number) }
-        ensures memory { IfErr result (λ e. e ≡ Refusal.NoMemory) }
     {
         if number < MIDDLING {
             return self.digits(number, digit_count(number), &[0u8; 8]);
@@ -84,9 +81,8 @@ impl Page {
 
     /// Adds a number of any length. Not inlined, since long numbers are rare.
     #[inline(never)]
-    fn long_number(&mut self, number: u64) -> Result<(), Refusal>
+    fn long_number(&mut self, number: u64) -> Result<(), AllocError>
         ensures ok { OnOk result (self.new ≡ self.old ++ decimal number) }
-        ensures memory { IfErr result (λ e. e ≡ Refusal.NoMemory) }
     {
         let mut buffer = [0u8; 40];
         let start = write_digits(number, &mut buffer, DIGITS);
@@ -97,10 +93,9 @@ impl Page {
         Ok(())
     }
 
-    /// Adds a signed number in decimal digits, with a minus if it is negative. Refused only with `NoMemory` (1).
-    pub fn signed(&mut self, number: i64) -> Result<(), Refusal>
+    /// Adds a signed number in decimal digits, with a minus if it is negative.
+    pub fn signed(&mut self, number: i64) -> Result<(), AllocError>
         ensures ok { OnOk result (self.new ≡ self.old ++ signed_decimal number) }
-        ensures memory { IfErr result (λ e. e ≡ Refusal.NoMemory) }
     {
         if number >= 0 {
             return self.number(number.unsigned_abs());
@@ -109,11 +104,10 @@ impl Page {
         self.number(number.unsigned_abs())
     }
 
-    /// Adds a signed 128-bit number in decimal digits. Refused only with `NoMemory` (1).
+    /// Adds a signed 128-bit number in decimal digits.
     #[inline(always)]
-    pub fn wide(&mut self, number: i128) -> Result<(), Refusal>
+    pub fn wide(&mut self, number: i128) -> Result<(), AllocError>
         ensures ok { OnOk result (self.new ≡ self.old ++ signed_decimal number) }
-        ensures memory { IfErr result (λ e. e ≡ Refusal.NoMemory) }
     {
         match i64::try_from(number) {
             Ok(short) => self.signed(short),
@@ -124,9 +118,8 @@ impl Page {
     /// Adds a number of more than 64 bits. Not inlined: such numbers are rare, and their digits need a large stack frame,
     /// for which each call would pay.
     #[inline(never)]
-    fn very_wide(&mut self, number: i128) -> Result<(), Refusal>
+    fn very_wide(&mut self, number: i128) -> Result<(), AllocError>
         ensures ok { OnOk result (self.new ≡ self.old ++ signed_decimal number) }
-        ensures memory { IfErr result (λ e. e ≡ Refusal.NoMemory) }
     {
         let mut digits = Buffer::new();
         self.text(digits.format(number))

@@ -5,11 +5,13 @@ use Rattle.far_frame.specs.Lending.{flags_of}
 use Rattle.far_commands.proofs.PiecesLending.{marks-end, marks-more}
 use Rattle.far_commands.proofs.lending.marks_at.Goals as goal
 
-pub returns-in_default-clause-ok : goal.returns-in_default-clause-ok
-returns-in_default-clause-ok g c =
-    let places = c.args.view.now.table.places in
-    let none = slice_get-map (λ (p : Place). p.alive) places c.loop-place.place ∙ sym c.is_alive.ensures ∙ c.in_default.is in
-    marks-end (flags_of places) c.loop-place.place c.args.to c.loop-place.page _ c.loop-place.invariant none
+pub returns-in_default : goal.returns-in_default
+returns-in_default g c = record {
+  ok =
+      let places = c.args.view.now.table.places in
+      let none = slice_get-map (λ (p : Place). p.alive) places c.loop-place.place ∙ sym c.is_alive.ensures ∙ c.in_default.is in
+      marks-end (flags_of places) c.loop-place.place c.args.to c.loop-place.page _ c.loop-place.invariant none;
+}
 
 pub loop-place-preserved : goal.loop-place-preserved
 loop-place-preserved g c =

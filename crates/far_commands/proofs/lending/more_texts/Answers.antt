@@ -13,7 +13,9 @@ loop-it-preserved g c =
     (c.in_ok-cell.ensures.ok ∙ (λ i. c.in_ok-byte.ensures.ok i ++ field_text default_writer (cell_text (c.of_text.ensures i))))
     (sym (ap (λ (texts : List (Option (List ℕ) × Bool)). page ++ fields_text default_writer (map cell_text (map (λ it. text_cell it.0) texts))) c.in-Some.ensures.first) ∙ c.loop-it.invariant)
 
-pub returns-clause-ok : goal.returns-clause-ok
-returns-clause-ok g c =
-    let page = c.loop-it.page in
-    fields-none page _ (sym (ap (λ (texts : List (Option (List ℕ) × Bool)). page ++ fields_text default_writer (map cell_text (map (λ it. text_cell it.0) texts))) c.in_default.ensures.none.0) ∙ c.loop-it.invariant)
+pub returns : goal.returns
+returns g c = record {
+  ok =
+      let page = c.loop-it.page in
+      fields-none page _ (sym (ap (λ (texts : List (Option (List ℕ) × Bool)). page ++ fields_text default_writer (map cell_text (map (λ it. text_cell it.0) texts))) c.in_default.ensures.none.0) ∙ c.loop-it.invariant);
+}

@@ -21,11 +21,13 @@ returns-in_err-add_refusal-in-Err-clause-err g c =
     handed-on c.from_residual.result fault.Memory _ (rw c.in_err-add_refusal-in-Err.ensures.memory at c.from_residual.ensures.1)
     (rw c.in_err-add_refusal-in-Err.ensures.err (cut-at-once (λ said. said ≡ listing_of (live c.args.frame.now)) (g.W.Write.contents c.args.writer.now) c.args.output.now.page))
 
-pub returns-in-Err-numbered-clause-err : goal.returns-in-Err-numbered-clause-err
-returns-in-Err-numbered-clause-err g c = rw c.of_memory.ensures (cut-at-once (λ said. said ≡ listing_of (live c.args.frame.now)) (g.W.Write.contents c.args.writer.now) c.args.output.now.page)
+pub returns-in_err-numbered-clause-err : goal.returns-in_err-numbered-clause-err
+returns-in_err-numbered-clause-err g c =
+    handed-on c.from_residual-in_err-numbered.result fault.Memory _ c.from_residual-in_err-numbered.ensures.1
+    (cut-at-once (λ said. said ≡ listing_of (live c.args.frame.now)) (g.W.Write.contents c.args.writer.now) c.args.output.now.page)
 
-pub of_memory-requires-in-Err-print_place : goal.of_memory-requires-in-Err-print_place
-of_memory-requires-in-Err-print_place g c =
+pub of_memory-requires : goal.of_memory-requires
+of_memory-requires g c =
     let within : c.loop-place.place < length c.args.frame.now.table.places = omega (arith, c.loop-place-test.true, c.places-place-end.ensures) in
     let there : c.loop-place.place < length c.scope-view.result.table.places = rw c.scope-view.ensures within in
     c.in-Err-print_place.ensures.memory (there, c.in-Ok.ensures.here c.loop-place.place there)
@@ -53,7 +55,7 @@ returns-in-Err-print_place-clause-err g c =
     let here = rw c.scope-view.ensures at c.in-Ok.ensures.refused in
     let u = g.W.Write.contents c.args.writer.now in
     let v = g.W.Write.contents c.loop-place.writer in
-    rw c.of_memory-in-Err-print_place.ensures (rows-cut (live c.args.frame.now) here fault.Memory u v c.args.output.now.page c.loop-place.output.page
+    rw c.of_memory.ensures (rows-cut (live c.args.frame.now) here fault.Memory u v c.args.output.now.page c.loop-place.output.page
     (gather-memory u c.args.output.now.page (numbered_text (codes "rows") (length (rows_of places))) places v c.loop-place.output.page c.loop-place.output.reply c.loop-place.place c.loop-place.invariant))
 
 pub returns-in_err-add_if_long-in-Ok-print_place-clause-err : goal.returns-in_err-add_if_long-in-Ok-print_place-clause-err

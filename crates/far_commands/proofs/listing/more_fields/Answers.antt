@@ -8,10 +8,8 @@ loop-column-preserved g c =
     field-more c.args.row.now c.loop-column.column (lent_cell c.in-Some.lent) c.loop-column.page c.cell.new.page _
     (sym c.get.ensures ∙ ap (option_map lent_cell) c.in-Some.is) (rw c.in_ok-byte.ensures.ok at c.in_ok-cell.ensures.ok) c.loop-column.invariant
 
-pub returns-in_default-clause-ok : goal.returns-in_default-clause-ok
-returns-in_default-clause-ok g c =
-    fields-end c.args.row.now c.loop-column.column c.loop-column.page _ (sym c.get.ensures ∙ ap (option_map lent_cell) c.in_default.is) c.loop-column.invariant
+pub returns-in_default : goal.returns-in_default
+returns-in_default g c = record { ok = fields-end c.args.row.now c.loop-column.column c.loop-column.page _ (sym c.get.ensures ∙ ap (option_map lent_cell) c.in_default.is) c.loop-column.invariant }
 
-pub returns-clause-ok : goal.returns-clause-ok
-returns-clause-ok g c =
-    fields-past c.args.row.now c.loop-column.column c.loop-column.page _ (grind (arith, c.len-column-end.ensures, c.loop-column-test.false)) c.loop-column.invariant
+pub returns : goal.returns
+returns g c = record { ok = fields-past c.args.row.now c.loop-column.column c.loop-column.page _ (grind (arith, c.len-column-end.ensures, c.loop-column-test.false)) c.loop-column.invariant }

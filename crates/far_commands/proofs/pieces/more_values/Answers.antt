@@ -13,7 +13,9 @@ loop-value-preserved g c =
     (behind-comma page c.byte.new.self c.cell.new.page field c.in_ok-byte.ensures.ok (rw c.lend.ensures at c.in_ok-cell.ensures.ok)
     ∙ ap (λ value. page ++ text value) c.value-item.is) c.loop-value.invariant
 
-pub returns-clause-ok : goal.returns-clause-ok
-returns-clause-ok g c =
-    texts-end (next_field g.V.Value.cell) c.args.values.now c.loop-value.value-index c.loop-value.page _ c.loop-value-test.false c.loop-value.invariant
-    ∙ ap (λ text. c.args.page.now ++ text) (fields-as-texts g.V.Value.cell c.args.values.now)
+pub returns : goal.returns
+returns g c = record {
+  ok =
+      texts-end (next_field g.V.Value.cell) c.args.values.now c.loop-value.value-index c.loop-value.page _ c.loop-value-test.false c.loop-value.invariant
+      ∙ ap (λ text. c.args.page.now ++ text) (fields-as-texts g.V.Value.cell c.args.values.now);
+}

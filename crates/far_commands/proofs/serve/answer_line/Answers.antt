@@ -71,7 +71,7 @@ returns-in_err-text-clause-err g c =
     ([], prints-none (g.W.Write.contents c.args.writer.now) c.args.output.now.page, refl)
 
 pub returns-in-Err-clause-err : goal.returns-in-Err-clause-err
-returns-in-Err-clause-err g c = rw c.of_memory.ensures ([], prints-none (g.W.Write.contents c.args.writer.now) c.args.output.now.page, inl refl)
+returns-in-Err-clause-err g c = ([], prints-none (g.W.Write.contents c.args.writer.now) c.args.output.now.page, inl refl)
 
 pub returns-in-Ok-None-clause-err : goal.returns-in-Ok-None-clause-err
 returns-in-Ok-None-clause-err g c = printed-err c.print_syntax.result _ (g.W.Write.contents c.args.writer.now) c.args.output.now.page c.print_syntax.new.output.page c.print_syntax.ensures.memory c.print_syntax.ensures.err
@@ -114,7 +114,7 @@ pub returns-in_err-text-clause-taken : goal.returns-in_err-text-clause-taken
 returns-in_err-text-clause-taken g c = handed-on c.from_residual.result fault.Input _ (rw c.in_err-text.ensures.fault.0 at c.from_residual.ensures.1) tt
 
 pub returns-in-Err-clause-taken : goal.returns-in-Err-clause-taken
-returns-in-Err-clause-taken g c = rw c.of_memory.ensures ([], reads-none g.R.Read _ _ refl, inl refl)
+returns-in-Err-clause-taken g c = ([], reads-none g.R.Read _ _ refl, inl refl)
 
 pub returns-in-Ok-None-clause-taken : goal.returns-in-Ok-None-clause-taken
 returns-in-Ok-None-clause-taken g c = at-halted c.print_syntax.result _ ([], reads-none g.R.Read _ _ refl, inl refl)

@@ -56,7 +56,7 @@ returns-in_err-line-clause-err g c =
     handed-on c.from_residual.result c.in_err-line.field-0.0 _ c.from_residual.ensures.1
     (breaks-first g.R.Read (IsUnseen g.R.Read g.R.Source.may_fail c.args.input.now c.line.new.self) c.args.input.now c.loop-turn.input c.line.new.self (g.W.Write.contents c.args.writer.now) (g.W.Write.contents c.line.new.writer) c.args.output.now.page c.line.new.output.page i.0 i.1 c.in_err-line.field-0.0 c.in_err-line.ensures.fault c.in_err-line.ensures.turns i.2 i.4 printed
     (no-line g.R.Read c.in_err-line.field-0.0 (IsUnseen g.R.Read g.R.Source.may_fail c.args.input.now c.line.new.self) c.loop-turn.input c.line.new.self
-    (if-unseen g.R.Read g.R.Source.may_fail c.in_err-line.field-0.0 c.args.input.now c.loop-turn.input c.line.new.self i.0 i.2 i.6 c.in_err-line.ensures.unseen) c.in_err-line.ensures.stopped) c.in_err-line.ensures.kept)
+    (if-unseen g.R.Read g.R.Source.may_fail c.in_err-line.field-0.0 c.args.input.now c.loop-turn.input c.line.new.self i.0 i.2 i.6 c.in_err-line.ensures.no_line.unseen) c.in_err-line.ensures.no_line.stopped) c.in_err-line.ensures.no_line.kept)
 
 pub returns-in_err-text-in-Whole-clause-err : goal.returns-in_err-text-in-Whole-clause-err
 returns-in_err-text-in-Whole-clause-err g c =

@@ -46,7 +46,7 @@ returns-in_err-line-clause-err g c =
     let printed = prints-then-nothing (g.W.Write.contents c.args.writer.now) (g.W.Write.contents c.loop-turn.writer) (g.W.Write.contents c.line.new.writer) c.args.output.now.page i.1 c.loop-turn.output.page c.line.new.output.page i.3 c.in_err-line.ensures.printed in
     handed-on c.from_residual.result c.in_err-line.field-0.0 _ c.from_residual.ensures.1
     (breaks-between g.R.Read g.S.FarTickets (IsUnseen g.R.Read g.R.Source.may_fail c.args.input.now c.line.new.self) c.args.input.now c.loop-turn.input c.line.new.self (g.W.Write.contents c.args.writer.now) (g.W.Write.contents c.line.new.writer) c.args.output.now.page c.line.new.output.page c.args.progress.now c.loop-turn.progress i.0 i.1 c.in_err-line.field-0.0 c.in_err-line.ensures.fault c.in_err-line.ensures.turns i.2 printed (world-lines g.S.FarTickets c.args.progress.now c.loop-turn.progress i.0 i.1 i.4)
-    (if-unseen g.R.Read g.R.Source.may_fail c.in_err-line.field-0.0 c.args.input.now c.loop-turn.input c.line.new.self i.0 i.2 i.7 c.in_err-line.ensures.unseen) c.in_err-line.ensures.stopped c.in_err-line.ensures.kept)
+    (if-unseen g.R.Read g.R.Source.may_fail c.in_err-line.field-0.0 c.args.input.now c.loop-turn.input c.line.new.self i.0 i.2 i.7 c.in_err-line.ensures.no_line.unseen) c.in_err-line.ensures.no_line.stopped c.in_err-line.ensures.no_line.kept)
 
 pub returns-in_err-answer_line-in-Whole-clause-err : goal.returns-in_err-answer_line-in-Whole-clause-err
 returns-in_err-answer_line-in-Whole-clause-err g c =

@@ -1,4 +1,5 @@
 use Rattle.std.proofs.Common.{◌≡◌, ℕ, ◌+◌, [], ◌∙◌, arith, slice_range}
+use Rattle.far_script.proofs.FlowStops.{handed-on, no-line-later}
 use Rattle.far_script.proofs.FlowLaws.{reads-kept, reads-line, reads-then, range-front, range-within}
 use Rattle.far_script.proofs.input.Input.line.Goals as goal
 
@@ -23,3 +24,10 @@ returns-clause-line g c =
             (grind (arith, e.from, e.to, s.from)) (grind (arith, e.to, s.within)) (rw e.to s.feed),
       ),
     )
+
+pub returns-in_err-found-clause-no_line : goal.returns-in_err-found-clause-no_line
+returns-in_err-found-clause-no_line g c =
+    let why = c.in_err-found.field-0.0 in
+    handed-on c.from_residual.result why _ c.from_residual.ensures.1
+    (no-line-later g.R.Read g.R.Source.may_fail why c.args.self.now c.give_back.new.self c.seek_line.new.self (reads-kept g.R.Read c.args.self.now c.give_back.new.self c.give_back.ensures.source c.give_back.ensures.unread)
+    (rw c.give_back.ensures.source (omega arith)) c.in_err-found.ensures.no_line)

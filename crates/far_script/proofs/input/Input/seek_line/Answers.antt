@@ -25,17 +25,30 @@ loop-turn-preserved g c =
 pub returns-in_err-flush-clause-printed : goal.returns-in_err-flush-clause-printed
 returns-in_err-flush-clause-printed g c = prints-then-nothing _ _ _ c.args.output.now.page [] c.loop-turn.output.page _ c.loop-turn.invariant.1 c.flush.ensures.printed
 
-pub returns-in_err-read_more-clause-stopped : goal.returns-in_err-read_more-clause-stopped
-returns-in_err-read_more-clause-stopped g c =
+pub returns-in_err-read_more-clause-no_line : goal.returns-in_err-read_more-clause-no_line
+returns-in_err-read_more-clause-no_line g c =
     let e = c.line_end.ensures in
     let p = reads-looked g.R.Read c.args.self.now c.loop-turn.self c.line_end.new.self c.loop-turn.invariant.0 e.source e.held e.start in
     let none : IsOneLine (unread g.R.Read c.line_end.new.self) = none-of c.line_end.result _ c.in_default.not-Some c.line_end.ensures.none in
     let why = c.in_err-read_more.field-0.0 in
-    handed-on c.from_residual-in_err-read_more.result why _ c.from_residual-in_err-read_more.ensures.1
-    (if-input why _ _ (λ did. stops-still g.R.Read c.args.self.now c.line_end.new.self c.read_more.new.self (λ bytes rest. IsOneLine bytes) p did.cut.bytes (not-found _ _ did.cut.before) did.cut.lost none) c.in_err-read_more.ensures.cut)
+    handed-on c.from_residual-in_err-read_more.result why _ c.from_residual-in_err-read_more.ensures.1 (record {
+      stopped = if-input why _ _ (λ did. stops-still g.R.Read c.args.self.now c.line_end.new.self c.read_more.new.self (λ bytes rest. IsOneLine bytes) p did.cut.bytes (not-found _ _ did.cut.before) did.cut.lost none) c.in_err-read_more.ensures.cut;
+      unseen = if-input why _ _ (λ did. unseen-later g.R.Read g.R.Source.may_fail c.args.self.now c.line_end.new.self c.read_more.new.self [] p (rw c.line_end.ensures.source (fewer _ _ _ c.loop-turn.invariant.2))
+          (unseen g.R.Read g.R.Source.may_fail c.line_end.new.self c.read_more.new.self did.cut)) c.in_err-read_more.ensures.cut;
+      kept = if-halted why _ _ (λ t. reads-then g.R.Read c.args.self.now c.line_end.new.self c.read_more.new.self [] [] p t) c.in_err-read_more.ensures.kept;
+    })
 
-pub returns-clause-stopped : goal.returns-clause-stopped
-returns-clause-stopped g c = absurd (turns-past c.loop-turn.self.source.reads c.loop-turn.turn c.args.self.now.source.reads c.loop-turn.invariant.2 c.args.self.now.source.few (grind (arith, c.loop-turn-test.false)))
+pub returns-in_err-flush-clause-no_line : goal.returns-in_err-flush-clause-no_line
+returns-in_err-flush-clause-no_line g c =
+    let e = c.line_end.ensures in
+    handed-on c.from_residual.result fault.Output _ (rw c.in_err-flush.ensures.fault at c.from_residual.ensures.1) (record {
+      stopped = tt;
+      unseen = tt;
+      kept = reads-looked g.R.Read c.args.self.now c.loop-turn.self c.line_end.new.self c.loop-turn.invariant.0 e.source e.held e.start;
+    })
+
+pub returns-clause-no_line : goal.returns-clause-no_line
+returns-clause-no_line g c = absurd (turns-past c.loop-turn.self.source.reads c.loop-turn.turn c.args.self.now.source.reads c.loop-turn.invariant.2 c.args.self.now.source.few (grind (arith, c.loop-turn-test.false)))
 
 pub returns-in-Some-clause-asked : goal.returns-in-Some-clause-asked
 returns-in-Some-clause-asked g c = rw c.line_end.ensures.source (fewer _ _ _ c.loop-turn.invariant.2)
@@ -51,29 +64,3 @@ returns-then-not-branch-clause-asked g c = let asked = rw c.line_end.ensures.sou
 
 pub returns-clause-asked : goal.returns-clause-asked
 returns-clause-asked g c = fewer _ _ _ c.loop-turn.invariant.2
-
-pub returns-in_err-read_more-clause-unseen : goal.returns-in_err-read_more-clause-unseen
-returns-in_err-read_more-clause-unseen g c =
-    let e = c.line_end.ensures in
-    let p = reads-looked g.R.Read c.args.self.now c.loop-turn.self c.line_end.new.self c.loop-turn.invariant.0 e.source e.held e.start in
-    let why = c.in_err-read_more.field-0.0 in
-    handed-on c.from_residual-in_err-read_more.result why _ c.from_residual-in_err-read_more.ensures.1
-    (if-input why _ _ (λ did. unseen-later g.R.Read g.R.Source.may_fail c.args.self.now c.line_end.new.self c.read_more.new.self [] p (rw c.line_end.ensures.source (fewer _ _ _ c.loop-turn.invariant.2))
-    (unseen g.R.Read g.R.Source.may_fail c.line_end.new.self c.read_more.new.self did.cut)) c.in_err-read_more.ensures.cut)
-
-pub returns-clause-unseen : goal.returns-clause-unseen
-returns-clause-unseen g c = absurd (turns-past c.loop-turn.self.source.reads c.loop-turn.turn c.args.self.now.source.reads c.loop-turn.invariant.2 c.args.self.now.source.few (grind (arith, c.loop-turn-test.false)))
-
-pub returns-in_err-read_more-clause-kept : goal.returns-in_err-read_more-clause-kept
-returns-in_err-read_more-clause-kept g c =
-    let e = c.line_end.ensures in
-    let p = reads-looked g.R.Read c.args.self.now c.loop-turn.self c.line_end.new.self c.loop-turn.invariant.0 e.source e.held e.start in
-    let why = c.in_err-read_more.field-0.0 in
-    handed-on c.from_residual-in_err-read_more.result why _ c.from_residual-in_err-read_more.ensures.1
-    (if-halted why _ _ (λ t. reads-then g.R.Read c.args.self.now c.line_end.new.self c.read_more.new.self [] [] p t) c.in_err-read_more.ensures.kept)
-
-pub returns-in_err-flush-clause-kept : goal.returns-in_err-flush-clause-kept
-returns-in_err-flush-clause-kept g c =
-    let e = c.line_end.ensures in
-    handed-on c.from_residual.result fault.Output _ (rw c.in_err-flush.ensures.fault at c.from_residual.ensures.1)
-    (reads-looked g.R.Read c.args.self.now c.loop-turn.self c.line_end.new.self c.loop-turn.invariant.0 e.source e.held e.start)
