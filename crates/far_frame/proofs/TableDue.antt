@@ -37,7 +37,7 @@ use Rattle.far_frame.specs.Jobs.{IsOneOf}
 use Rattle.far_frame.specs.Lending.{lend_refusal}
 use Rattle.far_frame.specs.Pins.{is_here}
 use Rattle.far_frame.specs.State.{State, live}
-use Rattle.far_frame.specs.TableRefusals.{TableState, any_away, away, due, edit_tests, edited_group, scan_due, IsReason}
+use Rattle.far_frame.specs.TableRefusals.{TableState, any_away, away, due, edit_tests, edited_group, no_column, no_group, scan_due, IsReason}
 use Rattle.far_frame.specs.TableViews.{is_gone, gone_at, pins_of_group, table_of, IsKept}
 use Rattle.far_frame.proofs.FirstOfLaws.{AllTell, found-last}
 use Rattle.far_frame.proofs.MovementAway.{says_away}
@@ -88,6 +88,10 @@ where-is [] o low = absurd (omega (arith, low))
 where-is (Local at dirty hot far ∷ words) zero low = refl
 where-is (Remote ∷ words) zero low = refl
 where-is (w ∷ words) (suc o) low = where-is words o (omega (arith, low))
+
+none-later : (owed : Option Refusal) → option_or owed None ≡ owed
+none-later None = refl
+none-later (Some d) = refl
 
 module _ {K : Type 0} (content : K → List ℕ) (old : State K) (kept : IsKept content old) where
   abbrev r : Rows K
@@ -163,6 +167,10 @@ module _ {K : Type 0} (content : K → List ℕ) (old : State K) (kept : IsKept 
         by : not (nat_lt c (length old.table.schema)) ≡ false → (found : Option Object) → object_at r c g ≡ found → is_none found ≡ false → later ≡ first_of rest
         by low None at some = not-on (sym some)
         by low (Some o) at some = lies low o at
+
+  -- the refusal that is due to an access
+  pub access-due : (c g : ℕ) → object_refusal r c g ≡ first_of (no_column old.table c ∷ no_group old.table g ∷ [])
+  access-due c g = sym (none-later (object_refusal r c g)) ∙ chunk-due c g None [] (λ low o at. refl)
 
   pins-used : (o : Object) → pins_used r o ≡ (pins_at r o == 65535, refusal.EditsUsedUp)
   pins-used (object.Number o) = refl

@@ -30,7 +30,7 @@ use Rattle.far_frame.specs.declared.step.Reply.{Reply}
 use Rattle.far_frame.specs.declared.step.Reply.TheVariants as reply
 use Rattle.far_frame.specs.Effects.{Replies, Accepts, CompactRefusal, WhyRefused}
 use Rattle.far_frame.specs.Jobs.{IsOneOf, JobRecord, WorkOf, WorkRefusal, CarryRefusal, IsEvacJob, IsFetchJob, IsOffloadJob, Commits, CommitRefusal, Installs, InstallRefusal, Merges, MergeRefusal}
-use Rattle.far_frame.specs.Lending.{Piece, IsLent, IsReplyOf, lend_refusal, prefetch_refusal, after_touch_all}
+use Rattle.far_frame.specs.Lending.{AreObserved, Piece, IsLent, IsReplyOf, lend_refusal, prefetch_refusal, after_touch_all}
 use Rattle.far_frame.specs.State.{State, live}
 use Rattle.far_frame.specs.Steps.{IsStep}
 use Rattle.far_frame.specs.Waiting.{job_at, RefusalAt}
@@ -175,12 +175,20 @@ module _ {K : Type 0} where
   compacted-objects kind.Int segment old new h = objects-same old new (ap (λ (r : Rows K). r.column_indexes) h.1) (ap (λ (r : Rows K). r.numbers) h.1) (ap (λ (r : Rows K). r.texts) h.1)
   compacted-objects kind.Text segment old new h = objects-same old new (ap (λ (r : Rows K). r.column_indexes) h.1) (ap (λ (r : Rows K). r.numbers) h.1) (ap (λ (r : Rows K). r.texts) h.1)
 
+-- an access does not change the table's state
+module _ {K : Type 0} (old new : State K) (c : ℕ) where
+  observed-view : (groups : List ℕ) → AreObserved c groups old new → table_of new ≡ table_of old
+  observed-view groups h = moved-view old new old.table h.table ((λ i. object_at (h.rows i)) ∙ all-touched c groups old.rows) (rows-are old.rows (after_touch_all old.rows c groups) new.rows h.rows (rows-after_touch_all c groups old.rows))
+
+  -- neither does a refused one
+  pub saw-view : (groups : List ℕ) (result : Result Unit Refusal) → OnOk result (AreObserved c groups old new) → OnErr result (new ≡ old) → table_of new ≡ table_of old
+  saw-view groups (Ok done) h same = observed-view groups h
+  saw-view groups (Err why) h same = λ i. table_of (same i)
+
 -- a lend does not change the table's state
 module _ {K : Type 0} (content : K → List ℕ) (old new : State K) (c from to : ℕ) where
   pub lent-view : (given : Reply) → IsLent c from to old given new → table_of new ≡ table_of old
-  lent-view given h =
-      let groups = overlapped_groups old.rows.size from to in
-      moved-view old new old.table h.used.table ((λ i. object_at (h.used.rows i)) ∙ all-touched c groups old.rows) (rows-are old.rows (after_touch_all old.rows c groups) new.rows h.used.rows (rows-after_touch_all c groups old.rows))
+  lent-view given h = observed-view old new c (overlapped_groups old.rows.size from to) h.used
 
   -- neither does a refused lend
   pub lending-view : (pieces : List Piece) (result : Result Unit Refusal) → OnOk result ((given : Reply) × IsReplyOf (slice_get old.table.schema c) pieces given × Accepts content old (step.Lend c from to) given new) → OnErr result (new ≡ old) → table_of new ≡ table_of old

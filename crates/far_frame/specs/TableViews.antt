@@ -1,7 +1,10 @@
 -- The table in a world as its user sees it, and the invariant of a table and its objects.
 use Rattle.std.specs.Prelude.{◌≡◌, ℕ, Bool, true, false, List, map, length}
 use Rattle.std.specs.Option.{option_map_or}
+use Rattle.far_types.specs.declared.cell.Kind.{Kind}
+use Rattle.far_types.specs.declared.limits.Limits.{Limits}
 use Rattle.far_types.specs.Bounds.{AreLimits}
+use Rattle.far_types.specs.Table.{empty_table}
 use Rattle.far_pointer.specs.declared.pointer.Pointer.{Pointer}
 use Rattle.far_pointer.specs.declared.pointer.Pointer.TheVariants.{Local, Remote}
 use Rattle.far_scopes.specs.Movement.{Movement, word_of}
@@ -14,6 +17,11 @@ use Rattle.far_rows.specs.Places.{places_in}
 use Rattle.far_rows.specs.Rows.{Rows, AreRows}
 use Rattle.far_frame.specs.State.{State}
 use Rattle.far_frame.specs.TableRefusals.{TableState}
+
+-- a new table: it has no rows and no aggregates, and no chunk is away or has a pin
+abbrev pub new_table : List Kind → Limits → TableState
+new_table schema limits = record
+    { table = empty_table schema limits; is_away = λ c g. false; pins = λ c g. 0 }
 
 -- whether a word is remote
 abbrev pub is_remote : Pointer → Bool

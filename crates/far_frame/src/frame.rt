@@ -11,7 +11,7 @@ ghost use Rattle.far_frame.specs.Effects.{Accepts, Refuses};
 ghost use Rattle.far_frame.specs.State.{empty_state, live};
 ghost use Rattle.far_frame.specs.declared.step.Step.TheVariants as step;
 ghost use Rattle.far_frame.specs.declared.step.Reply.TheVariants as reply;
-ghost use Rattle.far_frame.specs.TableViews.{IsKept};
+ghost use Rattle.far_frame.specs.TableViews.{IsKept, new_table, table_of};
 
 mod lending;
 mod moving;
@@ -101,6 +101,7 @@ impl<S: FarTickets> Frame<S> {
         number: u32,
     ) -> Result<Frame<S>, Refusal>
         ensures ok { IfOk result (λ frame. frame ≡ empty_state schema limits number) }
+        ensures table { IfOk result (λ frame. table_of frame ≡ new_table schema limits) }
         ensures limits { OnOk result (AreLimits limits) }
         ensures here { IfOk result (λ frame. (id : List ℕ) → AreAt S.is_of id frame.rows) }
         ensures bad { IfErr result

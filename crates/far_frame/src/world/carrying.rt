@@ -1,5 +1,6 @@
 // Calls for a program that carries a world's jobs itself: which jobs wait, and how they end early.
 ghost use Rattle.std.specs.Prelude.{◌≡◌, ◌+◌, ◌<◌, ◌^◌, [], ◌∷◌, None, IfErr, IfOk, IfSome, IsSome, IsSomeAnd, OnErr, OnOk, length, option_copied, unwrap_or};
+ghost use Rattle.far_types.specs.FirstOf.{first_of};
 ghost use Rattle.far_rows.specs.Coldest.{coldest};
 ghost use Rattle.far_rows.specs.Moving.{object_refusal};
 ghost use Rattle.far_scopes.specs.Refusing.{refusal_in};
@@ -7,6 +8,8 @@ ghost use Rattle.far_store.specs.Faults.{faults_of};
 ghost use Rattle.far_frame.specs.Carrying.{number_wanted};
 ghost use Rattle.far_frame.specs.Jobs.{IsJobAt};
 ghost use Rattle.far_frame.specs.Lending.{AreObserved};
+ghost use Rattle.far_frame.specs.TableRefusals.{no_column, no_group};
+ghost use Rattle.far_frame.specs.TableViews.{table_of};
 ghost use Rattle.far_frame.specs.Waiting.{job_at, without_job};
 ghost use Rattle.far_frame.specs.Worlds.{IsNotBegun};
 ghost use Rattle.far_frame.specs.Ending.{IsColdestBegun, no_job};
@@ -70,6 +73,7 @@ impl<S: FarStore> World<S> {
     /// - `NoMemory` (1): an allocation fails.
     pub fn begin_coldest(&mut self) -> Result<Option<u64>, Refusal>
         ensures begun { IfOk result (λ n. IsColdestBegun self.old n self.new) }
+        ensures table { table_of self.new.state ≡ table_of self.old.state }
         ensures refused { IfErr result (λ e. IsNotBegun None self.old e self.new) }
         ensures some { OnErr result (IsSome (coldest self.old.state.rows)) }
     {
@@ -123,9 +127,14 @@ impl<S: FarStore> World<S> {
         ensures accesses { OnOk result
             (AreObserved column (group ∷ []) self.old.state self.new.state) }
         ensures world { self.new ≡ record self.old { state = self.new.state } }
+        ensures table { table_of self.new.state ≡ table_of self.old.state }
         ensures refused { refusal_in result ≡ object_refusal self.old.state.rows column group }
+        ensures due { refusal_in result ≡ first_of
+            (no_column self.old.state.table column ∷ no_group self.old.state.table group ∷ []) }
         ensures err { OnErr result (self.new ≡ self.old) }
     {
+        // For the proof: shows the invariant of the table.
+        self.frame.keeps();
         self.frame.saw(column, group)
     }
 }

@@ -7,6 +7,8 @@ ghost use Rattle.far_rows.specs.Jobs.{fetch_refusal};
 ghost use Rattle.far_frame.specs.Delivering.{DeliveryRefusal, HasNoCollision, IsContentOf, IsOther, wanted_by};
 ghost use Rattle.far_frame.specs.Jobs.{IsJobAt, IsOneOf};
 ghost use Rattle.far_frame.specs.Steps.{IsStep};
+ghost use Rattle.far_frame.specs.TableRuns.{IsTableStep};
+ghost use Rattle.far_frame.specs.TableViews.{table_of};
 ghost use Rattle.far_frame.specs.Waiting.{without_job};
 ghost use Rattle.far_frame.specs.Ending.{no_job};
 
@@ -52,13 +54,27 @@ impl<S: FarDelivery> World<S> {
     /// Carries a job, as the step `Carry` does. If that succeeds, the store forgets what was delivered for the job.
     pub fn carry_delivered(&mut self, n: u64) -> Reply
         requires few { self.old.faults < 2 ^ 63 }
-        ensures { IsStep S.content S.number_of self.old (Step.Carry n) result self.new }
+        ensures step { IsStep S.content S.number_of self.old (Step.Carry n) result self.new }
+        ensures table { IsTableStep (table_of self.old.state) (Step.Carry n) result
+            (table_of self.new.state) }
     {
-        let reply = self.carry(n);
+        let reply = self.carry_shown(n);
         if let Reply::Done = &reply {
             self.forget(n);
         }
         reply
+    }
+
+    /// Carries a job, as the step `Carry` does.
+    fn carry_shown(&mut self, n: u64) -> Reply
+        requires few { self.old.faults < 2 ^ 63 }
+        ensures step { IsStep S.content S.number_of self.old (Step.Carry n) result self.new }
+        ensures table { IsTableStep (table_of self.old.state) (Step.Carry n) result
+            (table_of self.new.state) }
+    {
+        // For the proof: shows the invariant of the table.
+        self.frame.keeps();
+        self.carry(n)
     }
 
     /// Gives up a job, as `give_up` does. The store forgets what was delivered for the job.
