@@ -28,5 +28,6 @@ mod RowsAway
 mod TableNames
 mod TableChunks
 mod TableDue
+pub mod TableListing
 mod TableRenewal
 mod TableKept

@@ -150,7 +150,7 @@ module _ {K : Type 0} (content : K → List ℕ) (old : State K) (kept : IsKept 
   absents-from g n [] same = refl
   absents-from g n (s ∷ rest) same = λ i. (away-same n g s (from-first n s rest same) i, refusal.Absent n g) ∷ absents-from g (n + 1) rest (from-next n s rest same) i
 
-  absents-are : (g : ℕ) → absents r g ≡ any_away before (λ c. true) g
+  pub absents-are : (g : ℕ) → absents r g ≡ any_away before (λ c. true) g
   absents-are g = absents-from g 0 r.column_indexes all-from ∙ ap (λ (l : List Kind). map (column_test (λ c. true) g) (enumerate_from 0 l)) kept.kinds
 
   needed-from : (spec : Spec) (g n : ℕ) (s : List ColumnIndex) → AreFrom n s → needed_from r spec g n s ≡ map (column_test (needs spec) g) (enumerate_from n (map kind_of s))

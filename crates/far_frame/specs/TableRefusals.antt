@@ -1,7 +1,7 @@
 -- A table as its user sees it, and why its steps are refused: by its rows and aggregates, by which
 -- of its chunks are away, and by their pins. A chunk is a row group of one column.
 use Rattle.std.specs.Prelude.{◌≡◌, ◌⊎◌, ℕ, ◌/◌, ◌==◌, ◌&&◌, ◌||◌, nat_lt, not, Bool, true, List, [], ◌∷◌, ◌++◌, map, length, Option, None, Some}
-use Rattle.std.specs.List.{Contains, enumerate_from}
+use Rattle.std.specs.List.{Contains, enumerate_from, flat_map, range_with_len}
 use Rattle.far_types.specs.declared.cell.Kind.{Kind}
 use Rattle.far_types.specs.declared.edit.Edit.{Edit}
 use Rattle.far_types.specs.declared.edit.Edit.TheVariants as edit
@@ -42,6 +42,10 @@ abbrev pub any_away : TableState → (ℕ → Bool) → ℕ → List (Bool × Re
 any_away s needed g = map
     (λ (at : ℕ × Kind). (needed at.0 && s.is_away at.0 g, refusal.Absent at.0 g))
     (enumerate_from 0 s.table.schema)
+
+-- for each row group in order, and there for each column in order: its chunk is away
+abbrev pub all_away : TableState → List (Bool × Refusal)
+all_away s = flat_map (any_away s (λ c. true)) (range_with_len 0 (group_count s.table))
 
 -- the row group of an edit's place. An insert is made at the next place, perhaps the first of a new
 -- row group

@@ -262,7 +262,7 @@ impl<S: FarTickets> Frame<S> {
 
     /// For the proof: shows the invariant of a table, its rows and their objects. Does nothing.
     #[inline(always)]
-    pub(crate) fn keeps(&self)
+    pub fn keeps(&self)
         ensures { IsKept S.content self.now }
     {
         let rows = self.table.rows();

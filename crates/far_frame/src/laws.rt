@@ -9,6 +9,7 @@ ghost use Rattle.far_types.specs.declared.limits.Limits.{Limits};
 ghost use Rattle.far_types.specs.declared.refusal.Refusal.{Refusal};
 ghost use Rattle.far_types.specs.declared.refusal.Refusal.TheVariants as refusal;
 ghost use Rattle.far_types.specs.Edits.{after_edit, edit_refusal};
+ghost use Rattle.far_types.specs.FirstOf.{first_of};
 ghost use Rattle.far_types.specs.MayRefuse.{MayRefuse};
 ghost use Rattle.far_types.specs.Bounds.{AreLimits};
 ghost use Rattle.far_types.specs.Table.{Registered, Table, left, answer_now, column as column_of, part};
@@ -39,9 +40,10 @@ ghost use Rattle.far_frame.specs.Waiting.{job_at, without_job};
 ghost use Rattle.far_frame.specs.State.{State, live};
 ghost use Rattle.far_frame.specs.Steps.{IsStep, IsRun};
 ghost use Rattle.far_frame.specs.Worlds.{AreNumbered, HasOwnTickets, IsSpent, IsWorld, World};
-ghost use Rattle.far_frame.specs.TableRefusals.{TableState};
+ghost use Rattle.far_frame.specs.TableRefusals.{TableState, all_away};
 ghost use Rattle.far_frame.specs.TableRuns.{ArePinnedLocal, IsTableRun, IsTableStep};
 ghost use Rattle.far_frame.specs.TableViews.{IsKept, table_of};
+ghost use Rattle.far_frame.specs.Views.{away};
 
 use far_store::FarTickets;
 
@@ -373,6 +375,13 @@ pub fn a_step_is_one_of_its_table<S: FarTickets>()
     ensures { (old : World S.Ticket) → IsKept S.content old.state → (s : Step) → (given : Reply)
         → (new : World S.Ticket) → IsStep S.content S.number_of old s given new
         → IsTableStep (table_of old.state) s given (table_of new.state) }
+{}
+
+/// The refusal of lending every place names the first chunk that is away, of the lowest row group and there of the lowest
+/// column.
+pub fn the_first_chunk_that_is_away_is_named<S: FarTickets>()
+    ensures { (s : State S.Ticket) → IsKept S.content s
+        → away (live s) ≡ first_of (all_away (table_of s)) }
 {}
 
 /// A chunk that has a pin is local, after any run of a table in a user's words.
