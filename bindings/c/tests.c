@@ -878,6 +878,41 @@ static void lies(void) {
     OK(fc_close(&table));
 }
 
+/* What was delivered for a job is kept until the job is carried or given up, whatever becomes of other jobs. */
+static void deliveries(void) {
+    fc_table table;
+    uint32_t by_name;
+    uint64_t build, texts, numbers, first, second, number;
+    open_bakery(&table);
+    const content names = shelf[evict(&table, 0, 0)], counts = shelf[evict(&table, 1, 0)];
+    OK(fc_watch(&table, &BY_NAME, &by_name));
+    OK(fc_begin_offload(&table, by_name, 0, &build));
+    OK(fc_wanted(&table, build, 0, &first));
+    OK(fc_wanted(&table, build, 1, &second));
+    OK(fc_deliver(&table, build, first, shelf[first].bytes, shelf[first].len));
+    CODE(fc_carry(&table, build), FC_FAR_FAULT);
+    OK(fc_deliver(&table, build, second, shelf[second].bytes, shelf[second].len));
+    OK(fc_carry(&table, build));
+    OK(fc_merge(&table, build));
+    /* (both contents of the build are forgotten) */
+    OK(fc_begin_fetch(&table, 0, 0, &texts));
+    OK(fc_begin_fetch(&table, 1, 0, &numbers));
+    CODE(fc_carry(&table, texts), FC_FAR_FAULT);
+    CODE(fc_carry(&table, numbers), FC_FAR_FAULT);
+    OK(fc_wanted(&table, texts, 0, &number));
+    OK(fc_deliver(&table, texts, number, shelf[number].bytes, shelf[number].len));
+    OK(fc_wanted(&table, numbers, 0, &number));
+    OK(fc_deliver(&table, numbers, number, shelf[number].bytes, shelf[number].len));
+    OK(fc_give_up(&table, texts));
+    OK(fc_carry(&table, numbers));
+    OK(fc_begin_fetch(&table, 0, 0, &texts));
+    CODE(fc_carry(&table, texts), FC_FAR_FAULT);
+    OK(fc_deliver_copy(&table, 0, 0, names.bytes, names.len));
+    OK(fc_deliver_copy(&table, 1, 0, counts.bytes, counts.len));
+    OK(fc_migrate(&table, 10));
+    OK(fc_close(&table));
+}
+
 /* --- Each allocation refused ------------------------------------------------------------------------------------------------------ */
 
 /* Calls again once if memory ran out: a refused call left everything as it was. */
@@ -952,6 +987,7 @@ int main(void) {
     closed_jobs();
     going_on();
     lies();
+    deliveries();
     a_day_without_memory(0);
     for (unsigned long which = 1, all = allocations; which <= all; which++) a_day_without_memory(which);
     printf("%lu passed, %lu failed\n", passed, failed);

@@ -151,6 +151,29 @@ static OBJECTS: &[Scene] = &[
             2,
         ),
     },
+    // One work is done on the first stripe, and it is done once.
+    Scene {
+        name: "a_work_evicts_one_object",
+        table: Table::Narrow,
+        gate: Gate::Open,
+        roles: &[Role::Plays(&[
+            (Step::Insert(0, 5), Ok(Reply::Applied(1, 0))),
+            (Step::Insert(0, 6), Ok(Reply::Applied(2, 1))),
+            (Step::Run(1, Works::Two), Ok(Reply::Worked(2, 0))),
+            (Step::Set(0, 0, 9), Err(AWAY)),
+            (Step::Set(0, 1, 9), Ok(Reply::Applied(3, 1))),
+        ])],
+        end: End::Leaves(&[
+            Left {
+                places: 2,
+                count: 2,
+                sum: 14,
+            },
+            NO_ROW,
+            NO_ROW,
+            NO_ROW,
+        ]),
+    },
     // A removal needs both columns.
     Scene {
         name: "a_refusal_names_the_lowest_column_that_is_away",
