@@ -10,5 +10,4 @@ pub mod RenewingFaults
 pub mod LoadingLines
 pub mod PiecesLending
 pub mod PlainAnswers
-pub mod AwayLaws
 pub mod RulesLaws

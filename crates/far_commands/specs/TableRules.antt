@@ -1,26 +1,27 @@
 -- What a script does to its table, as its user sees it: to the rows and aggregates, and which chunks are away or pinned.
-use Rattle.std.specs.Prelude.{◌≡◌, ◌⊎◌, ⊤, ℕ, true, false, List, [], ◌∷◌, codes}
+use Rattle.std.specs.Prelude.{◌≡◌, ◌⊎◌, ⊤, ℕ, List, [], ◌∷◌, codes}
+use Rattle.std.specs.Option.{option_map_or}
 use Rattle.far_types.specs.declared.refusal.Refusal.{Refusal}
-use Rattle.far_types.specs.declared.refusal.Refusal.TheVariants as refusal
 use Rattle.far_types.specs.Bounds.{IsSchema, AreLimits}
-use Rattle.far_types.specs.Table.{empty_table}
+use Rattle.far_types.specs.FirstOf.{first_of}
 use Rattle.far_frame.specs.Jobs.{IsOneOf}
-use Rattle.far_frame.specs.TableRefusals.{TableState}
+use Rattle.far_frame.specs.TableRefusals.{TableState, all_away}
 use Rattle.far_frame.specs.TableRuns.{IsTableStep}
+use Rattle.far_frame.specs.TableViews.{new_table}
 use Rattle.far_script.specs.Openings.{Opened}
 use Rattle.far_script.specs.Printing.{refusal_text}
 use Rattle.far_commands.specs.Listings.{dump_text}
 use Rattle.far_commands.specs.Rules.{Rules}
 
--- a new table: its columns and limits are valid, it has no rows and no aggregates, and no chunk is away or has a pin
+-- a new table, whose columns and limits are valid
 abbrev pub IsNewTable : Opened → TableState → Type 0
-IsNewTable opened new = IsSchema opened.0 × AreLimits opened.1 × (new ≡ record
-    { table = empty_table opened.0 opened.1; is_away = λ c g. false; pins = λ c g. 0 })
+IsNewTable opened new = IsSchema opened.0 × AreLimits opened.1
+    × (new ≡ new_table opened.0 opened.1)
 
--- the reply to `dump`: the live rows, or the refusal that names a chunk that is away
-abbrev pub IsTableListing : TableState → List ℕ → Type 0
-IsTableListing s text = (text ≡ dump_text s.table) ⊎ ((c : ℕ) × (g : ℕ)
-    × (s.is_away c g ≡ true) × (text ≡ refusal_text (refusal.Absent c g)))
+-- the reply to `dump`: the refusal that names the first chunk that is away, of the lowest row group and there of the lowest
+-- column, or else the live rows
+abbrev pub table_listing : TableState → List ℕ
+table_listing s = option_map_or refusal_text (first_of (all_away s)) (dump_text s.table)
 
 -- the reply to a renewal, which does not change the table: it is done, or a store failed, or the new one is full, or memory
 -- ran out
@@ -34,7 +35,7 @@ table_rules = record {
   table_in = λ s. s.table;
   IsOpened = IsNewTable;
   Steps = IsTableStep;
-  Lists = IsTableListing;
+  Lists = λ s text. text ≡ table_listing s;
   Moves = λ capacity old text new. IsTableMove old text new;
   Stays = λ new. ⊤;
 }

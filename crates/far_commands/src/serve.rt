@@ -1,8 +1,6 @@
 // Serves lines as commands and prints their replies.
 ghost use Rattle.std.specs.Prelude.{◌≡◌, ℕ, List, ◌++◌, ◌+◌, ◌≤◌, ◌<◌, ◌^◌, true, false, codes, IfOk, IfErr, OnOk, OnErr, Some};
 ghost use Rattle.far_frame.specs.State.{live};
-ghost use Rattle.far_frame.specs.TableViews.{gone_at};
-ghost use Rattle.far_frame.specs.Views.{away};
 ghost use Rattle.far_commands.specs.Answering.{IsAnswered, IsOfWrite, StopsAtLine, TakesForLine};
 ghost use Rattle.far_commands.specs.Cuts.{FailsBy, IsListing, PrintsCut, TakesFor};
 ghost use Rattle.far_script.specs.Faults.{IfInput, IfHalted};
@@ -186,33 +184,6 @@ fn take_step<S: FarStore>(
     }
 }
 
-/// For the proof: shows that the object that the refusal of a dump names is away in the table too. Changes nothing: asks for
-/// an eviction of the object, which is refused.
-fn show_named<S: FarStore>(world: &mut World<S>, refusal: Refusal)
-    requires few { world.old.faults < 2 ^ 62 }
-    requires named { away (live world.old.state) ≡ Some refusal }
-    ensures away { (c : ℕ) → (g : ℕ) → refusal ≡ Refusal.Absent c g
-        → gone_at world.old.state.rows c g ≡ true }
-    ensures same { world.new ≡ world.old }
-{
-    if let Refusal::Absent { column, group } = refusal {
-        drop(world.serve(Step::BeginEvac { column, group }));
-    }
-}
-
-/// For the proof: shows that an object of which a dump would say that it is away is so in the table too. Changes nothing.
-fn show_away<S: FarStore>(world: &mut World<S>)
-    requires few { world.old.faults < 2 ^ 62 }
-    ensures away { (c : ℕ) → (g : ℕ) → away (live world.old.state) ≡ Some (Refusal.Absent c g)
-        → gone_at world.old.state.rows c g ≡ true }
-    ensures same { world.new ≡ world.old }
-{
-    match world.frame().scope().all() {
-        Ok(()) => {}
-        Err(refusal) => show_named(world, refusal),
-    }
-}
-
 /// Serves `load`: takes this many bytes after the line, inserts their rows, and prints the reply.
 fn serve_load<S: FarStore, R: Source + Drop, W: Sink>(
     alloc: Global,
@@ -284,8 +255,10 @@ fn serve_command<S: FarStore, A: Resources<S>, R: Source + Drop, W: Sink>(
         }
         Command::Load(count) => serve_load(resources.alloc(), world, count, input, output, writer),
         Command::Dump => {
-            show_away(world);
-            dump(world.frame(), output, writer)
+            let frame = world.frame();
+            // For the proof: shows the invariant of the table.
+            frame.keeps();
+            dump(frame, output, writer)
         }
         Command::Renew(capacity) => {
             let printed = renew(resources, world, capacity, &mut output.reply);

@@ -1,10 +1,14 @@
-use Rattle.std.proofs.Common.{◌≡◌, [], inl, refl, ap, ◌∙◌}
+use Rattle.std.proofs.Common.{◌≡◌, [], Option, inl, refl, ap, subst}
+use Rattle.std.specs.Option.{option_map_or}
+use Rattle.far_types.specs.declared.refusal.Refusal.{Refusal}
 use Rattle.far_commands.specs.declared.command.Command.TheVariants as command
-use Rattle.far_commands.specs.Listings.{listing_of}
+use Rattle.far_commands.specs.Listings.{dump_text, listing_of}
 use Rattle.far_frame.specs.State.{live}
+use Rattle.far_frame.specs.TableViews.{IsKept}
+use Rattle.far_frame.proofs.TableListing.{all-due}
+use Rattle.far_script.specs.Printing.{refusal_text}
 use Rattle.far_script.proofs.FlowLaws.{prints, reads-none}
 use Rattle.far_script.proofs.FlowStops.{at-halted, each-fault, not-input}
-use Rattle.far_commands.proofs.AwayLaws.{listing-seen}
 use Rattle.far_commands.proofs.RulesLaws.{move-seen}
 use Rattle.far_commands.proofs.CutsLaws.{cut-more, no-input, no-output, printed-err}
 use Rattle.far_commands.proofs.ResultLaws.{on-ok, printed-ok}
@@ -33,15 +37,15 @@ returns-in-Load-clause-stopped g c = rw c.in-Load.is c.serve_load.ensures.stoppe
 
 pub returns-in-Dump-clause-ok : goal.returns-in-Dump-clause-ok
 returns-in-Dump-clause-ok g c =
-    let here = c.frame.ensures ∙ ap (λ world. world.state) c.show_away.ensures.same in
-    on-ok c.dump.result _ _ (λ said. ([], listing_of (live c.args.world.now.state), reads-none g.R.Read _ _ refl, said, rw c.in-Dump.is (refl, (refl, listing-seen c.args.world.now.state c.show_away.ensures.away), c.show_away.ensures.same)))
-    (rw here at c.dump.ensures.ok)
+    let s = c.args.world.now.state in
+    let kept = subst (IsKept g.S.FarTickets.content) c.frame-frame.ensures c.keeps.ensures in
+    let listed = ap (λ (why : Option Refusal). option_map_or refusal_text why (dump_text s.table)) (all-due g.S.FarTickets.content s kept) in
+    on-ok c.dump.result _ _ (λ said. ([], listing_of (live s), reads-none g.R.Read _ _ refl, said, rw c.in-Dump.is (refl, (refl, listed), refl))) (rw c.frame-frame.ensures at c.dump.ensures.ok)
 
 pub returns-in-Dump-clause-err : goal.returns-in-Dump-clause-err
 returns-in-Dump-clause-err g c =
-    let here = c.frame.ensures ∙ ap (λ world. world.state) c.show_away.ensures.same in
     let listed = listing_of (live c.args.world.now.state) in
-    each-fault c.dump.result _ _ (λ why p. (p.0, p.1, cut-more why (λ said. said ≡ listed) (λ said. (c.args.command ≡ command.Dump) × (said ≡ listed)) p.0 (λ said is. (c.in-Dump.is, is)) p.2)) (rw here at c.dump.ensures.err)
+    each-fault c.dump.result _ _ (λ why p. (p.0, p.1, cut-more why (λ said. said ≡ listed) (λ said. (c.args.command ≡ command.Dump) × (said ≡ listed)) p.0 (λ said is. (c.in-Dump.is, is)) p.2)) (rw c.frame-frame.ensures at c.dump.ensures.err)
 
 pub returns-in-Dump-clause-stopped : goal.returns-in-Dump-clause-stopped
 returns-in-Dump-clause-stopped g c = each-fault c.dump.result _ _ (λ why other. not-input why _ other) c.dump.ensures.fault
