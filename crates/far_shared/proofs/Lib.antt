@@ -16,3 +16,4 @@ mod WatchingUndo
 mod WatchingLaws
 mod UnderLockLaws
 mod WorksLaws
+mod CountedLaws

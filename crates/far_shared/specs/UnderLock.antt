@@ -1,6 +1,6 @@
 -- The effect of a call that takes a stripe's lock. A clause cannot name the state under the lock, so it says that the lock allows
 -- states between which the call made its step.
-use Rattle.std.specs.Prelude.{◌≡◌, ◌⊎◌, ℕ, Bool, true, false, List, Option, None, Some}
+use Rattle.std.specs.Prelude.{◌≡◌, ◌⊎◌, ◌<◌, ◌≤◌, ℕ, Bool, true, false, List, Option, None, Some}
 use Rattle.far_types.specs.declared.name.Name.{Name}
 use Rattle.far_types.specs.declared.refusal.Refusal.{Refusal}
 use Rattle.far_types.specs.declared.refusal.Refusal.TheVariants as refusal
@@ -15,7 +15,7 @@ use Rattle.far_frame.specs.declared.step.Reply.TheVariants as reply
 use Rattle.far_frame.specs.declared.step.Step.TheVariants as step
 use Rattle.far_sessions.specs.Histories.{Planned, IsLegal}
 use Rattle.far_shared.specs.Stripes.{AreRowsOf, IsStripe, StripeState}
-use Rattle.far_shared.specs.Works.{BeginRefusal, BeginsBuild, BeginsWork, BuildRefusal, EndRefusal, EndsWork, IsAllScanned}
+use Rattle.far_shared.specs.Works.{AreCounted, BeginRefusal, BeginsBuild, BeginsWork, BuildRefusal, EndRefusal, EndsWork, IsAllScanned, columns_for, stripe_of}
 use Rattle.far_shared.specs.declared.work.Building.TheVariants as building
 use Rattle.far_shared.specs.declared.work.Work.{Work}
 use Rattle.far_shared.specs.declared.work.Work.TheVariants as work
@@ -172,3 +172,10 @@ module _ {K : Type 0} (number_of : K → ℕ) (content : K → List ℕ)
   ServeFails (work.Fetch stripe name) given =
       FetchFails number_of content (allows stripe) name given
   ServeFails (work.Build stripe) given = BuildFails number_of content (allows stripe) given
+
+  -- each work was done on its stripe, or was refused, and a report has these numbers of both. A work of a known column and stripe was
+  -- refused for a reason on its stripe
+  abbrev pub AreServed : ℕ → List Work → ℕ → ℕ → Type 0
+  AreServed columns works done refused = AreCounted Serves
+      (λ w. (given : Refusal)
+      × (columns_for w ≤ columns → stripe_of w < 4 → ServeFails w given)) works done refused

@@ -1,5 +1,5 @@
 -- Work in the background: how it begins and ends, and what it leaves unchanged.
-use Rattle.std.specs.Prelude.{◌≡◌, ◌+◌, ◌<◌, ◌≤◌, ℕ, true, false, List, [], ◌∷◌, length, Option, None, Some, is_none, IsSome, IsSomeAnd, IfSome, Result, IsErrOf}
+use Rattle.std.specs.Prelude.{◌≡◌, ◌⊎◌, ◌+◌, ◌<◌, ◌≤◌, ℕ, true, false, List, [], ◌∷◌, length, Option, None, Some, is_none, IsSome, IsSomeAnd, IfSome, Result, IsErrOf}
 use Rattle.far_types.specs.declared.refusal.Refusal.{Refusal}
 use Rattle.far_types.specs.declared.refusal.Refusal.TheVariants as refusal
 use Rattle.far_types.specs.MayRefuse.{MayRefuse}
@@ -59,6 +59,14 @@ work_refusals (work.Build stripe) = 14 ∷ 12 ∷ 20 ∷ 16 ∷ 21 ∷ 1 ∷ []
 -- the number of works in a report
 abbrev pub works_in : Report → ℕ
 works_in report = report.done + report.refused
+
+module _ {X : Type 0} (is_done is_refused : X → Type 0) where
+  -- each item of the list was done or was refused, and these are the numbers of both
+  abbrev pub AreCounted : List X → ℕ → ℕ → Type 0
+  AreCounted [] done refused = (done ≡ 0) × (refused ≡ 0)
+  AreCounted (x ∷ xs) done refused =
+      ((others : ℕ) × (done ≡ others + 1) × is_done x × AreCounted xs others refused)
+      ⊎ ((others : ℕ) × (refused ≡ others + 1) × is_refused x × AreCounted xs done others)
 
 -- a call on a stripe: an unknown stripe is refused with 14, and the call on a known one only with these codes
 pub record RefusedAt {A : Type 0} (stripe : ℕ) (numbers : List ℕ)

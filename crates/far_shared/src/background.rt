@@ -1,7 +1,7 @@
 // Works that several threads do.
 ghost use Rattle.std.specs.Prelude.{◌≡◌, ◌+◌, ◌<◌, ◌≤◌, ◌^◌, ◌⊎◌, length, vec_len, sum_by, IfOk, IfErr, OnOk};
 ghost use Rattle.std.specs.Int.{div_ceil};
-ghost use Rattle.far_shared.specs.UnderLock.{IsUnder, ServeFails, Serves};
+ghost use Rattle.far_shared.specs.UnderLock.{AreServed, IsUnder, ServeFails, Serves};
 ghost use Rattle.far_shared.specs.Works.{RefusedFor, columns_for, stripe_of, work_refusals, works_in};
 
 use crate::shared::Shared;
@@ -60,6 +60,8 @@ fn serve_all<N: PlanTag, B: TableTag, S: FarStore, R: Wait>(
 ) -> Report
     requires store { S.store_id store.now ≡ B.store }
     ensures all { works_in result ≡ length works.now }
+    ensures served { AreServed S.number_of S.content (IsUnder N.plan S.is_of B.store)
+        (length N.plan.schema) works.now result.done result.refused }
 {
     let mut report = Report {
         done: 0,
@@ -86,7 +88,9 @@ fn chunk_for(count: usize, workers: u32) -> usize
 // Returns the sum of the reports of all threads.
 fn sum_of(reports: &[Report]) -> Report
     requires { sum_by works_in reports.now < 2 ^ 64 }
-    ensures { works_in result ≡ sum_by works_in reports.now }
+    ensures done { result.done ≡ sum_by (λ report. report.done) reports.now }
+    ensures refused { result.refused ≡ sum_by (λ report. report.refused) reports.now }
+    ensures all { works_in result ≡ sum_by works_in reports.now }
 {
     let mut sum = Report {
         done: 0,
@@ -116,11 +120,17 @@ fn serve_chunks<
     requires some { 0 < workers }
     ensures few { IfOk result (λ reports. vec_len reports ≤ workers) }
     ensures all { IfOk result (λ reports. sum_by works_in reports.items ≡ length works.now) }
+    ensures served { IfOk result
+        (λ reports. AreServed S.number_of S.content (IsUnder N.plan S.is_of B.store)
+        (length N.plan.schema) works.now (sum_by (λ report. report.done) reports.items)
+        (sum_by (λ report. report.refused) reports.items)) }
 {
     let size = chunk_for(works.len(), workers);
     let serve_some = |_: usize, chunk: &[Work]| -> Report
         requires { S.store_id store.now ≡ B.store }
-        ensures { works_in result ≡ length chunk.now }
+        ensures { (works_in result ≡ length chunk.now)
+            × AreServed S.number_of S.content (IsUnder N.plan S.is_of B.store)
+            (length N.plan.schema) chunk.now result.done result.refused }
     { serve_all(rt, shared, store, chunk) };
     let reports = thread::map_chunks(rt, shared.alloc, works, size, &serve_some)?;
     Ok(reports)
@@ -170,6 +180,9 @@ impl Background {
     ) -> Result<Report, Refusal>
         requires store { S.store_id store.now ≡ B.store }
         ensures all { IfOk result (λ report. report.done + report.refused ≡ vec_len works) }
+        ensures served { IfOk result
+            (λ report. AreServed S.number_of S.content (IsUnder N.plan S.is_of B.store)
+            (length N.plan.schema) works.items report.done report.refused) }
         ensures workers { OnOk result ((1 ≤ workers) × (workers ≤ 8)) }
         ensures refused { IfErr result
             (λ e. ((e ≡ Refusal.OutOfRange) × ((workers ≡ 0) ⊎ (8 < workers)))

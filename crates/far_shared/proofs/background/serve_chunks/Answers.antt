@@ -1,7 +1,10 @@
 use denote.Param.{param}
 use Rattle.far_shared.proofs.CrossingLaws.{shared_sync}
-use Rattle.std.proofs.Common.{sym, ◌∙◌, rules}
+use Rattle.std.proofs.Common.{◌≡◌, ◌≤◌, ◌*◌, length, get_or, subst, sym, ◌∙◌}
+use Rattle.std.proofs.lemmas.Grind.{div_ceil_times}
+use Rattle.far_shared.specs.UnderLock.{AreServed, IsUnder}
 use Rattle.far_shared.specs.Works.{works_in}
+use Rattle.far_shared.proofs.CountedLaws.{counted-chunks}
 use Rattle.far_shared.proofs.ReportLaws.{counts-all}
 use Rattle.far_shared.proofs.background.serve_chunks.Goals as goal
 
@@ -9,7 +12,14 @@ pub returns-clause-all : goal.returns-clause-all
 returns-clause-all g c =
     let made = c.in_ok-reports in
     counts-all works_in c.chunk_for-size.result c.args.works.now made.reports.items (record { done = 0; refused = 0 }) c.chunk_for-size.ensures.some (sym made.reports.ok.0 ∙ made.ensures.len)
-    (λ n lt. let k = (made.ensures.each n (record { done = 0; refused = 0 }) lt).1 in search rules)
+    (λ n lt. let k = (made.ensures.each n (record { done = 0; refused = 0 }) lt).1 in let report = get_or made.reports.items n (record { done = 0; refused = 0 }) in subst (λ works. works_in report ≡ length works) k.argument_is.value k.call.0)
+
+pub returns-clause-served : goal.returns-clause-served
+returns-clause-served g c =
+    let made = c.in_ok-reports in
+    let long : length c.args.works.now ≤ length made.reports.items * c.chunk_for-size.result = subst (λ n. length c.args.works.now ≤ n * c.chunk_for-size.result) (sym (sym made.reports.ok.0 ∙ made.ensures.len)) (div_ceil_times (length c.args.works.now) c.chunk_for-size.result c.chunk_for-size.ensures.some).0 in
+    counted-chunks _ _ (λ report. report.done) (λ report. report.refused) (record { done = 0; refused = 0 }) c.chunk_for-size.result made.reports.items c.args.works.now long
+    (λ n lt. let k = (made.ensures.each n (record { done = 0; refused = 0 }) lt).1 in let report = get_or made.reports.items n (record { done = 0; refused = 0 }) in subst (λ works. AreServed g.S.FarTickets.number_of g.S.FarTickets.content (IsUnder g.N.PlanTag.plan g.S.FarTickets.is_of g.B.TableTag.store) (length g.N.PlanTag.plan.schema) works report.done report.refused) k.argument_is.value k.call.1)
 
 -- the closure holds a `&` to the runtime, the four tables and the store
 pub map_chunks-requires-sync-F : goal.map_chunks-requires-sync-F
