@@ -21,6 +21,7 @@ use Rattle.far_frame.specs.declared.step.Step.TheVariants as step
 use Rattle.far_frame.proofs.FirstOfLaws.{AllTell, found-plain}
 use Rattle.far_frame.proofs.PlainEditsLaws.{plain-accepts}
 use Rattle.far_shared.specs.Applying.{IsOfObjects, WhyNot, place_of, places_cells}
+use Rattle.far_shared.specs.Editing.{IsMade}
 
 first-holds : (a b : Bool) → (a && b) ≡ true → a ≡ true
 first-holds true b both = refl
@@ -61,15 +62,19 @@ module _ {K : Type 0} (s : LiveState K) (column_indexes : length s.rows.column_i
           returned (inr objects) = inr (inl (objects.0, subst (λ g. IsOfObjects (length s.table.schema) g (places_cells s.table.schema e) (overfills s.table.schema s.table.limits e s.table.places) given) (same-group e) objects.1))
 
 module _ {K : Type 0} (content : K → List ℕ) (old new : Whole K) (column_indexes : length old.rows.column_indexes ≡ length old.table.schema) where
-  pub made-free : (e : Edit) (given : Reply) → Accepts content old (step.Edit e) given new → edit_refusal old.table e ≡ None
+  made-free : (e : Edit) (given : Reply) → Accepts content old (step.Edit e) given new → edit_refusal old.table e ≡ None
   made-free e given h = plain-accepts (live old) e h.1.changed.due
 
   -- an accepted edit has the plain table's reply and effect
-  pub made-accepted : (e : Edit) (given : Reply) → Accepts content old (step.Edit e) given new → Accepts content old (step.Edit e) (edit_reply old.table e) new
+  made-accepted : (e : Edit) (given : Reply) → Accepts content old (step.Edit e) given new → Accepts content old (step.Edit e) (edit_reply old.table e) new
   made-accepted e given h = (refl, h.1)
 
-  pub made-table : (e : Edit) (given : Reply) → Accepts content old (step.Edit e) given new → new.table ≡ after_edit e old.table
+  made-table : (e : Edit) (given : Reply) → Accepts content old (step.Edit e) given new → new.table ≡ after_edit e old.table
   made-table e given h = h.1.changed.table
+
+  -- an accepted edit was made
+  pub is-made : (e : Edit) (given : Reply) → Accepts content old (step.Edit e) given new → IsMade content old e new
+  is-made e given h = record { may = made-free e given h; table = made-table e given h; accepted = made-accepted e given h }
 
   pub made-place : (row : List Cell) (place : ℕ) → Accepts content old (step.Edit (edit.Insert row)) (reply.Place place) new → place ≡ length old.table.places
   made-place row place h = (let is : reply.Place place ≡ reply.Place (length old.table.places) = h.0 in cc)

@@ -27,11 +27,6 @@ module _ (some all : ℕ) (same : some ≡ all) where
   scanned-refused (Err e) given none why (inl is) = (let one : e ≡ given = cc in subst (λ n. AnyRefusal n given) same (subst (AnyRefusal some) one why))
   scanned-refused (Err e) given none why (inr memory) = absurd (true≢false (sym memory.0))
 
--- a fact holds also if the call is accepted
-pub on-any : {T E P : Type 0} (r : Result T E) → P → OnOk r P
-on-any (Ok x) p = p
-on-any (Err e) p = tt
-
 -- if no row group is pending, an answer is refused only for lack of memory
 pub memory-refused : {T : Type 0} (all : ℕ) (r : Result T Refusal) → all ≡ 0 → IfErr r (λ e. e ≡ refusal.NoMemory) → IfErr r (AnyRefusal all)
 memory-refused all (Ok x) none memory = tt

@@ -52,6 +52,20 @@ WhyNot table e given = (edit_refusal table e ≡ Some given)
     given)
     ⊎ ((edit_refusal table e ≡ None) × (given ≡ refusal.NoMemory)))
 
+-- a session that has made or tried an edit knows the stripe's whole history
+pub record SeesAll (p : Planned) (before : SessionState) (log : List Entry) (after : SessionState)
+    (now : List Entry) : Type 0 where
+  -- what it had seen before is the beginning of the history that the edit found
+  pub prefix : IsPrefix before.seen log
+  -- it is still the same session
+  pub by : after.by ≡ before.by
+  -- what it knows as its own are its entries in the history
+  pub own : by_session after.by after.seen ≡ after.mine
+  -- the history is legal
+  pub legal : IsLegal p after.seen
+  -- it has seen the whole history after the edit
+  pub whole : after.seen ≡ now
+
 module _ (p : Planned) (before : SessionState) (e : Edit) (after : SessionState) where
   -- the edit was accepted. The session has then seen a legal history that begins with all that it had seen before, and ends with
   -- this edit at the returned number. The edit is one more of the session's own

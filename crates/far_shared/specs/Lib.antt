@@ -1,6 +1,7 @@
 pub mod Applying
 pub mod Asking
 pub mod Closing
+pub mod Editing
 pub mod Fours
 pub mod Guards
 pub mod Lines

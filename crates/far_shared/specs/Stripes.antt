@@ -3,6 +3,7 @@ use Rattle.std.specs.Prelude.{◌≡◌, ℕ, ◌≤◌, ◌^◌, List, [], leng
 use Rattle.far_types.specs.declared.cell.Kind.{Kind}
 use Rattle.far_types.specs.declared.spec.Spec.{Spec}
 use Rattle.far_types.specs.Table.{Table, Registered}
+use Rattle.far_rows.specs.Jobs.{AreAt}
 use Rattle.far_rows.specs.Rows.{Rows}
 use Rattle.far_table.specs.Watching.{aggregate_at}
 use Rattle.far_frame.specs.State.{State}
@@ -31,6 +32,13 @@ pub record KeepsColumns {K : Type 0} (old new : Rows K) : Type 0 where
   pub column_indexes : new.column_indexes ≡ old.column_indexes
   pub numbers : new.number_objects.number ≡ old.number_objects.number
   pub texts : new.text_objects.number ≡ old.text_objects.number
+
+-- a call keeps rows in their stripe
+pub record KeepsHome {K : Type 0} (is_of : K → List ℕ → Type 0) (old new : Rows K) : Type 0 where
+  -- it keeps the indexes of the columns, and the number
+  pub columns : KeepsColumns old new
+  -- if all tickets were of one store, they are afterwards
+  pub here : (id : List ℕ) → AreAt is_of id old → AreAt is_of id new
 
 -- the table is the replay of the history, and its aggregate 0 is the gauge of the plan, with nothing pending. Other aggregates may be
 -- registered, each with at most as many pending row groups as a table may have places

@@ -6,7 +6,7 @@ use Rattle.far_types.specs.MayRefuse.{MayRefuse}
 use Rattle.far_types.specs.Table.{Table}
 use Rattle.far_store.specs.Faults.{RefusedBy}
 use Rattle.far_aggregates.specs.Aggregates.{is_pending_in}
-use Rattle.far_rows.specs.Jobs.{fetch_refusal}
+use Rattle.far_rows.specs.Jobs.{AreAt, fetch_refusal}
 use Rattle.far_table.specs.Offloading.{offload_refusal}
 use Rattle.far_table.specs.Watching.{aggregate_at, scan_refusal}
 use Rattle.far_frame.specs.declared.job.JobKind.{JobKind}
@@ -15,6 +15,7 @@ use Rattle.far_frame.specs.declared.job.JobPhase.TheVariants as work_of
 use Rattle.far_frame.specs.Jobs.{JobRecord, WorkOf, IsJobAt, IsColdestJob, IsFetchJob, IsOffloadJob, Commits, CommitRefusal, Installs, InstallRefusal, Merges, MergeRefusal}
 use Rattle.far_frame.specs.State.{State, live}
 use Rattle.far_shared.specs.Fours.{pending_in}
+use Rattle.far_shared.specs.Stripes.{KeepsColumns}
 use Rattle.far_shared.specs.declared.work.Building.{Building}
 use Rattle.far_shared.specs.declared.work.Building.TheVariants as building
 use Rattle.far_shared.specs.declared.work.Report.{Report}
@@ -92,6 +93,16 @@ pub record KeepsRows (old new : Table) : Type 0 where
   pub scanned : (a : ℕ) → pending_in (aggregate_at old a) ≡ 0
       → aggregate_at new a ≡ aggregate_at old a
   pub fewer : (a : ℕ) → pending_in (aggregate_at new a) ≤ pending_in (aggregate_at old a)
+
+-- a job that ends keeps the rows, and keeps them in their stripe
+pub record KeepsStripe {K : Type 0} (is_of : K → List ℕ → Type 0) (id : List ℕ)
+    (old new : State K) : Type 0 where
+  -- the rows, the schema, the limits and the edits, and each aggregate with nothing pending
+  pub rows : KeepsRows old.table new.table
+  -- the indexes of the columns, and the number
+  pub columns : KeepsColumns old.rows new.rows
+  -- all tickets are of the store with this id
+  pub here : AreAt is_of id new.rows
 
 module _ {K : Type 0} (s : State K) where
   -- no row group of any aggregate is pending

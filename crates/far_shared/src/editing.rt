@@ -1,14 +1,13 @@
 // Edits of the table of a stripe, and what its gauge reads afterwards.
-ghost use Rattle.std.specs.Prelude.{◌≡◌, ◌+◌, ◌<◌, ◌^◌, ℕ, List, length, Some, None, IfOk, IfErr, OnOk, OnErr};
-ghost use Rattle.far_types.specs.Edits.{after_edit, edit_refusal};
-ghost use Rattle.far_rows.specs.Jobs.{AreAt};
+ghost use Rattle.std.specs.Prelude.{◌≡◌, ◌<◌, ◌^◌, length, Some, IfOk, IfErr, OnOk, OnErr};
 ghost use Rattle.far_table.specs.Watching.{aggregate_at};
-ghost use Rattle.far_frame.specs.Effects.{Accepts, Refuses, edit_reply};
+ghost use Rattle.far_frame.specs.Effects.{Refuses};
 ghost use Rattle.far_frame.specs.declared.step.Step.TheVariants as step;
 ghost use Rattle.far_sessions.specs.Histories.{folded};
 ghost use Rattle.far_shared.specs.Applying.{place_of};
+ghost use Rattle.far_shared.specs.Editing.{IsChanged, IsMade};
 ghost use Rattle.far_shared.specs.Plans.{IsPlan};
-ghost use Rattle.far_shared.specs.Stripes.{KeepsColumns, first_registered};
+ghost use Rattle.far_shared.specs.Stripes.{KeepsHome, first_registered};
 
 use far_frame::Frame;
 use far_sessions::{PlanTag, Reading};
@@ -26,16 +25,11 @@ pub(crate) struct EditOutcome {
 /// Makes an edit. Returns the place of the row that it appends, or the place that it names.
 fn make<S: FarTickets>(frame: &mut Frame<S>, edit: Edit) -> Result<u32, Refusal>
     requires column_indexes { length frame.old.rows.column_indexes ≡ length frame.old.table.schema }
-    ensures may { OnOk result (edit_refusal frame.old.table edit ≡ None) }
-    ensures made { OnOk result (frame.new.table ≡ after_edit edit frame.old.table) }
-    ensures accepted { OnOk result
-        (Accepts S.content frame.old (step.Edit edit) (edit_reply frame.old.table edit) frame.new) }
+    ensures made { OnOk result (IsMade S.content frame.old edit frame.new) }
     ensures place { IfOk result (λ place. place ≡ place_of frame.old.table edit) }
     ensures due { IfErr result (λ e. Refuses frame.old (step.Edit edit) e frame.new) }
     ensures err { OnErr result (frame.new ≡ frame.old) }
-    ensures here { (id : List ℕ) → AreAt S.is_of id frame.old.rows
-        → AreAt S.is_of id frame.new.rows }
-    ensures columns { KeepsColumns frame.old.rows frame.new.rows }
+    ensures keeps { KeepsHome S.is_of frame.old.rows frame.new.rows }
 {
     match edit {
         Edit::Insert(row) => frame.insert(row),
@@ -81,22 +75,10 @@ pub(crate) fn change<N: PlanTag, S: FarTickets>(
     requires gauge { aggregate_at frame.old.table 0 ≡ Some (first_registered N.plan.gauge) }
     requires column_indexes { length frame.old.rows.column_indexes ≡ length frame.old.table.schema }
     requires few { edits < 2 ^ 63 }
-    ensures may { OnOk result (edit_refusal frame.old.table edit ≡ None) }
-    ensures made { OnOk result (frame.new.table ≡ after_edit edit frame.old.table) }
-    ensures accepted { OnOk result
-        (Accepts S.content frame.old (step.Edit edit) (edit_reply frame.old.table edit) frame.new) }
-    ensures place { IfOk result (λ changed. changed.place ≡ place_of frame.old.table edit) }
-    ensures after { IfOk result (λ changed. changed.after
-        ≡ record {
-          edits = edits + 1;
-          count = (folded N.plan.gauge frame.new.table.places).0;
-          sum = (folded N.plan.gauge frame.new.table.places).1;
-        }) }
+    ensures changed { IfOk result (IsChanged S.content N.plan edits frame.old edit frame.new) }
     ensures due { IfErr result (λ e. Refuses frame.old (step.Edit edit) e frame.new) }
     ensures err { OnErr result (frame.new ≡ frame.old) }
-    ensures here { (id : List ℕ) → AreAt S.is_of id frame.old.rows
-        → AreAt S.is_of id frame.new.rows }
-    ensures columns { KeepsColumns frame.old.rows frame.new.rows }
+    ensures keeps { KeepsHome S.is_of frame.old.rows frame.new.rows }
 {
     let place = make(frame, edit)?;
     let after = gauged::<N, S>(frame, edits + 1);

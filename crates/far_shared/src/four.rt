@@ -12,7 +12,7 @@ use crate::opening::Four;
 use far_frame::Frame;
 use far_store::FarTickets;
 use far_types::{Answer, ExtremaLines, Fold, Refusal, Schema, Spec, TotalLines};
-use std::alloc::Global;
+use std::alloc::{AllocError, Global};
 
 /// Returns whether two schemas are the same.
 fn have_same_kinds(one: &Schema, other: &Schema) -> bool
@@ -159,7 +159,7 @@ fn extrema_lines(answer: Answer) -> ExtremaLines
     }
 }
 
-/// Merges the answers over four parts of the rows into the answer over all of them. Refused only with `NoMemory` (1).
+/// Merges the answers over four parts of the rows into the answer over all of them.
 fn merge(
     alloc: Global,
     spec: &Spec,
@@ -167,7 +167,7 @@ fn merge(
     two: Answer,
     three: Answer,
     four: Answer,
-) -> Result<Answer, Refusal>
+) -> Result<Answer, AllocError>
     requires one { IsOf spec.now.fold one }
     requires two { IsOf spec.now.fold two }
     requires three { IsOf spec.now.fold three }
@@ -179,7 +179,6 @@ fn merge(
         → three ≡ answer_over spec.now c
         → four ≡ answer_over spec.now d
         → answer ≡ answer_over spec.now (a ++ (b ++ (c ++ d)))) }
-    ensures memory { IfErr result (λ e. e ≡ Refusal.NoMemory) }
 {
     match spec.fold {
         Fold::Totals => merge_totals(
@@ -232,7 +231,7 @@ fn answer_alike<S: FarTickets>(
     let (left_four, answer_four) = asked(four, spec, a);
     let scanned = none_left(left_one, left_two, left_three, left_four);
     match all_scanned(scanned, answer_one, answer_two, answer_three, answer_four) {
-        Ok(all) => merge(alloc, spec, all.zero, all.one, all.two, all.three),
+        Ok(all) => Ok(merge(alloc, spec, all.zero, all.one, all.two, all.three)?),
         Err(refusal) => Err(refusal),
     }
 }

@@ -83,16 +83,15 @@ fn both<A: Drop, B: Drop>(
     }
 }
 
-/// Returns one value with another. Refused with `NoMemory` (1) exactly if making the other ran out of memory.
-fn with_other<A: Drop, B: Drop>(one: A, other: Result<B, AllocError>) -> Result<(A, B), Refusal>
+/// Returns one value with another. Fails exactly if making the other ran out of memory.
+fn with_other<A: Drop, B: Drop>(one: A, other: Result<B, AllocError>) -> Result<(A, B), AllocError>
     ensures one { IfOk result (λ both. both.0 ≡ one) }
     ensures other { IfOk result (λ both. IsOkAnd other (λ y. y ≡ both.1)) }
-    ensures memory { IfErr result (λ e. e ≡ Refusal.NoMemory) }
     ensures refused { OnErr result (IsErr other) }
 {
     match other {
         Ok(other) => Ok((one, other)),
-        Err(_) => Err(Refusal::NoMemory),
+        Err(_) => Err(AllocError),
     }
 }
 
@@ -277,7 +276,7 @@ impl<N: PlanTag, S: FarTickets> Made<N, S> {
         };
         match with_other(frames, cells.open::<B>(alloc, sessions)) {
             Ok((frames, opened)) => Ok(share(alloc, count, frames, opened)),
-            Err(refusal) => Err(refusal),
+            Err(_) => Err(Refusal::NoMemory),
         }
     }
 }

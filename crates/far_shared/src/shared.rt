@@ -2,6 +2,8 @@
 ghost use Rattle.std.specs.Prelude.{◌≡◌, ◌≢◌, ◌<◌, ◌≤◌, ℕ, length, IfOk, IfErr, OnOk};
 ghost use Rattle.far_sessions.specs.Known.{at};
 ghost use Rattle.far_shared.specs.Applying.{Extends, IsRefused};
+ghost use Rattle.far_shared.specs.Editing.{IsDueUnder, IsMadeUnder};
+ghost use Rattle.far_shared.specs.UnderLock.{IsUnder};
 
 use crate::stripe::{Applied, Stripe, TableTag};
 use crossbeam_utils::CachePadded;
@@ -72,9 +74,16 @@ fn apply_under<N: PlanTag, B: TableTag, S: FarTickets, const I: usize, R: Wait>(
     edit: Edit,
 ) -> Result<Applied, Refusal>
     ensures ok { IfOk result (Extends N.plan me.old edit me.new) }
+    ensures made { OnOk result
+        (IsMadeUnder S.content (IsUnder N.plan S.is_of B.store I) edit me.new) }
     ensures refused { IfErr result (IsRefused N.plan me.old edit me.new) }
+    ensures due { IfErr result (IsDueUnder (IsUnder N.plan S.is_of B.store I) edit me.new) }
 {
-    lock.write(rt).apply(rt, stripe_cell, me, edit)
+    let mut stripe = lock.write(rt);
+    stripe.known();
+    let applied = stripe.apply(rt, stripe_cell, me, edit);
+    stripe.known();
+    applied
 }
 
 impl<N: PlanTag, B: TableTag, S: FarTickets> Shared<N, B, S> {
@@ -101,8 +110,12 @@ impl<N: PlanTag, B: TableTag, S: FarTickets> Shared<N, B, S> {
     ) -> Result<Applied, Refusal>
         ensures stripe { OnOk result (stripe < 4) }
         ensures ok { IfOk result (Extends N.plan (at me.old stripe) edit (at me.new stripe)) }
+        ensures made { OnOk result (IsMadeUnder S.content
+            (IsUnder N.plan S.is_of B.store stripe) edit (at me.new stripe)) }
         ensures refused { IfErr result
             (λ e. stripe < 4 → IsRefused N.plan (at me.old stripe) edit (at me.new stripe) e) }
+        ensures due { IfErr result (λ e. stripe < 4
+            → IsDueUnder (IsUnder N.plan S.is_of B.store stripe) edit (at me.new stripe) e) }
         ensures unknown { IfErr result
             (λ e. 4 ≤ stripe → (e ≡ Refusal.OutOfRange) × (me.new ≡ me.old)) }
         ensures others { (k : ℕ) → k < 4 → k ≢ stripe → at me.new k ≡ at me.old k }

@@ -1,11 +1,10 @@
 // The table and the history under the lock of a stripe.
 ghost use Rattle.std.specs.Prelude.{◌≡◌, ◌++◌, ◌∷◌, [], length, IfOk, IfErr, OnOk, OnErr};
-ghost use mathlib.Core.List.{IsPrefix};
 ghost use Rattle.far_frame.specs.Effects.{Accepts, WhyRefused, edit_reply};
 ghost use Rattle.far_frame.specs.declared.step.Step.TheVariants as step;
-ghost use Rattle.far_sessions.specs.Histories.{replay, by_session, IsLegal};
+ghost use Rattle.far_sessions.specs.Histories.{replay};
 ghost use Rattle.far_sessions.specs.Rule.{entry};
-ghost use Rattle.far_shared.specs.Applying.{place_of, WhyNot, Extends, IsRefused};
+ghost use Rattle.far_shared.specs.Applying.{place_of, SeesAll, WhyNot};
 ghost use Rattle.far_shared.specs.UnderLock.{IsUnder};
 
 use crate::editing::change;
@@ -73,11 +72,7 @@ impl<N: PlanTag, B: TableTag, S: FarTickets, const I: usize> Stripe<N, B, S, I> 
         me: &mut SessionAt<B, I>,
         edit: Edit,
     ) -> Result<Applied, Refusal>
-        ensures prefix { IsPrefix me.old.seen self.old.log }
-        ensures by { me.new.by ≡ me.old.by }
-        ensures own { by_session me.new.by me.new.seen ≡ me.new.mine }
-        ensures legal { IsLegal N.plan me.new.seen }
-        ensures whole { me.new.seen ≡ self.new.log }
+        ensures seen { SeesAll N.plan me.old self.old.log me.new self.new.log }
         ensures ok { OnOk result ((self.new.log ≡ self.old.log ++ entry me.old.by edit ∷ [])
             × (me.new.mine ≡ me.old.mine ++ entry me.old.by edit ∷ [])) }
         ensures accepted { OnOk result (Accepts S.content self.old.state (step.Edit edit)

@@ -6,8 +6,7 @@ ghost use Rattle.far_frame.specs.Effects.{Accepts, Refuses};
 ghost use Rattle.far_frame.specs.declared.step.Reply.TheVariants as reply;
 ghost use Rattle.far_frame.specs.declared.step.Step.TheVariants as step;
 ghost use Rattle.far_frame.specs.Jobs.{IsFetchJob, IsJobAt, job_kind};
-ghost use Rattle.far_shared.specs.Stripes.{KeepsColumns};
-ghost use Rattle.far_shared.specs.Works.{KeepsRows, IsBuildJob, BuildRefusal, BeginsWork, BeginRefusal, BeginsBuild, IsBuildingAt, EndsWork, EndRefusal, begin_refusals, begun_kind, columns_for, end_refusals};
+ghost use Rattle.far_shared.specs.Works.{KeepsRows, KeepsStripe, IsBuildJob, BuildRefusal, BeginsWork, BeginRefusal, BeginsBuild, IsBuildingAt, EndsWork, EndRefusal, begin_refusals, begun_kind, columns_for, end_refusals};
 
 use crate::work::{Building, Work};
 use far_frame::{Frame, Job, JobKind};
@@ -102,9 +101,7 @@ pub(crate) fn finish_on<S: FarTickets>(
     ensures err { OnErr result (frame.new ≡ frame.old) }
     ensures carried { OnOk result (begun_kind job.now.work ≡ None) }
     ensures numbers { RefusedBy (end_refusals (job_kind job.now)) result }
-    ensures keeps { KeepsRows frame.old.table frame.new.table }
-    ensures here { AreAt S.is_of (S.store_id store.now) frame.new.rows }
-    ensures columns { KeepsColumns frame.old.rows frame.new.rows }
+    ensures keeps { KeepsStripe S.is_of (S.store_id store.now) frame.old frame.new }
 {
     match job.kind() {
         JobKind::Evac => frame.commit(store, job),

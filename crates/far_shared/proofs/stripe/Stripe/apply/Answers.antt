@@ -20,7 +20,8 @@ change-requires-clause-column_indexes g c κs inside =
 pub add-requires : goal.add-requires
 add-requires g c =
     let s = c.self.inside in
-    let made = c.in_ok-changed.ensures in (
+    let changed = c.in_ok-changed.ensures.changed in
+    let made = changed.made in (
       omega arith,
       (
         omega arith,
@@ -29,7 +30,7 @@ add-requires g c =
           (
             rw (c.look-before.ensures.history, c.of-copy.ensures) (same-refusal g.N.PlanTag.plan s.keeper s.frame.table c.self.invariant.0 c.args.edit ∙ made.may),
             rw (c.look-before.ensures.history, c.of-copy.ensures)
-                (reads-edited g.N.PlanTag.plan s.keeper s.frame.table c.self.invariant.0 _ c.args.edit c.look-before.result _ _ c.look-before.ensures.reading made.made made.after),
+                (reads-edited g.N.PlanTag.plan s.keeper s.frame.table c.self.invariant.0 _ c.args.edit c.look-before.result _ _ c.look-before.ensures.reading made.table changed.after),
           ),
         ),
       ),
@@ -46,14 +47,14 @@ pub returns-in_err-changed-clause-due : goal.returns-in_err-changed-clause-due
 returns-in_err-changed-clause-due g c = rw (← c.self.view_is) (let due = c.in_err-changed.ensures.due.1 in search rules)
 
 pub returns-clause-accepted : goal.returns-clause-accepted
-returns-clause-accepted g c = rw (← c.self.view_is) c.in_ok-changed.ensures.accepted
+returns-clause-accepted g c = rw (← c.self.view_is) c.in_ok-changed.ensures.changed.made.accepted
 
 pub invariant_of-self-2 : goal.invariant_of-self-2
 invariant_of-self-2 g c =
     let s = c.self.inside in
-    let made = c.in_ok-changed.ensures in
+    let changed = c.in_ok-changed.ensures in
     let longer = rw (c.look-before.ensures.history, c.of-copy.ensures) at c.add.ensures.history in (
-      stripe-made g.N.PlanTag.plan s.keeper s.frame.table c.self.invariant.0 _ c.args.edit _ _ longer made.made,
-      made.here g.B.TableTag.store c.self.invariant.1,
-      still-of g.N.PlanTag.plan.schema _ _ _ made.columns c.self.invariant.2,
+      stripe-made g.N.PlanTag.plan s.keeper s.frame.table c.self.invariant.0 _ c.args.edit _ _ longer changed.changed.made.table,
+      changed.keeps.here g.B.TableTag.store c.self.invariant.1,
+      still-of g.N.PlanTag.plan.schema _ _ _ changed.keeps.columns c.self.invariant.2,
     )

@@ -19,7 +19,7 @@ pub invariant_of-self : goal.invariant_of-self
 invariant_of-self g c =
     let s = c.self.inside in
     let done = c.finish_on.ensures in (
-      stripe-unchanged g.N.PlanTag.plan s.keeper s.frame.table c.finish_on.new.frame.table done.keeps c.self.invariant.0,
-      subst (λ n. AreAt g.S.FarTickets.is_of n c.finish_on.new.frame.rows) c.requires.store done.here,
-      still-of g.N.PlanTag.plan.schema _ _ _ done.columns c.self.invariant.2,
+      stripe-unchanged g.N.PlanTag.plan s.keeper s.frame.table c.finish_on.new.frame.table done.keeps.rows c.self.invariant.0,
+      subst (λ n. AreAt g.S.FarTickets.is_of n c.finish_on.new.frame.rows) c.requires.store done.keeps.here,
+      still-of g.N.PlanTag.plan.schema _ _ _ done.keeps.columns c.self.invariant.2,
     )
