@@ -3,7 +3,7 @@ use denote.RattleType.{RattleType}
 use denote.Struct.Struct.{Struct}
 use denote.Struct.Declared as declared
 use denote.Param.{number}
-use denote.Param.Send.{IsSend, IsSync, AllSend, AllSync, sendable, view_send, view_sync, struct_send, struct_sync, recorded_send, recorded_sync}
+use denote.Param.Send.{IsSend, IsSync, AllSend, AllSync, view_send, view_sync, struct_send, struct_sync, recorded_send, recorded_sync}
 use Rattle.std.specs.contracts.sync.RwLock as lock
 use Rattle.std.proofs.alloc.Global.TheSendSync as global
 use Rattle.std.proofs.sync.RwLock.TheSendSync as locked
