@@ -52,3 +52,24 @@ const HUNDRED: Left = Left {
 fn an_answer_over_all_stripes_never_shows_a_later_row_without_the_earlier(rt: HostRuntime) {
     assert!(rt; comes_out(&rt, rt.alloc(), &PAIRS));
 }
+
+// Two sessions register aggregates at once, while two ask the gauge. Each call takes all four locks.
+static REGISTERED: Scene = Scene {
+    name: "registrations_and_answers_over_all_stripes_do_not_mix",
+    table: Table::Numbers,
+    gate: Gate::Open,
+    roles: &[
+        Role::Does(Duty::Registers(15)),
+        Role::Does(Duty::Registers(15)),
+        Role::Does(Duty::Asks(2)),
+        Role::Does(Duty::Asks(2)),
+    ],
+    end: End::LeavesWatched(&[NO_ROW; 4], 31),
+};
+
+#[test]
+fn registrations_and_answers_over_all_stripes_do_not_mix(rt: HostRuntime) {
+    for _ in 0..RUNS {
+        assert!(rt; comes_out(&rt, rt.alloc(), &REGISTERED));
+    }
+}

@@ -3,7 +3,7 @@ ghost use Rattle.std.specs.Prelude.{◌≡◌};
 ghost use Rattle.far_shared.specs.Opening.{HaveNames};
 
 use crate::ending::ends;
-use crate::gates::{Gated, gate_of};
+use crate::gates::{Gated, with_gate};
 use crate::plans::{capacity_of, plan_of};
 use crate::playing::play_to_end;
 use crate::scenes::Scene;
@@ -81,9 +81,9 @@ fn on_agent<R: Threads + Wait + Sync>(
 ) -> Result<bool, Refusal> {
     match AgentStore::new(rt, alloc, capacity_of(scene.table)) {
         Ok(store) => {
-            let gated = gate_of(store, scene.gate);
-            let answer = staged(rt, alloc, &gated, scene);
-            drop(gated);
+            let store = with_gate(store, scene.gate);
+            let answer = staged(rt, alloc, &store, scene);
+            drop(store);
             answer
         }
         Err(refusal) => Err(refusal),

@@ -3,7 +3,7 @@ use crate::editing::edit_by_turns;
 use crate::keyed::{ask_pairs, insert_pairs};
 use crate::scenes::{Duty, Left, NO_ROW, Replied, Step};
 use crate::signals::Signals;
-use crate::working::{read_beside, work_beside};
+use crate::working::{ask_beside, read_beside, register_beside, work_beside};
 use far_types::Refusal;
 use std::alloc::Global;
 
@@ -33,5 +33,7 @@ pub fn do_duty<M, F: Fn(&mut M, Step) -> Replied>(
         Duty::Reads(until) => left_if(read_beside(call, me, signals, until)),
         Duty::InsertsPairs(pairs) => left_if(insert_pairs(call, me, signals, pairs)),
         Duty::AsksPairs(pairs) => left_if(ask_pairs(call, me, signals, pairs)),
+        Duty::Registers(aggregates) => left_if(register_beside(call, me, signals, aggregates)),
+        Duty::Asks(until) => left_if(ask_beside(call, me, signals, until)),
     }
 }

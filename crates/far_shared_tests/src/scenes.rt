@@ -15,7 +15,7 @@ pub enum Table {
     Narrow,
 }
 
-// Which puts into the store of a scene are held.
+// Which puts into the store of a scene, or gets from it, are held.
 #[derive(Clone, Copy)]
 pub enum Gate {
     // No put is held.
@@ -24,6 +24,8 @@ pub enum Gate {
     Released,
     // The first put is held until a second begins.
     Paired,
+    // The gets are held until they are released.
+    OfGets,
 }
 
 // The text of a key.
@@ -101,8 +103,8 @@ pub enum Step {
     InPhases(Work),
     // Lets this many threads do these works.
     Run(u32, Works),
-    // Waits until a put is held at the gate.
-    AwaitPut,
+    // Waits until a put or a get is held at the gate.
+    AwaitHeld,
     // Opens the gate.
     OpenGate,
     // Sends a signal to the other sessions.
@@ -159,6 +161,10 @@ pub enum Duty {
     InsertsPairs(u32),
     // Asks for the totals by key until the pairs are inserted.
     AsksPairs(u32),
+    // Registers this many totals.
+    Registers(u32),
+    // Asks the gauge over all stripes until this many sessions have ended.
+    Asks(u64),
 }
 
 // The role of a session in a scene.

@@ -1,7 +1,7 @@
 // The calls of a session.
 ghost use Rattle.std.specs.Prelude.{◌≡◌};
 
-use crate::gates::{Gated, awaits_put};
+use crate::gates::{Gated, awaits_held};
 use crate::looking::look;
 use crate::phases::complete_work;
 use crate::plans::{all_numbers, keyed_row, row_of};
@@ -105,10 +105,10 @@ fn move_or_build<N: PlanTag, B: TableTag, S: FarStore, R: Wait>(
     }
 }
 
-// Waits for signals or for a put, or sends a signal.
+// Waits for signals, or for a put or a get, or sends a signal.
 fn wait_or_signal<S: Gated>(store: &S, signals: &Signals, step: Step) -> Replied {
     match step {
-        Step::AwaitPut => waited(awaits_put(store)),
+        Step::AwaitHeld => waited(awaits_held(store)),
         Step::Await(times) => waited(signals.awaits(times)),
         Step::OpenGate => {
             store.open();
@@ -139,7 +139,7 @@ pub fn serve<
     requires store { S.store_id store.now ≡ B.store }
 {
     match step {
-        Step::AwaitPut | Step::OpenGate | Step::Signal | Step::Await(_) => wait_or_signal(
+        Step::AwaitHeld | Step::OpenGate | Step::Signal | Step::Await(_) => wait_or_signal(
             store, signals, step,
         ),
         Step::Evacuate(_) | Step::Fetch(_, _) | Step::Build(_) | Step::InPhases(_) => move_or_build(

@@ -184,15 +184,15 @@ fn are_alike<M, F: Fn(&mut M, Step) -> Replied>(call: &F, me: &mut M) -> Result<
     Ok(gauge.is_ok())
 }
 
-// Registers the totals that are not registered yet.
-fn register_from<M, F: Fn(&mut M, Step) -> Replied>(
+// Registers this many totals.
+fn register_all<M, F: Fn(&mut M, Step) -> Replied>(
     call: &F,
     me: &mut M,
-    registered: u32,
+    aggregates: u32,
 ) -> Result<(), Refusal>
     requires { F.IsAlwaysCallable call.now }
 {
-    for _ in registered..AGGREGATES {
+    for _ in 0..aggregates {
         if let Err(refusal) = call(me, Step::WatchTotals) {
             return Err(refusal);
         }
@@ -209,7 +209,7 @@ fn end_work<M, F: Fn(&mut M, Step) -> Replied>(
 ) -> Result<bool, Refusal>
     requires { F.IsAlwaysCallable call.now }
 {
-    let registered = register_from(call, me, registered);
+    let registered = register_all(call, me, AGGREGATES.saturating_sub(registered));
     match registered.and(settle(call, me, &SETTLING)) {
         Ok(()) => are_alike(call, me),
         Err(refusal) => Err(refusal),
@@ -254,6 +254,45 @@ pub fn read_beside<M, F: Fn(&mut M, Step) -> Replied>(
             return differs(reading, before[stripe as usize]);
         }
         before[stripe as usize] = reading;
+        if signals.was_sent(until) {
+            return Ok(true);
+        }
+    }
+    Ok(false)
+}
+
+// Registers this many totals, and then sends a signal. Returns whether each was registered.
+pub fn register_beside<M, F: Fn(&mut M, Step) -> Replied>(
+    call: &F,
+    me: &mut M,
+    signals: &Signals,
+    aggregates: u32,
+) -> Result<bool, Refusal>
+    requires { F.IsAlwaysCallable call.now }
+{
+    let registered = register_all(call, me, aggregates);
+    signals.send();
+    match registered {
+        Ok(()) => Ok(true),
+        Err(refusal) => Err(refusal),
+    }
+}
+
+// Asks the gauge over all stripes, which have no row, until this many sessions have ended. Returns whether each answer was right.
+pub fn ask_beside<M, F: Fn(&mut M, Step) -> Replied>(
+    call: &F,
+    me: &mut M,
+    signals: &Signals,
+    until: u64,
+) -> Result<bool, Refusal>
+    requires { F.IsAlwaysCallable call.now }
+{
+    for _ in 0..TURNS {
+        match call(me, Step::Ask(0)) {
+            Ok(Reply::Totals(0, 0)) => {}
+            Ok(_) => return Ok(false),
+            Err(refusal) => return Err(refusal),
+        }
         if signals.was_sent(until) {
             return Ok(true);
         }
