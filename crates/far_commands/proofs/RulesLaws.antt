@@ -1,5 +1,5 @@
 -- What is answered by some rules is answered by others.
-use Rattle.std.proofs.Common.{◌≡◌, ◌+◌, ℕ, zero, suc, List, [], ◌∷◌, ◌⊎◌, inl, inr, Option, None, Some, refl, sym, ap, subst, ◌∙◌}
+use Rattle.std.proofs.Common.{◌≡◌, ◌+◌, ℕ, zero, suc, List, [], ◌∷◌, inl, inr, Option, None, Some, refl, sym, ap, subst, ◌∙◌}
 use Rattle.std.specs.Option.{option_and_then, option_map_or}
 use Rattle.std.specs.Prelude.{option_map, slice_get, false}
 use Rattle.far_store.specs.declared.store.FarTickets.{Ghosts as Tickets}
@@ -8,11 +8,8 @@ use Rattle.far_types.specs.declared.cell.Kind.TheVariants as kind
 use Rattle.far_types.specs.declared.limits.Limits.{Limits}
 use Rattle.far_types.specs.declared.refusal.Refusal.{Refusal}
 use Rattle.far_types.specs.Table.{Table, empty_table}
-use Rattle.far_columns.specs.Vector.{Vector}
-use Rattle.far_texts.specs.Texts.{Texts}
 use Rattle.far_rows.specs.declared.column_index.ColumnIndex.{ColumnIndex}
 use Rattle.far_rows.specs.declared.column_index.ColumnIndex.TheVariants as column_index
-use Rattle.far_rows.specs.declared.object.Object.{Object}
 use Rattle.far_rows.specs.Coldest.{pins_at}
 use Rattle.far_rows.specs.Moving.{object_at, object_in}
 use Rattle.far_rows.specs.Opening.{empty_rows, numbers_from, texts_from}
@@ -21,7 +18,6 @@ use Rattle.far_frame.specs.declared.step.Reply.{Reply}
 use Rattle.far_frame.specs.declared.step.Reply.TheVariants as reply
 use Rattle.far_frame.specs.declared.step.Step.{Step}
 use Rattle.far_frame.specs.State.{empty_state}
-use Rattle.far_frame.specs.TableRefusals.{TableState}
 use Rattle.far_frame.specs.TableViews.{is_gone, table_of}
 use Rattle.far_frame.specs.Worlds.{World}
 use Rattle.far_script.specs.Openings.{Opened}

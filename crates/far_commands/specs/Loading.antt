@@ -1,6 +1,6 @@
 -- How a load reads its records, and its reply.
 -- Internal: no public contract cites it.
-use Rattle.std.specs.Prelude.{◌≡◌, ◌<◌, ◌+◌, ℕ, false, List, [], ◌++◌, length, codes, Option, Some}
+use Rattle.std.specs.Prelude.{◌≡◌, ◌<◌, ℕ, false, List, [], ◌++◌, length, codes, Option, Some}
 use Rattle.std.specs.Option.{option_map_or}
 use Rattle.csv.specs.Machine.{ends_at_end}
 use Rattle.csv.specs.Reading.{default_config, records_from, source_of, Ready, reader_config, reader_state, reader_trim}

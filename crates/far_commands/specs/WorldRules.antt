@@ -1,5 +1,5 @@
 -- What a script does to its table with objects, space, jobs and store.
-use Rattle.std.specs.Prelude.{◌≡◌, ℕ}
+use Rattle.std.specs.Prelude.{◌≡◌}
 use Rattle.far_store.specs.declared.store.FarTickets.{Ghosts as Tickets}
 use Rattle.far_frame.specs.State.{live}
 use Rattle.far_frame.specs.Steps.{IsStep}

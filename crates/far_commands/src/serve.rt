@@ -1,7 +1,7 @@
 // Serves lines as commands and prints their replies.
-ghost use Rattle.std.specs.Prelude.{◌≡◌, ℕ, List, ◌++◌, ◌+◌, ◌≤◌, ◌<◌, ◌^◌, true, false, codes, IfOk, IfErr, OnOk, OnErr, Some};
+ghost use Rattle.std.specs.Prelude.{◌≡◌, ◌≢◌, ℕ, List, [], ◌++◌, ◌+◌, ◌≤◌, ◌<◌, ◌^◌, true, false, codes, IfOk, IfErr, OnOk, OnErr, Some};
 ghost use Rattle.far_frame.specs.State.{live};
-ghost use Rattle.far_commands.specs.Answering.{IsAnswered, IsOfWrite, StopsAtLine, TakesForLine};
+ghost use Rattle.far_commands.specs.Answering.{IsAnswered, IsOfWrite, IsReplied, StopsAtLine, TakesForLine};
 ghost use Rattle.far_commands.specs.Cuts.{FailsBy, IsListing, PrintsCut, TakesFor};
 ghost use Rattle.far_script.specs.Faults.{IfInput, IfHalted};
 ghost use Rattle.far_script.specs.Flow.{Holds, IsShort, Prints, Reads, Stops, bytes_in};
@@ -218,6 +218,84 @@ fn serve_load<S: FarStore, R: Source + Drop, W: Sink>(
     output.add_printed(printed)
 }
 
+/// Serves a step, and adds its reply to the output. Inlined, since most commands are steps.
+#[inline(always)]
+fn serve_step<S: FarStore, W: Sink>(
+    world: &mut World<S>,
+    step: Step,
+    output: &mut Output<W>,
+) -> Result<(), ShellFault>
+    requires few { world.old.faults < 2 ^ 62 }
+    ensures ok { OnOk result
+        (IsReplied (both_rules S.FarTickets) world.old (Command.Step step) world.new output.old.page
+        output.new.page) }
+    ensures err { OnErr result (output.new.page ≡ output.old.page) }
+    ensures memory { IfErr result (λ fault. fault ≡ ShellFault.Memory) }
+    ensures faults { world.new.faults ≤ world.old.faults + 1 }
+{
+    let printed = take_step(world, step, &mut output.reply);
+    output.add_printed(printed)
+}
+
+/// Serves `renew`, and adds its reply to the output.
+fn serve_renewal<S: FarStore, A: Resources<S>, W: Sink>(
+    resources: &A,
+    world: &mut World<S>,
+    capacity: u32,
+    output: &mut Output<W>,
+) -> Result<(), ShellFault>
+    requires few { world.old.faults < 2 ^ 62 }
+    ensures ok { OnOk result
+        (IsReplied (both_rules S.FarTickets) world.old (Command.Renew capacity) world.new
+        output.old.page output.new.page) }
+    ensures err { OnErr result (output.new.page ≡ output.old.page) }
+    ensures memory { IfErr result (λ fault. fault ≡ ShellFault.Memory) }
+    ensures faults { world.new.faults ≤ world.old.faults + 1 }
+{
+    let printed = renew(resources, world, capacity, &mut output.reply);
+    output.add_printed(printed)
+}
+
+/// Serves `recount`, and adds its reply to the output.
+fn serve_recount<S: FarStore, A: Resources<S>, W: Sink>(
+    resources: &A,
+    world: &World<S>,
+    aggregate: u32,
+    output: &mut Output<W>,
+) -> Result<(), ShellFault>
+    ensures ok { OnOk result
+        (IsReplied (both_rules S.FarTickets) world.now (Command.Recount aggregate) world.now
+        output.old.page output.new.page) }
+    ensures err { OnErr result (output.new.page ≡ output.old.page) }
+    ensures memory { IfErr result (λ fault. fault ≡ ShellFault.Memory) }
+{
+    let printed = recount(resources, world, aggregate, &mut output.reply);
+    output.add_printed(printed)
+}
+
+/// Serves `dump`, and prints the rows or the refusal.
+fn serve_dump<S: FarStore, W: Sink>(
+    world: &World<S>,
+    output: &mut Output<W>,
+    writer: &mut W,
+) -> Result<(), ShellFault>
+    ensures ok { OnOk result
+        ((text : List ℕ)
+        × Prints (W.contents writer.old) output.old.page text (W.contents writer.new)
+        output.new.page
+        × Serves (both_rules S.FarTickets) world.now Command.Dump [] text world.now) }
+    ensures err { IfErr result
+        (λ fault. PrintsCut fault (λ said. said ≡ listing_of (live world.now.state))
+        (W.contents writer.old) output.old.page (W.contents writer.new) output.new.page) }
+    ensures fault { IfErr result (λ fault. fault ≢ ShellFault.Input) }
+    ensures failed { IfErr result (λ fault. IsOfWrite fault output.new) }
+{
+    let frame = world.frame();
+    // For the proof: shows the invariant of the table.
+    frame.keeps();
+    dump(frame, output, writer)
+}
+
 /// Serves a command, taking the bytes of a load from the input, and prints its reply.
 fn serve_command<S: FarStore, A: Resources<S>, R: Source + Drop, W: Sink>(
     resources: &A,
@@ -249,25 +327,11 @@ fn serve_command<S: FarStore, A: Resources<S>, R: Source + Drop, W: Sink>(
     ensures asked { input.new.source.reads ≤ input.old.source.reads }
 {
     match command {
-        Command::Step(step) => {
-            let printed = take_step(world, step, &mut output.reply);
-            output.add_printed(printed)
-        }
+        Command::Step(step) => serve_step(world, step, output),
         Command::Load(count) => serve_load(resources.alloc(), world, count, input, output, writer),
-        Command::Dump => {
-            let frame = world.frame();
-            // For the proof: shows the invariant of the table.
-            frame.keeps();
-            dump(frame, output, writer)
-        }
-        Command::Renew(capacity) => {
-            let printed = renew(resources, world, capacity, &mut output.reply);
-            output.add_printed(printed)
-        }
-        Command::Recount(aggregate) => {
-            let printed = recount(resources, world, aggregate, &mut output.reply);
-            output.add_printed(printed)
-        }
+        Command::Dump => serve_dump(world, output, writer),
+        Command::Renew(capacity) => serve_renewal(resources, world, capacity, output),
+        Command::Recount(aggregate) => serve_recount(resources, world, aggregate, output),
     }
 }
 
@@ -302,7 +366,8 @@ pub fn answer_line<S: FarStore, A: Resources<S>, R: Source + Drop, W: Sink>(
         (λ fault. PrintsCut fault (IsListing progress.old (bytes_in R.Read input.old line))
         (W.contents writer.old) output.old.page (W.contents writer.new) output.new.page) }
     ensures stopped { IfErr result
-        (λ fault. IfInput fault (StopsAtLine R.Read input.old line input.new R.may_fail progress.old)) }
+        (λ fault. IfInput fault
+        (StopsAtLine R.Read input.old line input.new R.may_fail progress.old)) }
     ensures taken { IfErr result
         (λ fault. IfHalted fault (TakesForLine R.Read input.old line input.new progress.old)) }
     ensures failed { IfErr result (λ fault. IsOfWrite fault output.new) }

@@ -6,6 +6,7 @@ pub mod ScriptsLaws
 pub mod LineFaultsLaws
 mod WorkingInserts
 mod WorkingReadings
+mod WorkingTries
 mod HistoriesOneSession
 mod RunsGauge
 mod RunsLaws

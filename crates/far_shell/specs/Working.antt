@@ -1,14 +1,22 @@
 -- What sessions do during a run, and what they know when the table is closed.
 -- Internal: no public contract cites it.
-use Rattle.std.specs.Prelude.{◌≡◌, ◌≢◌, ℕ, ℤ, ◌%◌, ◌<◌, ◌≤◌, List, [], ◌∷◌, ◌++◌, None, Some, OnOk, IsOk, Result, length, slice_get}
+use Rattle.std.specs.Prelude.{◌≡◌, ◌≢◌, ◌⊎◌, ℕ, ℤ, ◌%◌, ◌<◌, ◌≤◌, List, [], ◌∷◌, ◌++◌, Option, None, Some, OnOk, IsOk, Result, length, slice_get}
 use Rattle.far_types.specs.declared.answer.Answer.{Answer}
 use Rattle.far_types.specs.declared.answer.Answer.TheVariants as answer
+use Rattle.far_types.specs.declared.refusal.Refusal.{Refusal}
+use Rattle.far_types.specs.declared.refusal.Refusal.TheVariants as refusal
 use Rattle.far_sessions.specs.Histories.{Planned, by_session, gauge_of}
 use Rattle.far_sessions.specs.declared.reading.Reading.{Reading}
 use Rattle.far_sessions.specs.Known.{Known, SeesMore, at, session_number}
 use Rattle.far_shared.specs.Asking.{IsAnswer}
+use Rattle.far_shared.specs.Stripes.{StripeState}
+use Rattle.far_shared.specs.UnderLock.{ServeFails, Serves}
+use Rattle.far_shared.specs.Works.{columns_for, stripe_of}
+use Rattle.far_shared.specs.declared.work.Work.{Work}
+use Rattle.far_shared.specs.declared.work.Work.TheVariants as work
 use Rattle.far_shell.specs.declared.sessions.outcome.Outcome.{Outcome}
 use Rattle.far_shell.specs.declared.sessions.outcome.Stop.{Stop}
+use Rattle.far_shell.specs.declared.sessions.outcome.Stop.TheVariants as stop
 use Rattle.far_shell.specs.Runs.{inserts, sum_of_rows}
 
 -- a plan with at most as many sessions as stripes, so that each has its own home stripe. The gauge counts and sums the rows
@@ -21,6 +29,34 @@ pub record Makes (k n : ℕ) (before after : Known) : Type 0 where
   pub by : (at after k).by ≡ (at before k).by
   pub mine : (at after k).mine ≡ (at before k).mine ++ inserts (at before k).by n
   pub others : (i : ℕ) → i < 4 → i ≢ k → at after i ≡ at before i
+
+-- the work that may let an edit succeed that a stripe refused: the object that is away is fetched, or one is evicted if space is
+-- short
+abbrev pub remedy_of : ℕ → Refusal → Option Work
+remedy_of stripe (refusal.Absent column group) =
+    Some (work.Fetch stripe record { column = column; group = group })
+remedy_of stripe refusal.RegionFull = Some (work.Evacuate stripe)
+remedy_of stripe _ = None
+
+-- why a refused edit is not tried again: memory ran out, or no work could help
+abbrev pub stop_after : Refusal → Stop
+stop_after (refusal.Absent column group) = stop.Memory
+stop_after refusal.RegionFull = stop.Memory
+stop_after refusal.NoMemory = stop.Memory
+stop_after _ = stop.Turns
+
+-- a work was done, or was refused for another reason than memory
+abbrev pub IsTried : {K : Type 0} → (K → ℕ) → (K → List ℕ) → (ℕ → StripeState K → Type 0) → ℕ → Work
+    → Type 0
+IsTried number_of content allows columns w = Serves number_of content allows w
+    ⊎ ((why : Refusal) × (why ≢ refusal.NoMemory)
+    × (columns_for w ≤ columns → stripe_of w < 4 → ServeFails number_of content allows w why))
+
+-- this many evictions were tried, the k-th on stripe k mod 4
+abbrev pub AreTried : {K : Type 0} → (K → ℕ) → (K → List ℕ) → (ℕ → StripeState K → Type 0) → ℕ → ℕ
+    → Type 0
+AreTried number_of content allows columns tries = (k : ℕ) → k < tries
+    → IsTried number_of content allows columns (work.Evacuate (k % 4))
 
 -- a session that has made its edits or was stopped
 pub record Ended : Type 0 where

@@ -1,7 +1,9 @@
 // Prepares the next try of a refused edit.
-ghost use Rattle.std.specs.Prelude.{◌≡◌};
+ghost use Rattle.std.specs.Prelude.{◌≡◌, length, IfErr, IsSomeAnd, OnOk};
+ghost use Rattle.far_shared.specs.UnderLock.{IsUnder};
+ghost use Rattle.far_shell.specs.Working.{IsTried, remedy_of, stop_after};
 
-use super::outcome::Stop;
+use super::outcome::{Stop, stop_at_no_memory};
 use far_sessions::PlanTag;
 use far_shared::{Shared, TableTag};
 use far_store::{FarStore, Meter};
@@ -23,20 +25,20 @@ pub(crate) fn clear_way<N: PlanTag, B: TableTag, S: FarStore, R: Wait>(
     refusal: Refusal,
 ) -> Result<(), Stop>
     requires store { S.store_id store.now ≡ B.store }
+    ensures tried { OnOk result
+        (IsSomeAnd (remedy_of stripe refusal)
+        (IsTried S.number_of S.content (IsUnder N.plan S.is_of B.store) (length N.plan.schema))) }
+    ensures stopped { IfErr result (λ stop. stop ≡ stop_after refusal) }
 {
     let mut meter = Meter::new();
-    let cleared = match refusal {
-        Refusal::Absent { column, group } => shared.fetch(
+    match refusal {
+        Refusal::Absent { column, group } => stop_at_no_memory(shared.fetch(
             rt, stripe, column, group, store, &mut meter,
-        ),
-        Refusal::RegionFull => shared
-            .evacuate_once(rt, stripe, store, &mut meter)
-            .map(|_| ()),
-        Refusal::NoMemory => return Err(Stop::Memory),
-        _ => return Err(Stop::Turns),
-    };
-    match cleared {
-        Err(Refusal::NoMemory) => Err(Stop::Memory),
-        _ => Ok(()),
+        )),
+        Refusal::RegionFull => {
+            stop_at_no_memory(shared.evacuate_once(rt, stripe, store, &mut meter))
+        }
+        Refusal::NoMemory => Err(Stop::Memory),
+        _ => Err(Stop::Turns),
     }
 }

@@ -1,6 +1,6 @@
 // Ends a run. Closing proves that each history contains exactly its sessions' inserts, so the answer counts exactly the rows
 // of these inserts.
-ghost use Rattle.std.specs.Prelude.{◌≡◌, ◌↔◌, ℕ, ℤ, IfOk, IfNone, IfSome, IsOk, IsOkAnd, IsTrue};
+ghost use Rattle.std.specs.Prelude.{◌≡◌, ◌↔◌, ℕ, ℤ, IfErr, IfOk, IfNone, IfSome, IsOk, IsOkAnd, IsTrue};
 ghost use Rattle.far_types.specs.declared.answer.Answer.{Answer};
 ghost use Rattle.far_types.specs.Answers.{answer_over};
 ghost use Rattle.far_sessions.specs.Closing.{IsWhole};
@@ -50,12 +50,13 @@ fn close_all<N: PlanTag, B: TableTag, S: FarTickets, R: Wait>(
 
 /// Returns the answer of the gauge, aggregate 0, over the rows of four tables, and drops them. Ends only with `Memory`.
 fn answer_closed<S: FarTickets>(alloc: Global, frames: Four<Frame<S>>) -> Result<Answer, Stop>
-    ensures { IfOk result
+    ensures ok { IfOk result
         (λ answer. IfSome (spec_at frames.zero.table 0)
         (λ spec. answer
         ≡ answer_over spec
         (all_rows frames.zero.table frames.one.table frames.two.table
         frames.three.table))) }
+    ensures memory { IfErr result (λ stop. stop ≡ Stop.Memory) }
 {
     let answer = answer_four(
         alloc,

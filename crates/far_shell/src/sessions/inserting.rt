@@ -1,5 +1,5 @@
 // Makes the edits of a session.
-ghost use Rattle.std.specs.Prelude.{◌≡◌, ℕ, ◌<◌, IfOk, OnOk};
+ghost use Rattle.std.specs.Prelude.{◌≡◌, ℕ, ◌<◌, IfErr, IfOk, OnOk};
 ghost use Rattle.far_shell.specs.Runs.{row_of_one};
 ghost use Rattle.far_shell.specs.Working.{Makes};
 
@@ -15,9 +15,10 @@ use std::sync::Wait;
 /// The most tries for one edit.
 const MOST_TRIES: u32 = 10_000;
 
-/// Returns the row that each session inserts: the number 1.
+/// Returns the row that each session inserts: the number 1. Ends only with `Memory`.
 fn row_of_one(alloc: Global) -> Result<Row, Stop>
-    ensures { IfOk result (λ row. row ≡ row_of_one) }
+    ensures ok { IfOk result (λ row. row ≡ row_of_one) }
+    ensures memory { IfErr result (λ stop. stop ≡ Stop.Memory) }
 {
     let mut cells = Vec::new(alloc);
     cells.push(Cell::Int(1))?;

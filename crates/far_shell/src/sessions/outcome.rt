@@ -1,8 +1,8 @@
 // The outcome of a run of sessions.
-ghost use Rattle.std.specs.Prelude.{◌≡◌};
+ghost use Rattle.std.specs.Prelude.{◌≡◌, ◌≢◌, IfErr, IsErrOf, OnOk};
 
 use far_sessions::Reading;
-use far_types::Answer;
+use far_types::{Answer, Refusal};
 use std::alloc::{AllocError, AllocFailed};
 use std::fmt;
 
@@ -23,6 +23,18 @@ pub enum Stop {
     /// An edit was tried 10,000 times, or was refused for a reason that a retry cannot change; or the closed stripes answer
     /// otherwise than the shared table did, which no run has met and no clause rules out.
     Turns,
+}
+
+/// Ends with `Memory` if a call ran out of memory. Drops any other result.
+pub(crate) fn stop_at_no_memory<T: Drop>(given: Result<T, Refusal>) -> Result<(), Stop>
+    ensures ok { OnOk result (IfErr given (λ e. e ≢ Refusal.NoMemory)) }
+    ensures memory { IfErr result
+        (λ stop. (stop ≡ Stop.Memory) × IsErrOf given Refusal.NoMemory) }
+{
+    match given {
+        Err(Refusal::NoMemory) => Err(Stop::Memory),
+        _ => Ok(()),
+    }
 }
 
 /// Prints why the run ended, as a sentence without a full stop.

@@ -1,5 +1,5 @@
 // Runs sessions on threads beside a background worker.
-ghost use Rattle.std.specs.Prelude.{◌≡◌, IfOk, OnOk};
+ghost use Rattle.std.specs.Prelude.{◌≡◌, ◌⊎◌, IfErr, IfOk, IsErrOf, IsOk, OnOk};
 ghost use Rattle.far_sessions.specs.Known.{newcomers};
 ghost use Rattle.far_shell.specs.Runs.{IsRun};
 ghost use Rattle.far_shell.specs.Working.{AreLeft, AreWorked, HasHomes, IsWorked};
@@ -62,9 +62,12 @@ fn work_all<
     Ok(worked)
 }
 
-/// Returns the second result, unless the first is an error.
+/// Returns the second result, unless the first is an error, which is then returned.
 fn unless_stopped<T: Drop>(first: Result<(), Stop>, second: Result<T, Stop>) -> Result<T, Stop>
-    ensures { OnOk result (result ≡ second) }
+    ensures second { OnOk result (result ≡ second) }
+    ensures first { OnOk result (IsOk first) }
+    ensures stopped { IfErr result
+        (λ stop. IsErrOf first stop ⊎ (IsOk first × IsErrOf second stop)) }
 {
     first?;
     second

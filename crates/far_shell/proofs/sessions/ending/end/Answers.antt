@@ -21,4 +21,4 @@ returns g c =
     let frames = c.close_all-frames in
     let same = c.have_same_line.ensures.0 c.if-not-have_same_line.false in
     run-of g.N.PlanTag.plan c.args.edits c.in_ok-sessions.sessions.items _ _ _ _ frames.ensures.zero frames.ensures.one frames.ensures.two frames.ensures.three c.in_ok-sessions.outcome c.requires.homes there
-    (subst (λ (returned : Answer). IfSome (spec_at frames.result.zero.table 0) (λ spec. returned ≡ answer_over spec (all_rows frames.result.zero.table frames.result.one.table frames.result.two.table frames.result.three.table))) (same.3 ∙ sym same.2) c.in_ok-closed.ensures)
+    (subst (λ (returned : Answer). IfSome (spec_at frames.result.zero.table 0) (λ spec. returned ≡ answer_over spec (all_rows frames.result.zero.table frames.result.one.table frames.result.two.table frames.result.three.table))) (same.3 ∙ sym same.2) c.in_ok-closed.ensures.ok)
