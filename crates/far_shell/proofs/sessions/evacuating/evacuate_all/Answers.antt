@@ -15,3 +15,6 @@ loop-k-preserved g c =
     let e = c.evacuate_once.ensures in
     one-more (λ (k : ℕ). IsTried g.S.FarTickets.number_of g.S.FarTickets.content allows columns (work.Evacuate (k % 4))) c.loop-k.k c.loop-k.invariant
     (evac-tried g.S.FarTickets.number_of g.S.FarTickets.content allows columns (c.loop-k.k % 4) c.evacuate_once.result e.evacuated e.why c.in_ok-stop_at_no_memory.ensures.ok)
+
+pub returns-clause-tried : goal.returns-clause-tried
+returns-clause-tried g c = λ k low. c.loop-k.invariant k (grind (arith, low, c.loop-k-test.false))
