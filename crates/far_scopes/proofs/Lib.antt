@@ -11,7 +11,8 @@ pub mod MemoryLaws
 pub mod CoolLaws
 pub mod RecencyKeys
 pub mod RecencyLaws
-pub mod RecencyCycles
+pub mod RecencyUses
+pub mod RecencyLog
 pub mod RecencySearch
 pub mod ColdestLaws
 pub mod RecencyAllLocal

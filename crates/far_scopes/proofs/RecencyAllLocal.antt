@@ -6,7 +6,7 @@ use Rattle.far_scopes.specs.Recency.{has, without, Once}
 use Rattle.far_scopes.specs.Memory.{place_of}
 use Rattle.far_scopes.specs.Movement.{Movement, is_local, AreTracked}
 use Rattle.far_scopes.proofs.RecencyLaws.{has-cons_same, has-cons_other, has-without_other, has-without_same, once-without}
-use Rattle.far_scopes.proofs.RecencyCycles.{length-without}
+use Rattle.far_scopes.proofs.RecencyUses.{length-without}
 use Rattle.far_scopes.proofs.MemoryWordPlaces.{place-within, some-true}
 
 -- an order of objects below a bound is at most as long as the bound

@@ -1,6 +1,6 @@
 -- The keys of the entries are the order.
-use Rattle.std.proofs.Common.{◌≡◌, ℕ, ◌-◌, ◌≤◌, true, false, ◌||◌, List, [], ◌∷◌, length, cond, nat_eq, Option, Some, None, refl, sym, ap, subst, ◌∙◌}
-use Rattle.std.specs.Prelude.{is_some, slice_get}
+use Rattle.std.proofs.Common.{◌≡◌, ℕ, ◌-◌, ◌≤◌, true, false, ◌||◌, List, [], ◌∷◌, length, cond, nat_eq, Option, Some, None, refl, sym, ap, ◌∙◌}
+use Rattle.std.specs.Prelude.{is_some}
 use Rattle.std.specs.Map.{lookup, lookup_entry, remove_entry, keys_of}
 use Rattle.std.specs.Option.{option_map_or}
 use Rattle.std.proofs.lemmas.Bool.{eqb-true}
@@ -8,7 +8,6 @@ use Rattle.std.proofs.lemmas.List.{take_all}
 use Rattle.lru.proofs.CallerLemmas.{Contains-lookup_entry}
 use Rattle.lru.specs.LruCache.{promoted, put_entries, LruCache}
 use Rattle.far_scopes.specs.Recency.{has, without, after_use}
-use Rattle.far_scopes.proofs.RecencyLaws.{after_use-first}
 
 module _ {V : Type 0} (o : ℕ) where
   pub has_keys : (es : List (ℕ × V)) → has (keys_of es) o ≡ is_some (lookup (nat_eq o) es)
@@ -40,10 +39,3 @@ module _ {V : Type 0} (o : ℕ) where
   -- a number that was not in the order is added first
   pub added_keys : (c : LruCache ℕ V) (v : V) → has (keys_of c.entries) o ≡ false → length c.entries ≤ c.cap - 1 → keys_of (put_entries nat_eq c o v) ≡ o ∷ keys_of c.entries
   added_keys c v h fits = rw (not_some _ (sym (has_entry c.entries) ∙ h)) (ap (λ es. o ∷ keys_of es) (take_all (c.cap - 1) c.entries fits))
-
--- using the first entry again does not change the order
-pub first_keys : {V : Type 0} (es : List (ℕ × V)) (o : ℕ) (e : ℕ × V) → slice_get es 0 ≡ Some e → e.0 ≡ o → after_use (keys_of es) o ≡ keys_of es
-first_keys [] o e first is = cc
-first_keys (d ∷ es) o e first is =
-    let same : d.0 ≡ o = (let k : Some d ≡ Some e = first in cc) in
-    subst (λ k. after_use (k ∷ keys_of es) o ≡ k ∷ keys_of es) (sym same) (after_use-first (keys_of es) o)

@@ -1,5 +1,5 @@
 -- An order of use: object numbers, the most recently used first.
-use Rattle.std.specs.Prelude.{ℕ, ◌==◌, if◌then◌else◌, Bool, false, ◌≡◌, List, [], ◌∷◌, ◌++◌, reverse, take, drop}
+use Rattle.std.specs.Prelude.{ℕ, ◌-◌, ◌<◌, ◌≤◌, ◌==◌, if◌then◌else◌, Bool, true, false, not, ◌≡◌, List, [], ◌∷◌, length, slice_index}
 use Rattle.std.specs.List.{list_any}
 
 -- whether an object is in an order of use
@@ -25,7 +25,23 @@ abbrev pub Once : List ℕ → Type 0
 Once [] = Unit {0}
 Once (o ∷ order) = (has order o ≡ false) × Once order
 
--- the first `len` of some objects are the first of an order of use, the last of them first
-pub record IsCycle (objects : List ℕ) (len : ℕ) (order : List ℕ) : Type 0 where
-  pub first : order ≡ reverse (take len objects) ++ drop len order
-  pub once : Once order
+-- the objects of some uses, each once, in the order of their last uses
+abbrev pub newest : List ℕ → List ℕ
+newest [] = []
+newest (o ∷ uses) = if has uses o then newest uses else o ∷ newest uses
+
+-- whether an object is not among some uses
+abbrev pub is_unused : List ℕ → ℕ → Bool
+is_unused uses o = not (has uses o)
+
+-- The object that is used at index `i` is also used at index `p - 1`, which is `i` or later.
+abbrev pub IsUsedBefore : List ℕ → ℕ → ℕ → Type 0
+IsUsedBefore uses p i = (i < p) × (p ≤ length uses) × (slice_index uses (p - 1) ≡ slice_index uses i)
+
+-- For each object of some uses a list has 1 + the index of the last of them, at the object's number.
+abbrev pub AreNoted : List ℕ → List ℕ → Type 0
+AreNoted uses last = (i : ℕ) → i < length uses → IsUsedBefore uses (slice_index last (slice_index uses i)) i
+
+-- Each object for which a list has another number than 0 is in an order of use.
+abbrev pub AreKnown : List ℕ → List ℕ → Type 0
+AreKnown last order = (o : ℕ) → 0 < slice_index last o → has order o ≡ true

@@ -1,12 +1,13 @@
-use Rattle.std.proofs.Common.{◌≡◌, take, sym, ◌∙◌, arith}
+use Rattle.std.proofs.Common.{◌++◌, filter, reverse, sym, ap, ◌∙◌}
 use Rattle.std.specs.Map.{keys_of}
-use Rattle.std.proofs.lemmas.List.{take-take}
-use Rattle.far_scopes.proofs.RecencyCycles.{turned}
+use Rattle.far_scopes.specs.Recency.{newest, is_unused}
+use Rattle.far_scopes.proofs.RecencyUses.{after_uses-newest, once-distinct}
+use Rattle.far_scopes.proofs.RecencyLog.{known-used}
 use Rattle.far_scopes.proofs.recency.least_recent.LeastRecent.new.Goals as goal
 
 pub returns : goal.returns
 returns c =
-    let cycle = c.args.cycle.now in
-    let front : c.split_at.result.0.now ≡ take cycle.deferred cycle.objects = c.split_at.ensures.front ∙ take-take cycle.deferred cycle.len cycle.objects cycle.deferred_in in
-    rw (front, c.split_at.ensures.back, c.iter-cache.ensures.rest)
-    (sym (turned cycle.objects cycle.len (keys_of c.args.cache.now.entries) (c.requires (omega (arith, c.if-cycle-eq0.false))) cycle.deferred cycle.deferred_in))
+    let log = c.args.log.now in
+    let keys = keys_of c.args.cache.now.entries in
+    let order = after_uses-newest log.uses.items keys (once-distinct keys c.len-len.ensures.valid.0) (known-used log.uses.items log.last.items keys log.noted c.requires) in
+    ap (λ l. reverse (newest log.uses.items) ++ filter (is_unused log.uses.items) (keys_of l)) c.iter.ensures.rest ∙ sym order
