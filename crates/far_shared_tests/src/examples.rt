@@ -131,7 +131,7 @@ static EXAMPLES: &[Scene] = &[
             Role::Plays(&[
                 (Step::Insert(0, 5), Ok(Reply::Applied(1, 0))),
                 (Step::Signal, Ok(Reply::Done)),
-                (Step::Evacuate(0), Err(Refusal::StaleJob)),
+                (Step::EvacuateHeld(0), Err(Refusal::StaleJob)),
                 (Step::Lend(0), Ok(Reply::Lent(6))),
             ]),
             Role::Plays(&[

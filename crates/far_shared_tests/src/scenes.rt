@@ -95,6 +95,8 @@ pub enum Step {
     AskByKey(u32),
     // Evicts the coldest object of a stripe.
     Evacuate(u32),
+    // The same, while its put is held until another session has gone on.
+    EvacuateHeld(u32),
     // Fetches the numbers of a row group of a stripe.
     Fetch(u32, u32),
     // Builds a row group that is pending on a stripe.
