@@ -66,6 +66,8 @@ pub enum Works {
     BuildLast,
     // The texts of stripe 0 are fetched.
     FetchTexts,
+    // The numbers of stripe 1 are evicted, and then fetched.
+    ThereAndBack,
 }
 
 // One call of a session. It holds no reference, so that the code that plays calls does not depend on the table.
@@ -165,6 +167,8 @@ pub enum Duty {
     Registers(u32),
     // Asks the gauge over all stripes until this many sessions have ended.
     Asks(u64),
+    // Builds a row group of a stripe as soon as one is pending, and then sends a signal.
+    BuildsFirst(u32),
 }
 
 // The role of a session in a scene.
