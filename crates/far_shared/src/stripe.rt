@@ -7,6 +7,11 @@ ghost use Rattle.far_sessions.specs.Rule.{entry};
 ghost use Rattle.far_shared.specs.Applying.{place_of, SeesAll, WhyNot};
 ghost use Rattle.far_shared.specs.UnderLock.{IsUnder};
 
+pub(crate) mod asking;
+pub(crate) mod parts;
+pub mod registering;
+mod working;
+
 use crate::editing::change;
 use far_frame::Frame;
 use far_sessions::{CellsTag, Keeper, PlanTag, SessionAt, StripeCell};
@@ -45,8 +50,8 @@ pub struct Applied {
 /// Its objects have the number I, and all its tickets are of the store.
 #[derive(Drop)]
 pub struct Stripe<N: PlanTag, B: TableTag, S: FarTickets, const I: usize> {
-    pub(crate) frame: Frame<S>,
-    pub(crate) keeper: Keeper<N, B, I>,
+    frame: Frame<S>,
+    keeper: Keeper<N, B, I>,
 }
 
 impl<N: PlanTag, B: TableTag, S: FarTickets, const I: usize> Model for Stripe<N, B, S, I> {
