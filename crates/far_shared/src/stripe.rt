@@ -48,6 +48,8 @@ pub struct Applied {
 ///
 /// Contracts see the history and the table's state. The table is the replay of the history, and the gauge is its aggregate 0.
 /// Its objects have the number I, and all its tickets are of the store.
+// No other module sees the fields, nor the calls that register one aggregate or remove it. So what is done under a lock is done by calls
+// whose contracts name the state before and after.
 #[derive(Drop)]
 pub struct Stripe<N: PlanTag, B: TableTag, S: FarTickets, const I: usize> {
     frame: Frame<S>,

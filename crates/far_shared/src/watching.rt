@@ -6,7 +6,7 @@ ghost use Rattle.far_shared.specs.Watching.{WatchRefusal};
 
 use crate::shared::Shared;
 use crate::stripe::TableTag;
-use crate::stripe::registering::watch_four;
+pub use crate::stripe::registering::watch_four;
 use far_sessions::PlanTag;
 use far_store::FarTickets;
 use far_types::{Refusal, Spec};

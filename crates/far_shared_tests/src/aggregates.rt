@@ -1,60 +1,12 @@
-// Scenes of aggregates: a registration is of all four stripes at once, and no other call forgets an aggregate.
+// Scenes of aggregates: no call forgets one, or builds one that it was not asked for.
 use crate::opening::first_wrong;
 use crate::scenes::{
-    AWAY, Duty, End, FIRST, Gate, ROW_OF_5, ROW_OF_6, ROW_OF_7, ROW_OF_8, Reply, Role, Scene, Step,
-    Table,
+    AWAY, End, FIRST, Gate, ROW_OF_5, ROW_OF_6, ROW_OF_7, ROW_OF_8, Reply, Role, Scene, Step, Table,
 };
 use far_shared::Work;
 use far_types::Refusal;
 
 static AGGREGATES: &[Scene] = &[
-    // One session reads a stripe until another stripe shows an aggregate that is being registered: it waits in vain, since a registration
-    // shows on no stripe before it has the locks of all four.
-    Scene {
-        name: "a_registration_shows_on_no_stripe_while_the_last_is_read",
-        table: Table::Numbers,
-        gate: Gate::Open,
-        roles: &[
-            Role::Plays(&[
-                (Step::Insert(0, 5), Ok(Reply::Applied(1, 0))),
-                (Step::Insert(1, 6), Ok(Reply::Applied(1, 0))),
-                (Step::Insert(2, 7), Ok(Reply::Applied(1, 0))),
-                (Step::Insert(3, 8), Ok(Reply::Applied(1, 0))),
-                (Step::Hold(3, 2), Ok(Reply::Nothing)),
-            ]),
-            Role::Plays(&[
-                (Step::Await(1), Ok(Reply::Done)),
-                (Step::Watch, Ok(Reply::Number(1))),
-            ]),
-            Role::Does(Duty::BuildsFirst(0)),
-            Role::Does(Duty::BuildsFirst(1)),
-            Role::Does(Duty::BuildsFirst(2)),
-        ],
-        end: End::LeavesWatched(&[ROW_OF_5, ROW_OF_6, ROW_OF_7, ROW_OF_8], 2),
-    },
-    // The same for the first stripe.
-    Scene {
-        name: "a_registration_shows_on_no_stripe_while_the_first_is_read",
-        table: Table::Numbers,
-        gate: Gate::Open,
-        roles: &[
-            Role::Plays(&[
-                (Step::Insert(0, 5), Ok(Reply::Applied(1, 0))),
-                (Step::Insert(1, 6), Ok(Reply::Applied(1, 0))),
-                (Step::Insert(2, 7), Ok(Reply::Applied(1, 0))),
-                (Step::Insert(3, 8), Ok(Reply::Applied(1, 0))),
-                (Step::Hold(0, 2), Ok(Reply::Nothing)),
-            ]),
-            Role::Plays(&[
-                (Step::Await(1), Ok(Reply::Done)),
-                (Step::Watch, Ok(Reply::Number(1))),
-            ]),
-            Role::Does(Duty::BuildsFirst(1)),
-            Role::Does(Duty::BuildsFirst(2)),
-            Role::Does(Duty::BuildsFirst(3)),
-        ],
-        end: End::LeavesWatched(&[ROW_OF_5, ROW_OF_6, ROW_OF_7, ROW_OF_8], 2),
-    },
     // The four tables have these two aggregates besides their gauges, whatever was called meanwhile.
     Scene {
         name: "each_call_keeps_the_aggregates",
@@ -183,6 +135,6 @@ static AGGREGATES: &[Scene] = &[
 ];
 
 #[test]
-fn aggregates_are_registered_at_once_and_kept(rt: HostRuntime) {
+fn aggregates_are_kept(rt: HostRuntime) {
     assert_eq!(rt; first_wrong(&rt, rt.alloc(), AGGREGATES), "");
 }

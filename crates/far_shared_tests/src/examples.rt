@@ -255,6 +255,7 @@ static EXAMPLES: &[Scene] = &[
                 (Step::Ask(0), Ok(Reply::Totals(1, 5))),
                 (Step::Lend(0), Ok(Reply::Lent(5))),
                 (Step::InPhases(Work::Build(0)), Ok(Reply::Nothing)),
+                (Step::Build(0), Ok(Reply::Nothing)),
                 (Step::Signal, Ok(Reply::Done)),
             ]),
         ],

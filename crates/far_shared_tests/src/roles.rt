@@ -3,7 +3,7 @@ use crate::editing::edit_by_turns;
 use crate::keyed::{ask_pairs, insert_pairs};
 use crate::scenes::{Duty, Left, NO_ROW, Replied, Step};
 use crate::signals::Signals;
-use crate::working::{ask_beside, build_first, read_beside, register_beside, work_beside};
+use crate::working::{ask_beside, read_beside, register_beside, work_beside};
 use far_types::Refusal;
 use std::alloc::Global;
 
@@ -35,6 +35,5 @@ pub fn do_duty<M, F: Fn(&mut M, Step) -> Replied>(
         Duty::AsksPairs(pairs) => left_if(ask_pairs(call, me, signals, pairs)),
         Duty::Registers(aggregates) => left_if(register_beside(call, me, signals, aggregates)),
         Duty::Asks(until) => left_if(ask_beside(call, me, signals, until)),
-        Duty::BuildsFirst(stripe) => left_if(build_first(call, me, signals, stripe)),
     }
 }

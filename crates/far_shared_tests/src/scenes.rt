@@ -167,8 +167,6 @@ pub enum Duty {
     Registers(u32),
     // Asks the gauge over all stripes until this many sessions have ended.
     Asks(u64),
-    // Builds a row group of a stripe as soon as one is pending, and then sends a signal.
-    BuildsFirst(u32),
 }
 
 // The role of a session in a scene.

@@ -62,11 +62,6 @@ impl Signals {
         count_of(&self.sent) >= times
     }
 
-    // Returns whether a session did not start.
-    pub fn are_called_off(&self) -> bool {
-        self.was_sent(FOR_ALL)
-    }
-
     // Waits until this many signals were sent. Returns whether they were.
     pub fn awaits(&self, times: u64) -> bool {
         reaches(&self.sent, times)

@@ -299,28 +299,3 @@ pub fn ask_beside<M, F: Fn(&mut M, Step) -> Replied>(
     }
     Ok(false)
 }
-
-// Builds a row group of a stripe as soon as one is pending, and then sends a signal. Returns whether one was.
-pub fn build_first<M, F: Fn(&mut M, Step) -> Replied>(
-    call: &F,
-    me: &mut M,
-    signals: &Signals,
-    stripe: u32,
-) -> Result<bool, Refusal>
-    requires { F.IsAlwaysCallable call.now }
-{
-    for _ in 0..TURNS {
-        match call(me, Step::Build(stripe)) {
-            Ok(Reply::Done) => {
-                signals.send();
-                return Ok(true);
-            }
-            Ok(_) => thread::yield_now(),
-            Err(refusal) => return Err(refusal),
-        }
-        if signals.are_called_off() {
-            return Ok(false);
-        }
-    }
-    Ok(false)
-}
