@@ -1,9 +1,8 @@
 // Runs sessions on threads beside a background worker.
-ghost use Rattle.std.specs.Prelude.{◌≡◌, ◌⊎◌, length, IfErr, IfOk, IsErrOf, IsOk, OnOk};
+ghost use Rattle.std.specs.Prelude.{◌≡◌, ◌⊎◌, IfErr, IfOk, IsErrOf, IsOk, OnOk};
 ghost use Rattle.far_sessions.specs.Known.{newcomers};
-ghost use Rattle.far_shared.specs.UnderLock.{IsUnder};
 ghost use Rattle.far_shell.specs.Runs.{IsRun};
-ghost use Rattle.far_shell.specs.Working.{AreLeft, AreTried, AreWorked, HasHomes, IsWorked};
+ghost use Rattle.far_shell.specs.Working.{AreLeft, AreWorked, HasHomes, IsWorked};
 
 use super::ending::end;
 use super::evacuating::evacuate_all;
@@ -74,7 +73,7 @@ fn unless_stopped<T: Drop>(first: Result<(), Stop>, second: Result<T, Stop>) -> 
     second
 }
 
-/// Makes the edits of all sessions while a background worker tries to evict `edits` objects.
+/// Makes the edits of all sessions while a background worker evicts objects.
 fn work_beside<
     N: PlanTag + Send + Sync,
     B: TableTag + Send + Sync,
@@ -90,18 +89,12 @@ fn work_beside<
 ) -> Result<Vec<Worked<B>>, Stop>
     requires store { S.store_id store.now ≡ B.store }
     ensures worked { IfOk result (λ worked. AreWorked edits sessions.items worked.items) }
-    ensures tried { OnOk result
-        (AreTried S.number_of S.content (IsUnder N.plan S.is_of B.store) (length N.plan.schema)
-        edits) }
 {
     // Only the first closure goes to another thread, and it holds only references.
     let (evacuated, worked) = thread::join(
         rt,
         || -> Result<(), Stop>
             requires { S.store_id store.now ≡ B.store }
-            ensures { OnOk result
-                (AreTried S.number_of S.content (IsUnder N.plan S.is_of B.store)
-                (length N.plan.schema) edits) }
         { evacuate_all(rt, shared, store, edits) },
         || -> Result<Vec<Worked<B>>, Stop>
             requires { S.store_id store.now ≡ B.store }
@@ -128,10 +121,7 @@ fn leave<
 ) -> Result<(Vec<Session<B>>, Outcome), Stop>
     requires store { S.store_id store.now ≡ B.store }
     requires sessions { sessions.items ≡ newcomers N.plan.sessions }
-    ensures left { IfOk result (λ left. AreLeft N.plan edits left.0.items left.1) }
-    ensures tried { OnOk result
-        (AreTried S.number_of S.content (IsUnder N.plan S.is_of B.store) (length N.plan.schema)
-        edits) }
+    ensures { IfOk result (λ left. AreLeft N.plan edits left.0.items left.1) }
 {
     let worked = work_beside(rt, alloc, shared, store, sessions, edits)?;
     read_all(rt, alloc, shared, worked, edits)
