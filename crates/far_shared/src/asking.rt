@@ -4,14 +4,13 @@ ghost use Rattle.far_frame.specs.State.{live};
 ghost use Rattle.far_shared.specs.Asking.{IsAnswer, IsAsked, IsLeft};
 ghost use Rattle.far_shared.specs.Guards.{number_of, stripe_under};
 
-use crate::four::answer_four;
 use crate::shared::Shared;
+use crate::stripe::asking::answer_stripes;
 use crate::stripe::{Stripe, TableTag};
 use far_frame::View;
 use far_sessions::PlanTag;
 use far_store::FarTickets;
 use far_types::{Answer, Refusal};
-use std::alloc::Global;
 use std::sync::{RwLockReadGuard, Wait};
 
 /// A stripe under its read lock. While the guard is held, no edit is made in the stripe, and no object moves.
@@ -27,17 +26,6 @@ pub enum StripeGuard<'a, N: PlanTag, B: TableTag, S: FarTickets> {
     Three(RwLockReadGuard<'a, Stripe<N, B, S, 3>>),
 }
 
-impl<N: PlanTag, B: TableTag, S: FarTickets, const I: usize> Stripe<N, B, S, I> {
-    /// Returns a view of the rows, which are the replay of a legal history.
-    fn view(&self) -> View<'_, S>
-        ensures same { result ≡ live self.now.state }
-        ensures left { IsLeft N.plan result.table }
-    {
-        self.keeper.known();
-        self.frame.scope()
-    }
-}
-
 impl<'a, N: PlanTag, B: TableTag, S: FarTickets> StripeGuard<'a, N, B, S> {
     /// Returns a view of the rows of the stripe, which are the replay of a legal history. Each view of a guard has the same rows.
     pub fn view(&self) -> View<'_, S>
@@ -51,26 +39,6 @@ impl<'a, N: PlanTag, B: TableTag, S: FarTickets> StripeGuard<'a, N, B, S> {
             StripeGuard::Three(stripe) => stripe.view(),
         }
     }
-}
-
-/// Returns the answer of an aggregate over the rows of four stripes.
-fn answer_stripes<N: PlanTag, B: TableTag, S: FarTickets>(
-    alloc: Global,
-    zero: &Stripe<N, B, S, 0>,
-    one: &Stripe<N, B, S, 1>,
-    two: &Stripe<N, B, S, 2>,
-    three: &Stripe<N, B, S, 3>,
-    a: u32,
-) -> Result<Answer, Refusal>
-    ensures answer { IfOk result (IsAnswer N.plan a) }
-    ensures asked { IsAsked N.plan a result }
-    ensures gauge { a ≡ 0 → IfErr result (λ e. e ≡ Refusal.NoMemory) }
-{
-    zero.keeper.known();
-    one.keeper.known();
-    two.keeper.known();
-    three.keeper.known();
-    answer_four(alloc, &zero.frame, &one.frame, &two.frame, &three.frame, a)
 }
 
 impl<N: PlanTag, B: TableTag, S: FarTickets> Shared<N, B, S> {

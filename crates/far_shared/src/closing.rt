@@ -4,14 +4,13 @@ ghost use Rattle.far_rows.specs.Jobs.{AreAt};
 ghost use Rattle.far_sessions.specs.Histories.{IsLegal};
 ghost use Rattle.far_sessions.specs.Closing.{IsSettled, IsWhole};
 ghost use Rattle.far_shared.specs.Closing.{IsClosed};
-ghost use Rattle.far_shared.specs.Stripes.{IsStripe};
 
 use crate::opening::Four;
 use crate::shared::Shared;
 use crate::stripe::{Stripe, TableTag};
 use crossbeam_utils::CachePadded;
 use far_frame::Frame;
-use far_sessions::{Cells, Keeper, Keepers, PlanTag, Session, are_whole, settle};
+use far_sessions::{Cells, Keepers, PlanTag, Session, are_whole, settle};
 use far_store::FarTickets;
 use far_types::Refusal;
 use std::sync::{RwLock, Wait};
@@ -41,19 +40,6 @@ fn end<N: PlanTag, B: TableTag, R: Wait>(
     // For the proof: calls drop them, since a function that drops them itself is long to prove.
     drop(keepers);
     drop(cells);
-}
-
-impl<N: PlanTag, B: TableTag, S: FarTickets, const I: usize> Stripe<N, B, S, I> {
-    /// Returns the table, unchanged, and the owner of its history.
-    fn into_parts(self) -> (Frame<S>, Keeper<N, B, I>)
-        ensures table { result.0 ≡ self.state }
-        ensures history { result.1 ≡ self.log }
-        ensures stripe { IsStripe N.plan result.1 result.0.table }
-        ensures here { AreAt S.is_of B.store result.0.rows }
-    {
-        let Stripe { frame, keeper } = self;
-        (frame, keeper)
-    }
 }
 
 /// Ends these sessions, and returns the tables of the four stripes. Each is unchanged, with its objects and its aggregates.

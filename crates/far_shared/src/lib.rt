@@ -14,7 +14,6 @@ pub mod plan;
 pub mod shared;
 mod shared_work;
 pub mod stripe;
-mod stripe_work;
 pub mod watching;
 pub mod work;
 mod working;

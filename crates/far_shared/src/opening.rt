@@ -7,15 +7,14 @@ ghost use Rattle.far_shared.specs.Opening.{HaveNames, IsEmpty};
 
 use crate::plan::Plan;
 use crate::shared::{Count, Shared};
-use crate::stripe::{Stripe, TableTag};
-use crossbeam_utils::CachePadded;
+use crate::stripe::TableTag;
+use crate::stripe::parts::under_lock;
 use far_frame::Frame;
-use far_sessions::{Keeper, Opened, PlanTag, Session};
+use far_sessions::{Opened, PlanTag, Session};
 use far_store::FarTickets;
 use far_types::Refusal;
 use std::alloc::{AllocError, Global};
 use std::marker::{Model, PhantomData};
-use std::sync::RwLock;
 
 /// One value for each of the four stripes.
 #[derive(Drop)]
@@ -207,17 +206,6 @@ impl Plan {
             Err(refusal) => Err(refusal),
         }
     }
-}
-
-/// Puts a table under its lock, with the owner of its history, which is empty.
-fn under_lock<N: PlanTag, B: TableTag, S: FarTickets, const I: usize>(
-    frame: Frame<S>,
-    keeper: Keeper<N, B, I>,
-) -> CachePadded<RwLock<Stripe<N, B, S, I>>>
-    requires empty { IsEmpty S.is_of N.plan I frame }
-    requires new { keeper ≡ [] }
-{
-    CachePadded::new(RwLock::new(Stripe { frame, keeper }))
 }
 
 /// Puts each table under a lock, with the owner of its history.

@@ -7,6 +7,11 @@ ghost use Rattle.far_sessions.specs.Rule.{entry};
 ghost use Rattle.far_shared.specs.Applying.{place_of, SeesAll, WhyNot};
 ghost use Rattle.far_shared.specs.UnderLock.{IsUnder};
 
+pub(crate) mod asking;
+pub(crate) mod parts;
+pub mod registering;
+mod working;
+
 use crate::editing::change;
 use far_frame::Frame;
 use far_sessions::{CellsTag, Keeper, PlanTag, SessionAt, StripeCell};
@@ -43,10 +48,12 @@ pub struct Applied {
 ///
 /// Contracts see the history and the table's state. The table is the replay of the history, and the gauge is its aggregate 0.
 /// Its objects have the number I, and all its tickets are of the store.
+// No other module sees the fields, nor the calls that register one aggregate or remove it. So what is done under a lock is done by calls
+// whose contracts name the state before and after.
 #[derive(Drop)]
 pub struct Stripe<N: PlanTag, B: TableTag, S: FarTickets, const I: usize> {
-    pub(crate) frame: Frame<S>,
-    pub(crate) keeper: Keeper<N, B, I>,
+    frame: Frame<S>,
+    keeper: Keeper<N, B, I>,
 }
 
 impl<N: PlanTag, B: TableTag, S: FarTickets, const I: usize> Model for Stripe<N, B, S, I> {

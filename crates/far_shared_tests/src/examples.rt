@@ -1,8 +1,8 @@
 // Worked examples of a shared table, as scenes.
 use crate::opening::first_wrong;
 use crate::scenes::{
-    AWAY, End, FIRST, Gate, Left, NO_ROW, ROW_OF_5, ROW_OF_6, ROW_OF_7, ROW_OF_8, Reply, Role,
-    Scene, Step, Table,
+    AWAY, End, FIRST, Gate, Left, NO_ROW, ROW_OF_5, ROW_OF_6, ROW_OF_7, Reply, Role, Scene, Step,
+    Table,
 };
 use far_shared::Work;
 use far_types::Refusal;
@@ -130,6 +130,7 @@ static EXAMPLES: &[Scene] = &[
         roles: &[
             Role::Plays(&[
                 (Step::Insert(0, 5), Ok(Reply::Applied(1, 0))),
+                (Step::Watch, Ok(Reply::Number(1))),
                 (Step::Signal, Ok(Reply::Done)),
                 (Step::EvacuateHeld(0), Err(Refusal::StaleJob)),
                 (Step::Lend(0), Ok(Reply::Lent(6))),
@@ -141,7 +142,7 @@ static EXAMPLES: &[Scene] = &[
                 (Step::OpenGate, Ok(Reply::Done)),
             ]),
         ],
-        end: End::Leaves(&[ROW_OF_6, NO_ROW, NO_ROW, NO_ROW]),
+        end: End::LeavesWatched(&[ROW_OF_6, NO_ROW, NO_ROW, NO_ROW], 2),
     },
     // One session fetches an object, and its get is held until the other session has tried to set its row.
     Scene {
@@ -254,6 +255,7 @@ static EXAMPLES: &[Scene] = &[
                 (Step::Ask(0), Ok(Reply::Totals(1, 5))),
                 (Step::Lend(0), Ok(Reply::Lent(5))),
                 (Step::InPhases(Work::Build(0)), Ok(Reply::Nothing)),
+                (Step::Build(0), Ok(Reply::Nothing)),
                 (Step::Signal, Ok(Reply::Done)),
             ]),
         ],
@@ -306,44 +308,6 @@ static EXAMPLES: &[Scene] = &[
             ]),
         ],
         end: End::Leaves(&[NO_ROW, ROW_OF_7, NO_ROW, NO_ROW]),
-    },
-    // The four tables have these two aggregates besides their gauges, with nothing built, whatever was called meanwhile.
-    Scene {
-        name: "each_call_keeps_the_aggregates",
-        table: Table::Numbers,
-        gate: Gate::Open,
-        roles: &[Role::Plays(&[
-            (Step::Insert(0, 5), Ok(Reply::Applied(1, 0))),
-            (Step::Insert(1, 6), Ok(Reply::Applied(1, 0))),
-            (Step::Insert(2, 7), Ok(Reply::Applied(1, 0))),
-            (Step::Insert(3, 8), Ok(Reply::Applied(1, 0))),
-            (Step::Watch, Ok(Reply::Number(1))),
-            (Step::WatchTotals, Ok(Reply::Number(2))),
-            (Step::Lend(0), Ok(Reply::Lent(5))),
-            (Step::Lend(1), Ok(Reply::Lent(6))),
-            (Step::Lend(2), Ok(Reply::Lent(7))),
-            (Step::Lend(3), Ok(Reply::Lent(8))),
-            (Step::Set(0, 0, 5), Ok(Reply::Applied(2, 0))),
-            (Step::Set(1, 0, 6), Ok(Reply::Applied(2, 0))),
-            (Step::Set(2, 0, 7), Ok(Reply::Applied(2, 0))),
-            (Step::Set(3, 0, 8), Ok(Reply::Applied(2, 0))),
-            (Step::Evacuate(0), Ok(Reply::Object(FIRST))),
-            (Step::Evacuate(1), Ok(Reply::Object(FIRST))),
-            (Step::Evacuate(2), Ok(Reply::Object(FIRST))),
-            (Step::Evacuate(3), Ok(Reply::Object(FIRST))),
-            (Step::Fetch(0, 0), Ok(Reply::Done)),
-            (Step::Fetch(1, 0), Ok(Reply::Done)),
-            (Step::Fetch(2, 0), Ok(Reply::Done)),
-            (Step::Fetch(3, 0), Ok(Reply::Done)),
-            (Step::InPhases(Work::Evacuate(0)), Ok(Reply::Done)),
-            (Step::InPhases(Work::Evacuate(1)), Ok(Reply::Done)),
-            (Step::InPhases(Work::Evacuate(2)), Ok(Reply::Done)),
-            (Step::InPhases(Work::Evacuate(3)), Ok(Reply::Done)),
-            (Step::Ask(0), Ok(Reply::Totals(4, 26))),
-            (Step::Ask(1), Err(Refusal::Building(4))),
-            (Step::Ask(2), Err(Refusal::Building(4))),
-        ])],
-        end: End::LeavesWatched(&[ROW_OF_5, ROW_OF_6, ROW_OF_7, ROW_OF_8], 3),
     },
 ];
 

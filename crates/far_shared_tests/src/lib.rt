@@ -4,6 +4,8 @@
 //! A job, a lock and a store are dropped by a call of `drop`: the proof of a function that drops one itself is long.
 
 #[cfg(test)]
+mod aggregates;
+#[cfg(test)]
 mod concurrent;
 #[cfg(test)]
 mod editing;

@@ -66,6 +66,8 @@ pub enum Works {
     BuildLast,
     // The texts of stripe 0 are fetched.
     FetchTexts,
+    // The numbers of stripe 1 are evicted, and then fetched.
+    ThereAndBack,
 }
 
 // One call of a session. It holds no reference, so that the code that plays calls does not depend on the table.

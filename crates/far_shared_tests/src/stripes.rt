@@ -165,7 +165,7 @@ static STRIPES: &[Scene] = &[
             (Step::Ask(32), Err(Refusal::NoAggregate)),
             (Step::Ask(4_294_967_295), Err(Refusal::NoAggregate)),
         ])],
-        end: End::Leaves(&[NO_ROW; 4]),
+        end: End::LeavesWatched(&[NO_ROW; 4], 32),
     },
 ];
 

@@ -41,6 +41,7 @@ fn works_in(list: Works) -> &'static [Work] {
         Works::FetchSecond => &[Work::Fetch(3, SECOND)],
         Works::BuildLast => &[Work::Build(2), Work::Build(3)],
         Works::FetchTexts => &[Work::Fetch(0, TEXTS)],
+        Works::ThereAndBack => &[Work::Evacuate(1), Work::Fetch(1, FIRST)],
     }
 }
 
@@ -107,6 +108,19 @@ static WORKS: &[Scene] = &[
             (Step::Set(1, 0, 1), Err(AWAY)),
         ])],
         end: End::Leaves(&[ROW_OF_5, ROW_OF_5, NO_ROW, NO_ROW]),
+    },
+    // The works of one thread are done in order.
+    Scene {
+        name: "a_work_follows_the_one_before_it",
+        table: Table::Numbers,
+        gate: Gate::Open,
+        roles: &[Role::Plays(&[
+            (Step::Insert(1, 5), Ok(Reply::Applied(1, 0))),
+            (Step::Run(1, Works::ThereAndBack), Ok(Reply::Worked(2, 0))),
+            (Step::Lend(1), Ok(Reply::Lent(5))),
+            (Step::Evacuate(1), Ok(Reply::Object(FIRST))),
+        ])],
+        end: End::Leaves(&[NO_ROW, ROW_OF_5, NO_ROW, NO_ROW]),
     },
     // A fifth stripe, a column that does not exist, and nothing to build.
     Scene {

@@ -2,7 +2,7 @@ use Rattle.std.proofs.Common.{ℕ, refl}
 use Rattle.far_shared.specs.UnderLock.{IsUnder, Registers}
 use Rattle.far_shared.proofs.UnderLockLaws.{below-four}
 use Rattle.far_shared.proofs.WatchingUndo.{at-err, register-undone, unchanged}
-use Rattle.far_shared.proofs.watching.watch_four.Goals as goal
+use Rattle.far_shared.proofs.stripe.registering.watch_four.Goals as goal
 
 pub returns-in_err-watch_two-clause-none : goal.returns-in_err-watch_two-clause-none
 returns-in_err-watch_two-clause-none g c = at-err c.from_residual-in_err-watch_two.result (c.in_err-watch_two.ensures.none.0, unchanged c.in_err-watch_two.ensures.none.1, unchanged refl, refl)

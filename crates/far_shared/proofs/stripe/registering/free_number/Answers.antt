@@ -1,6 +1,6 @@
 use Rattle.std.proofs.Common.{sym, ◌∙◌, arith}
 use Rattle.far_shared.proofs.WatchingUndo.{free-end, free-here, free-past}
-use Rattle.far_shared.proofs.watching.free_number.Goals as goal
+use Rattle.far_shared.proofs.stripe.registering.free_number.Goals as goal
 
 pub loop-a-preserved : goal.loop-a-preserved
 loop-a-preserved g c =

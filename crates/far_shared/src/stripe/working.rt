@@ -7,7 +7,7 @@ ghost use Rattle.far_frame.specs.declared.step.Step.TheVariants as step;
 ghost use Rattle.far_frame.specs.Jobs.{IsJobAt, job_kind};
 ghost use Rattle.far_shared.specs.Works.{BeginsWork, BeginRefusal, BeginsBuild, BuildRefusal, EndsWork, EndRefusal, IsJobOf, IsBuildOf, IsBuildingAt, begin_refusals, begun_kind, columns_for, end_refusals};
 
-use crate::stripe::{Stripe, TableTag};
+use super::{Stripe, TableTag};
 use crate::work::{Building, Work};
 use crate::working::{begin_on, building_on, finish_on, scan_on};
 use far_frame::Job;

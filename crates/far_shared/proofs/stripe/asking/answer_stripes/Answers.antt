@@ -1,5 +1,5 @@
 use Rattle.far_shared.proofs.AskingLaws.{answers-given, gauge-given, refusal-given}
-use Rattle.far_shared.proofs.asking.answer_stripes.Goals as goal
+use Rattle.far_shared.proofs.stripe.asking.answer_stripes.Goals as goal
 
 pub returns-clause-answer : goal.returns-clause-answer
 returns-clause-answer g c =

@@ -1,6 +1,6 @@
 use Rattle.far_shared.proofs.UnderLockLaws.{registers-at}
 use Rattle.far_shared.proofs.WatchingUndo.{at-number, register-undone}
-use Rattle.far_shared.proofs.watching.watch_two.Goals as goal
+use Rattle.far_shared.proofs.stripe.registering.watch_two.Goals as goal
 
 pub returns-in-Ok-clause-both : goal.returns-in-Ok-clause-both
 returns-in-Ok-clause-both g c = (
