@@ -28,7 +28,7 @@ TOLD = {
     "fuzz-random": ("tests/fuzz --random", "{runs:,} inputs"),
     "random-tables": ("tests/random-tables", "{runs:,} scripts of {calls:,} commands"),
     "program-tests": ("tests/program-tests", "{runs:,} scripts"),
-    "threads": ("tests/random-threads --runs", "{runs:,} scripts of {calls:,} edits"),
+    "threads": ("tests/random-threads --runs", "{runs:,} runs of {calls:,} edits"),
     "histories": ("tests/random-threads --history", "{runs:,} histories of {calls:,} calls"),
 }
 # By suffix: the words for how runs were hindered.

@@ -16,6 +16,7 @@ use std::marker::Model;
 ///     requires some { 1 ≤ sessions }
 ///     requires few { sessions ≤ 4 }
 ///     ensures ok { IfOk result (λ plan. plan ≡ plan_for sessions) }
+///     ensures memory { IfErr result (λ stop. stop ≡ Stop.Memory) }
 /// {
 ///     let mut kinds = Vec::new(alloc);
 ///     kinds.push(Kind::Int)?;

@@ -1,5 +1,5 @@
 // The plan of a run's table.
-ghost use Rattle.std.specs.Prelude.{◌≡◌, ◌<◌, ◌≤◌, IfOk};
+ghost use Rattle.std.specs.Prelude.{◌≡◌, ◌<◌, ◌≤◌, IfErr, IfOk};
 ghost use Rattle.far_shell.specs.Runs.{plan_for};
 
 use super::outcome::Stop;
@@ -13,6 +13,7 @@ pub(crate) fn plan_for(alloc: Global, sessions: u32) -> Result<Plan, Stop>
     requires some { 1 ≤ sessions }
     requires few { sessions ≤ 4 }
     ensures ok { IfOk result (λ plan. plan ≡ plan_for sessions) }
+    ensures memory { IfErr result (λ stop. stop ≡ Stop.Memory) }
 {
     let mut kinds = Vec::new(alloc);
     kinds.push(Kind::Int)?;
