@@ -4,7 +4,6 @@ use far_script::{Fallible, Input, Output, ShellFault, Sink, Source};
 use far_types::Refusal;
 use std::alloc::Global;
 use std::io;
-use std::io::Write;
 
 /// Two lines that one read brings.
 const SCRIPT: &[u8] = b"schema 4 int\ninsert 1\n";
@@ -57,33 +56,6 @@ fn a_writer_that_is_full_is_the_fault_output(rt: HostRuntime) {
     must_be(&rt, ended, Err(ShellFault::Output));
     let taken = &bytes[..];
     assert!(&rt; taken == TAKEN);
-}
-
-/// A writer that takes all bytes and knows whether it was flushed since the last write.
-#[derive(Drop)]
-struct Buffered {
-    is_flushed: bool,
-}
-
-impl Write for Buffered {
-    fn write(&mut self, bytes: &[u8]) -> io::Result<usize> {
-        self.is_flushed = false;
-        Ok(bytes.len())
-    }
-
-    fn flush(&mut self) -> io::Result<()> {
-        self.is_flushed = true;
-        Ok(())
-    }
-}
-
-#[test]
-fn a_writer_is_flushed_after_each_reply(rt: HostRuntime) {
-    let mut writer = Fallible(Buffered { is_flushed: true });
-    let ended = write_two(rt.alloc(), &mut writer);
-    must_be(&rt, ended, Ok(()));
-    let is_flushed = writer.0.is_flushed;
-    assert!(&rt; is_flushed);
 }
 
 /// A fault, and its sentence.
