@@ -44,9 +44,5 @@ pub fn play_lines<M, F: Fn(&mut M, Step) -> Replied>(
         all &= reply == line.1;
         out |= ran_out(reply, line.1);
     }
-    if out {
-        Err(Refusal::NoMemory)
-    } else {
-        Ok(all)
-    }
+    if out { Err(Refusal::NoMemory) } else { Ok(all) }
 }

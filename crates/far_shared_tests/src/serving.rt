@@ -97,7 +97,9 @@ fn move_or_build<N: PlanTag, B: TableTag, S: FarStore, R: Wait>(
 {
     let mut meter = Meter::new();
     match step {
-        Step::Evacuate(stripe) | Step::EvacuateHeld(stripe) => moved(shared.evacuate_once(rt, stripe, store, &mut meter)),
+        Step::Evacuate(stripe) | Step::EvacuateHeld(stripe) => moved(shared.evacuate_once(
+            rt, stripe, store, &mut meter,
+        )),
         Step::Fetch(stripe, group) => done(shared.fetch(rt, stripe, 0, group, store, &mut meter)),
         Step::Build(stripe) => built(shared.build_once(rt, stripe, store, &mut meter)),
         Step::InPhases(work) => complete_work(rt, alloc, shared, store, work),
@@ -142,9 +144,11 @@ pub fn serve<
         Step::AwaitHeld | Step::OpenGate | Step::Signal | Step::Await(_) => wait_or_signal(
             store, signals, step,
         ),
-        Step::Evacuate(_) | Step::EvacuateHeld(_) | Step::Fetch(_, _) | Step::Build(_) | Step::InPhases(_) => move_or_build(
-            rt, alloc, shared, store, step,
-        ),
+        Step::Evacuate(_)
+        | Step::EvacuateHeld(_)
+        | Step::Fetch(_, _)
+        | Step::Build(_)
+        | Step::InPhases(_) => move_or_build(rt, alloc, shared, store, step),
         Step::Run(workers, works) => run(rt, alloc, shared, store, workers, works),
         _ => serve_here(rt, alloc, shared, signals, me, step),
     }
