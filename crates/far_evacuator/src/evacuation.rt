@@ -1,6 +1,6 @@
 // Evacuations: the jobs that evict objects.
 ghost use Rattle.std.specs.Prelude.{◌≡◌, ◌+◌, ◌<◌, ◌^◌, [], ◌∷◌, IfOk, IfErr, IsErr, option_map};
-ghost use Rattle.far_store.specs.Faults.{faults_in, outcome, RefusedBy};
+ghost use Rattle.far_store.specs.Faults.{faults_in, outcome, FailsOnlyIf, RefusedBy};
 ghost use Rattle.far_codec.specs.Spelling.{IsSpelled};
 ghost use Rattle.far_evacuator.specs.Jobs.{IsFormTicket, IsFormOf, IsSpelledForm, IsDirtyForm, put_ticket};
 
@@ -92,6 +92,7 @@ impl<T: Elem, S: FarStore> EvacJob<T, S> {
         ensures back { IfErr result (λ refused. refused.1 ≡ self) }
         ensures dirty { IsErr result → IsDirtyForm self.form }
         ensures faults { meter.new ≡ meter.old + faults_in (outcome result) }
+        ensures cause { FailsOnlyIf S.may_fail (outcome result) }
         ensures refused { RefusedBy (21 ∷ 22 ∷ 1 ∷ []) (outcome result) }
     {
         match self.put(alloc, store, meter) {
@@ -108,6 +109,7 @@ impl<T: Elem, S: FarStore> EvacJob<T, S> {
         ensures here { IfOk result (λ ticket. S.is_of ticket (S.store_id store.now)) }
         ensures dirty { IsErr result → IsDirtyForm self.now.form }
         ensures faults { meter.new ≡ meter.old + faults_in result }
+        ensures cause { FailsOnlyIf S.may_fail result }
         ensures refused { RefusedBy (21 ∷ 22 ∷ 1 ∷ []) result }
     {
         match &self.form {

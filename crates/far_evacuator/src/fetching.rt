@@ -1,6 +1,6 @@
 // Fetches: the jobs that bring objects back.
 ghost use Rattle.std.specs.Prelude.{◌≡◌, ◌+◌, ◌<◌, ◌^◌, [], ◌∷◌, IfOk, IfErr};
-ghost use Rattle.far_store.specs.Faults.{faults_in, outcome, RefusedBy};
+ghost use Rattle.far_store.specs.Faults.{faults_in, outcome, FailsOnlyIf, RefusedBy};
 
 use far_store::{FarRead, FarTickets, Meter};
 use far_types::Refusal;
@@ -84,6 +84,7 @@ impl<S: FarRead> FetchJob<S> {
         ensures bytes { IfOk result (λ fetched. fetched.bytes ≡ S.content self.ticket) }
         ensures back { IfErr result (λ refused. refused.1 ≡ self) }
         ensures faults { meter.new ≡ meter.old + faults_in (outcome result) }
+        ensures cause { FailsOnlyIf S.may_fail (outcome result) }
         ensures refused { RefusedBy (21 ∷ 1 ∷ []) (outcome result) }
     {
         let mut bytes = Vec::new(alloc);

@@ -1,5 +1,5 @@
 // The far store of a host.
-ghost use Rattle.std.specs.Prelude.{◌≡◌, ◌<◌, ◌≤◌, [], ◌∷◌, IfOk, IfErr, IfSome};
+ghost use Rattle.std.specs.Prelude.{◌≡◌, ◌<◌, ◌≤◌, [], ◌∷◌, ⊤, IfOk, IfErr, IfSome};
 ghost use Rattle.far_store.specs.Faults.{RefusedBy};
 ghost use Rattle.far_host.specs.HostTickets.{HasDigestOf, IsNoted, IsOf, id_of};
 
@@ -114,6 +114,8 @@ impl FarTickets for HostStore {
     ghost is_of = { IsOf };
 
     ghost capacity_of = { λ s. s.capacity };
+
+    ghost may_fail = { ⊤ };
 
     fn again(&self, ticket: &HostTicket) -> HostTicket {
         ticket.copy()

@@ -1,7 +1,7 @@
 // Contents that were read from the store.
 ghost use Rattle.std.specs.Prelude.{◌≡◌, ◌+◌, ◌<◌, ◌^◌, [], ◌∷◌, IfOk, IfErr, All};
 ghost use Rattle.far_codec.specs.Lent.{IsForm};
-ghost use Rattle.far_store.specs.Faults.{faults_in, RefusedBy};
+ghost use Rattle.far_store.specs.Faults.{faults_in, FailsOnlyIf, RefusedBy};
 ghost use Rattle.far_offload.specs.Columns.{cells_meant};
 ghost use Rattle.far_offload.specs.Jobs.{columns_under, AreForms};
 
@@ -54,6 +54,7 @@ fn content_under<S: FarRead>(
     ensures content { IfOk result
         (λ content. content ≡ (number, cells_meant (S.content ticket.now))) }
     ensures faults { meter.new ≡ meter.old + faults_in result }
+    ensures cause { FailsOnlyIf S.may_fail result }
     ensures refused { RefusedBy (21 ∷ 1 ∷ []) result }
 {
     let mut form = Vec::new(alloc);
@@ -74,6 +75,7 @@ pub(crate) fn contents_under<S: FarRead>(
     ensures contents { IfOk result
         (λ contents. contents.items ≡ columns_under S.content tickets.now) }
     ensures faults { meter.new ≡ meter.old + faults_in result }
+    ensures cause { FailsOnlyIf S.may_fail result }
     ensures refused { RefusedBy (21 ∷ 1 ∷ []) result }
 {
     let mut contents = Vec::new(alloc);

@@ -1,6 +1,6 @@
 // The job that a remote agent runs.
 ghost use Rattle.std.specs.Prelude.{◌≡◌, ◌≤◌, ◌<◌, ◌+◌, ◌^◌, [], ◌∷◌, length, All, IfOk, IfErr};
-ghost use Rattle.far_store.specs.Faults.{faults_in, outcome, RefusedBy};
+ghost use Rattle.far_store.specs.Faults.{faults_in, outcome, FailsOnlyIf, RefusedBy};
 ghost use Rattle.far_offload.specs.Jobs.{columns_under, AreForms};
 ghost use Rattle.far_offload.specs.Partials.{partial_of, pairs_over};
 
@@ -98,6 +98,7 @@ impl<S: FarRead> OffloadJob<S> {
             (pairs_over self.spec (columns_under S.content self.tickets) self.alive)) }
         ensures back { IfErr result (λ refused. refused.1 ≡ self) }
         ensures faults { meter.new ≡ meter.old + faults_in (outcome result) }
+        ensures cause { FailsOnlyIf S.may_fail (outcome result) }
         ensures refused { RefusedBy (21 ∷ 1 ∷ []) (outcome result) }
     {
         match self.partial(alloc, store, meter) {
@@ -121,6 +122,7 @@ impl<S: FarRead> OffloadJob<S> {
             (pairs_over self.now.spec (columns_under S.content self.now.tickets)
             self.now.alive)) }
         ensures faults { meter.new ≡ meter.old + faults_in result }
+        ensures cause { FailsOnlyIf S.may_fail result }
         ensures refused { RefusedBy (21 ∷ 1 ∷ []) result }
     {
         let contents = contents_under(alloc, store, meter, &self.tickets)?;

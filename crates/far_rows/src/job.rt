@@ -1,6 +1,6 @@
 // Evacuation and fetch jobs on the objects of a table, for both kinds of columns.
 ghost use Rattle.std.specs.Prelude.{◌≡◌, ◌+◌, ◌<◌, ◌^◌, [], ◌∷◌, IfOk, IfErr, IsErr, option_map};
-ghost use Rattle.far_store.specs.Faults.{faults_in, outcome, RefusedBy};
+ghost use Rattle.far_store.specs.Faults.{faults_in, outcome, FailsOnlyIf, RefusedBy};
 ghost use Rattle.far_evacuator.specs.Jobs.{IsFormOf, IsDirtyForm, put_ticket};
 ghost use Rattle.far_rows.specs.Jobs.{of_either, IsCarriedEvac, IsCarriedFetch};
 
@@ -101,6 +101,7 @@ impl<S: FarStore> RowsEvac<S> {
         ensures back { IfErr result (λ refused. refused.1 ≡ self) }
         ensures dirty { IsErr result → IsDirtyForm (of_either self).form }
         ensures faults { meter.new ≡ meter.old + faults_in (outcome result) }
+        ensures cause { FailsOnlyIf S.may_fail (outcome result) }
         ensures refused { RefusedBy (21 ∷ 22 ∷ 1 ∷ []) (outcome result) }
     {
         match self.job {
@@ -189,6 +190,7 @@ impl<S: FarRead> RowsFetch<S> {
         ensures fetched { IfOk result (IsCarriedFetch S.content self) }
         ensures back { IfErr result (λ refused. refused.1 ≡ self) }
         ensures faults { meter.new ≡ meter.old + faults_in (outcome result) }
+        ensures cause { FailsOnlyIf S.may_fail (outcome result) }
         ensures refused { RefusedBy (21 ∷ 1 ∷ []) (outcome result) }
     {
         match self.job {

@@ -75,6 +75,8 @@ impl<S: FarTickets> FarTickets for Gates<S> {
 
     ghost capacity_of = { S.capacity_of };
 
+    ghost may_fail = { ⊤ };
+
     fn again(&self, ticket: &S::Ticket) -> S::Ticket {
         self.store.again(ticket)
     }

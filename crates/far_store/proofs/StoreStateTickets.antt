@@ -1,5 +1,5 @@
 -- Drawn tickets.
-use Rattle.std.proofs.Common.{◌≡◌, ◌<◌, Ok, Err, Result, IfOk, subst, sym, ◌∙◌, ℕ, slice_index_or, []}
+use Rattle.std.proofs.Common.{◌≡◌, ◌<◌, Ok, Err, Result, IfOk, subst, sym, ◌∙◌, []}
 use Rattle.std.proofs.Math.ListN.{get_or-map}
 use Rattle.boxcar.specs.Table.{Shelves, Where, Shows}
 use Rattle.far_store.specs.StoreState.{StoreState, IsOf, IsTicketOf, bucket_ids, full_id}

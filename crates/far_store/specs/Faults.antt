@@ -1,8 +1,9 @@
 -- The refusals of a far store's calls, and what each adds to the caller's meter.
-use Rattle.std.specs.Prelude.{ℕ, ◌==◌, if◌then◌else◌, List, IsTrue, Result, IfErr}
+use Rattle.std.specs.Prelude.{◌≡◌, ℕ, ◌==◌, if◌then◌else◌, List, IsTrue, Result, IfErr}
 use Rattle.std.specs.List.{list_any}
 use Rattle.std.specs.declared.result.Result.TheVariants.{Ok, Err}
 use Rattle.far_types.specs.declared.refusal.Refusal.{Refusal}
+use Rattle.far_types.specs.declared.refusal.Refusal.TheVariants.{FarFault}
 use Rattle.far_types.specs.Refusals.{number_of}
 
 -- 1 for FarFault, 0 for every other refusal
@@ -18,6 +19,10 @@ faults_in (Err refusal) = faults_of refusal
 abbrev pub outcome : {A J : Type 0} → Result A (Refusal × J) → Result A Refusal
 outcome (Ok done) = Ok done
 outcome (Err refused) = Err refused.0
+
+-- the call is refused with FarFault only if its store may fail
+abbrev pub FailsOnlyIf : {A : Type 0} → Type 0 → Result A Refusal → Type 0
+FailsOnlyIf may_fail result = IfErr result (λ refusal. refusal ≡ FarFault → may_fail)
 
 -- the call is refused only with one of these numbers
 abbrev pub RefusedBy : {A : Type 0} → List ℕ → Result A Refusal → Type 0

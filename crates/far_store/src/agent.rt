@@ -76,6 +76,8 @@ impl<R: Sync + Drop> FarTickets for AgentStore<R> {
 
     ghost capacity_of = { λ s. s.capacity };
 
+    ghost may_fail = { ⊥ };
+
     fn again(&self, ticket: &Pushed<Vec<u8>>) -> Pushed<Vec<u8>> {
         ticket.again()
     }

@@ -1,5 +1,5 @@
 // A far store over an engine.
-ghost use Rattle.std.specs.Prelude.{◌≡◌, ◌==◌, ◌+◌, ◌<◌, ◌^◌, ◌∷◌, [], IfOk, IfErr, IsTrue};
+ghost use Rattle.std.specs.Prelude.{◌≡◌, ◌==◌, ◌+◌, ◌<◌, ◌^◌, ◌∷◌, [], ⊤, IfOk, IfErr, IsTrue};
 ghost use Rattle.std.specs.List.{list_any};
 ghost use Rattle.far_types.specs.Refusals.{number_of};
 ghost use Rattle.far_store.specs.Faults.{faults_of, faults_in, RefusedBy};
@@ -92,6 +92,8 @@ impl<E: Engine, R: Sync + Drop> FarTickets for EngineStore<E, R> {
     ghost is_of = { IsTicketOf };
 
     ghost capacity_of = { λ s. s.capacity };
+
+    ghost may_fail = { ⊤ };
 
     fn again(&self, ticket: &EngineTicket<E>) -> EngineTicket<E> {
         ticket.again()

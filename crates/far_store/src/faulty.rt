@@ -1,5 +1,5 @@
 // A far store that fails as planned, for tests.
-ghost use Rattle.std.specs.Prelude.{◌≡◌, ◌<◌, IsTrue};
+ghost use Rattle.std.specs.Prelude.{◌≡◌, ◌<◌, ⊤, IsTrue};
 
 use crate::Meter;
 use crate::store::{FarRead, FarStore, FarTickets};
@@ -54,6 +54,8 @@ impl<S: FarTickets> FarTickets for FaultyStore<S> {
     ghost is_of = { S.is_of };
 
     ghost capacity_of = { S.capacity_of };
+
+    ghost may_fail = { ⊤ };
 
     fn again(&self, ticket: &S::Ticket) -> S::Ticket {
         self.store.again(ticket)

@@ -1,5 +1,5 @@
 // A far store that holds its first put, for tests.
-ghost use Rattle.std.specs.Prelude.{◌≡◌};
+ghost use Rattle.std.specs.Prelude.{◌≡◌, ⊤};
 
 use crate::Meter;
 use crate::store::{FarRead, FarStore, FarTickets};
@@ -120,6 +120,8 @@ impl<S: FarTickets> FarTickets for GateStore<S> {
     ghost is_of = { S.is_of };
 
     ghost capacity_of = { S.capacity_of };
+
+    ghost may_fail = { ⊤ };
 
     fn again(&self, ticket: &S::Ticket) -> S::Ticket {
         self.store.again(ticket)

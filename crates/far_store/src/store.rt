@@ -1,6 +1,6 @@
 // The three traits of a far store.
 ghost use Rattle.std.specs.Prelude.{◌≡◌, ℕ, ◌+◌, ◌<◌, ◌^◌, ◌↔◌, List, [], ◌∷◌, IfOk, OnOk, OnErr, IsTrue};
-ghost use Rattle.far_store.specs.Faults.{faults_in, RefusedBy};
+ghost use Rattle.far_store.specs.Faults.{faults_in, FailsOnlyIf, RefusedBy};
 
 use crate::Meter;
 use far_types::Refusal;
@@ -32,6 +32,9 @@ pub trait FarTickets: Sync + Drop {
     /// How many numbers a store may give out.
     ghost capacity_of: { Self → ℕ };
 
+    /// Whether calls of a store of this type may fail with `FarFault` (21).
+    ghost may_fail: { Type 0 };
+
     /// Copies a ticket: the copy has the same number, content and store. Allocates nothing.
     fn again(&self, ticket: &Self::Ticket) -> Self::Ticket
         requires { is_of ticket.now (store_id self.now) }
@@ -53,7 +56,7 @@ pub trait FarTickets: Sync + Drop {
 /// A far store whose contents can be read.
 pub trait FarRead: FarTickets {
     /// Replaces the bytes of the buffer with the ticket's content. After a refused call the buffer is empty. Refused with:
-    /// - `FarFault` (21) if the store fails in this call;
+    /// - `FarFault` (21) if the store fails in this call, which only a store that `may_fail` does;
     /// - `NoMemory` (1).
     fn get(
         &self,
@@ -67,6 +70,7 @@ pub trait FarRead: FarTickets {
         ensures content { OnOk result (buffer.new.items ≡ Self.content ticket.now) }
         ensures empty { OnErr result (buffer.new.items ≡ []) }
         ensures faults { meter.new ≡ meter.old + faults_in result }
+        ensures cause { FailsOnlyIf Self.may_fail result }
         ensures refused { RefusedBy (21 ∷ 1 ∷ []) result };
 }
 
@@ -92,7 +96,7 @@ pub trait FarRead: FarTickets {
 /// ```
 pub trait FarStore: FarRead {
     /// Puts these bytes, and returns a ticket for them. A refused put may have used up a number. Refused with:
-    /// - `FarFault` (21) if the store fails in this call;
+    /// - `FarFault` (21) if the store fails in this call, which only a store that `may_fail` does;
     /// - `FarFull` (22) if the number drawn is not below the capacity;
     /// - `NoMemory` (1).
     fn put(&self, alloc: Global, meter: &mut Meter, bytes: &[u8]) -> Result<Self::Ticket, Refusal>
@@ -102,5 +106,6 @@ pub trait FarStore: FarRead {
         ensures number { IfOk result
             (λ ticket. Self.number_of ticket < Self.capacity_of self.now) }
         ensures faults { meter.new ≡ meter.old + faults_in result }
+        ensures cause { FailsOnlyIf Self.may_fail result }
         ensures refused { RefusedBy (21 ∷ 22 ∷ 1 ∷ []) result };
 }

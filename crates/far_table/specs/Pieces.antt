@@ -1,11 +1,11 @@
 -- Pieces of a table that are folded separately and then merged.
 -- Internal: no public contract cites it.
-use Rattle.std.specs.Prelude.{◌≡◌, ℕ, ◌-◌, ◌*◌, ◌≤◌, min, List, take, drop, IfOk, IsOk}
+use Rattle.std.specs.Prelude.{◌≡◌, ℕ, ◌-◌, ◌*◌, ◌<◌, ◌≤◌, min, List, take, drop, IfOk, IsOk}
 use Rattle.std.specs.List.{AllByRecursion, filter_map}
 use Rattle.std.specs.Result.{result_ok}
 use Rattle.far_types.specs.declared.spec.Spec.{Spec}
 use Rattle.far_types.specs.Table.{Place}
-use Rattle.far_store.specs.Faults.{faults_in}
+use Rattle.far_store.specs.Faults.{faults_in, FailsOnlyIf}
 use Rattle.far_offload.specs.declared.partial.PartialDone.{PartialDone}
 use Rattle.far_aggregates.specs.Recounting.{partial_at}
 use Rattle.far_table.specs.declared.piece.Piece.{Piece}
@@ -20,10 +20,11 @@ run_of size from to places = take ((to - from) * size) (drop (from * size) place
 
 -- piece i was folded: its partial is that of a row group as wide as a piece, or folding it was refused. Its meter is 1 if the store
 -- failed, otherwise 0
-pub record IsPiece (spec : Spec) (wide : ℕ) (places : List Place) (i : ℕ)
+pub record IsPiece (may_fail : Type 0) (spec : Spec) (wide : ℕ) (places : List Place) (i : ℕ)
     (piece : Piece) : Type 0 where
   pub partial : IfOk piece.partial (λ done. done ≡ partial_at spec wide places i)
   pub faults : piece.meter ≡ faults_in piece.partial
+  pub cause : FailsOnlyIf may_fail piece.partial
 
 -- the partial aggregates of the pieces, in order, without those that were refused
 abbrev pub all_partials : List Piece → List PartialDone
@@ -33,6 +34,7 @@ all_partials pieces = filter_map (λ (piece : Piece). result_ok piece.partial) p
 abbrev pub AreWhole : List Piece → Type 0
 AreWhole pieces = AllByRecursion (λ (piece : Piece). IsOk piece.partial) pieces
 
--- each piece met at most one fault, because it ended there
-abbrev pub HaveFewFaults : List Piece → Type 0
-HaveFewFaults pieces = AllByRecursion (λ (piece : Piece). piece.meter ≤ 1) pieces
+-- each piece met at most one fault, because it ended there, and none if the store never fails
+abbrev pub HaveFewFaults : Type 0 → List Piece → Type 0
+HaveFewFaults may_fail pieces = AllByRecursion
+    (λ (piece : Piece). (piece.meter ≤ 1) × (0 < piece.meter → may_fail)) pieces

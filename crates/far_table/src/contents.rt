@@ -1,7 +1,7 @@
 // Contents that were read from the far store, for an offloaded build or a recount.
 ghost use Rattle.std.specs.Prelude.{◌≡◌, ◌==◌, ◌+◌, ◌*◌, ◌<◌, ◌^◌, [], ◌∷◌, length, IfOk, option_map};
 ghost use Rattle.std.specs.List.{find};
-ghost use Rattle.far_store.specs.Faults.{faults_in, RefusedBy};
+ghost use Rattle.far_store.specs.Faults.{faults_in, FailsOnlyIf, RefusedBy};
 ghost use Rattle.far_rows.specs.Jobs.{AreAt};
 ghost use Rattle.far_table.specs.Offloading.{AreTicketsOf};
 ghost use Rattle.far_table.specs.FarGroups.{contents_under};
@@ -52,6 +52,7 @@ fn content_of<S: FarRead>(
     requires here { S.is_of ticket.now (S.store_id store.now) }
     ensures content { IfOk result (λ content. content ≡ (column, S.content ticket.now)) }
     ensures faults { meter.new ≡ meter.old + faults_in result }
+    ensures cause { FailsOnlyIf S.may_fail result }
     ensures refused { RefusedBy (21 ∷ 1 ∷ []) result }
 {
     let mut form = Vec::new(alloc);
@@ -76,6 +77,7 @@ pub(crate) fn contents_of<S: FarRead>(
     ensures contents { IfOk result
         (λ contents. contents.items ≡ contents_under S.content tickets.now) }
     ensures faults { meter.new ≡ meter.old + faults_in result }
+    ensures cause { FailsOnlyIf S.may_fail result }
     ensures refused { RefusedBy (21 ∷ 1 ∷ []) result }
 {
     let mut contents = Vec::new(alloc);
@@ -107,6 +109,7 @@ pub(crate) fn contents_away<S: FarRead>(
         (λ contents. AreRead S.content record { rows = rows.now; group = group } spec.now
         contents.items) }
     ensures faults { meter.new ≡ meter.old + faults_in result }
+    ensures cause { FailsOnlyIf S.may_fail result }
     ensures refused { RefusedBy (21 ∷ 1 ∷ []) result }
 {
     // For the proof: shows `AreRows`.

@@ -2,7 +2,7 @@
 ghost use Rattle.std.specs.Prelude.{◌≡◌, ◌+◌, ◌*◌, ◌<◌, ◌≤◌, ◌^◌, ℕ, [], ◌∷◌, length, IfOk, OnOk};
 ghost use Rattle.far_types.specs.Answers.{extrema};
 ghost use Rattle.far_types.specs.Effects.{joined_extrema};
-ghost use Rattle.far_store.specs.Faults.{faults_in, RefusedBy};
+ghost use Rattle.far_store.specs.Faults.{faults_in, FailsOnlyIf, RefusedBy};
 ghost use Rattle.far_rows.specs.Jobs.{AreAt};
 ghost use Rattle.far_rows.specs.Places.{places_in};
 ghost use Rattle.far_aggregates.specs.Accumulators.{pairs_here, group_pairs};
@@ -37,6 +37,7 @@ fn observe_at<S: FarRead>(
         ≡ joined_extrema observed.old
         (extrema (group_pairs spec.now rows.now.size group (places_in S.content rows.now)))) }
     ensures faults { meter.new ≡ meter.old + faults_in result }
+    ensures cause { FailsOnlyIf S.may_fail result }
     ensures refused { RefusedBy (21 ∷ 1 ∷ []) result }
 {
     // For the proof: shows `AreRows`, which bounds the number of places.
@@ -73,6 +74,7 @@ pub(crate) fn observe_run<S: FarRead>(
         ≡ extrema
         (pairs_here spec.now (run_of rows.now.size from to (places_in S.content rows.now)))) }
     ensures faults { meter.new ≡ meter.old + faults_in result }
+    ensures cause { FailsOnlyIf S.may_fail result }
     ensures refused { RefusedBy (21 ∷ 1 ∷ []) result }
 {
     let mut observed = GroupExtrema::new(alloc);

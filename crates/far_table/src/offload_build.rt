@@ -1,6 +1,6 @@
 // Offloaded builds: a row group is scanned into an aggregate from the far store's copies of its columns.
 ghost use Rattle.std.specs.Prelude.{◌≡◌, ◌+◌, ◌<◌, ◌^◌, [], ◌∷◌, IfOk, IfErr, option_copied, slice_get};
-ghost use Rattle.far_store.specs.Faults.{faults_in, outcome, RefusedBy};
+ghost use Rattle.far_store.specs.Faults.{faults_in, outcome, FailsOnlyIf, RefusedBy};
 ghost use Rattle.far_table.specs.Offloading.{AreTicketsOf};
 ghost use Rattle.far_table.specs.Tickets.{ticket_with, tickets_of};
 ghost use Rattle.far_table.specs.FarGroups.{contents_under};
@@ -118,6 +118,7 @@ impl<S: FarRead> OffloadBuild<S> {
         ensures build { IfOk result (λ carried. carried ≡ self) }
         ensures back { IfErr result (λ refused. refused.1 ≡ self) }
         ensures faults { meter.new ≡ meter.old + faults_in (outcome result) }
+        ensures cause { FailsOnlyIf S.may_fail (outcome result) }
         ensures refused { RefusedBy (21 ∷ 1 ∷ []) (outcome result) }
     {
         match contents_of(alloc, store, meter, self.job.tickets()) {

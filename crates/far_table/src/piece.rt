@@ -1,6 +1,6 @@
 // A piece of a table: a run of row groups that one worker folds as if it were one row group.
 ghost use Rattle.std.specs.Prelude.{◌≡◌, ◌+◌, ◌*◌, ◌<◌, ◌≤◌, ◌^◌, ℕ, [], ◌∷◌, length, IfOk};
-ghost use Rattle.far_store.specs.Faults.{faults_in, RefusedBy};
+ghost use Rattle.far_store.specs.Faults.{faults_in, FailsOnlyIf, RefusedBy};
 ghost use Rattle.far_offload.specs.Partials.{partial_of};
 ghost use Rattle.far_rows.specs.Jobs.{AreAt};
 ghost use Rattle.far_rows.specs.Places.{places_in};
@@ -59,6 +59,7 @@ fn fold_run<S: FarRead>(
         ≡ partial_of spec.now.fold
         (pairs_here spec.now (run_of rows.now.size from to (places_in S.content rows.now)))) }
     ensures faults { meter.new ≡ meter.old + faults_in result }
+    ensures cause { FailsOnlyIf S.may_fail result }
     ensures refused { RefusedBy (21 ∷ 1 ∷ []) result }
 {
     match spec.fold {
@@ -86,8 +87,8 @@ pub(crate) fn fold_piece<S: FarRead>(
     requires all { length rows.now.alive ≤ cut.count * rows.now.size }
     requires may_fold { MayFold rows.now spec.now }
     requires few { piece < 64 }
-    ensures { IsPiece spec.now (cut.long * rows.now.size) (places_in S.content rows.now) piece
-        result }
+    ensures { IsPiece S.may_fail spec.now (cut.long * rows.now.size)
+        (places_in S.content rows.now) piece result }
 {
     let from = begin_of(cut, piece);
     let to = begin_of(cut, piece + 1);

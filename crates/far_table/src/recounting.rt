@@ -15,7 +15,7 @@ use crate::piece::{Cut, Piece, fold_piece};
 use far_aggregates::{answer_of, group_count};
 use far_offload::PartialDone;
 use far_rows::Rows;
-use far_store::{FarRead, Meter};
+use far_store::{FarRead, FarTickets, Meter};
 use far_types::{Answer, Refusal, Spec};
 use std::alloc::{AllocError, Global};
 use std::thread::{self, Threads};
@@ -130,7 +130,7 @@ fn fold_pieces<R: Threads + Sync, S: FarRead>(
     ensures each { IfOk result
         (λ found. (i : ℕ) (d : Piece)
         → i < pieces
-        → IsPiece spec.now (cut.long * rows.now.size) (places_in S.content rows.now) i
+        → IsPiece S.may_fail spec.now (cut.long * rows.now.size) (places_in S.content rows.now) i
         (slice_index_or found.items i d)) }
 {
     let found = Vec::with_capacity(alloc, pieces)?;
@@ -140,7 +140,7 @@ fn fold_pieces<R: Threads + Sync, S: FarRead>(
             × (length rows.now.alive ≤ cut.count * rows.now.size)
             × MayFold rows.now spec.now
             × (i < 64) }
-        ensures { IsPiece spec.entry.now (cut.long * rows.entry.now.size)
+        ensures { IsPiece S.may_fail spec.entry.now (cut.long * rows.entry.now.size)
             (places_in S.content rows.entry.now) i result }
     { fold_piece(alloc, rows, store, spec, cut, i) };
     Ok(call_each(rt, pieces, &fold, found))
@@ -167,7 +167,7 @@ fn fold_in_turn<S: FarRead>(
     ensures each { IfOk result
         (λ found. (i : ℕ) (d : Piece)
         → i < pieces
-        → IsPiece spec.now (cut.long * rows.now.size) (places_in S.content rows.now) i
+        → IsPiece S.may_fail spec.now (cut.long * rows.now.size) (places_in S.content rows.now) i
         (slice_index_or found.items i d)) }
 {
     let mut found = Vec::with_capacity(alloc, pieces)?;
@@ -190,17 +190,23 @@ fn append(
     Ok(())
 }
 
-/// Gathers the partial aggregates of all pieces, in order. Adds the faults of the pieces to the caller's.
+/// Gathers the partial aggregates of all pieces, which were read from a store of type `S`, in order. Adds the faults of the pieces to the
+/// caller's.
 ///
 /// Refused with `FarFault` (21) exactly if the meter rises, else with `NoMemory` (1).
-fn gather(alloc: Global, pieces: Vec<Piece>, meter: &mut Meter) -> Result<Vec<PartialDone>, Refusal>
+fn gather<S: FarTickets>(
+    alloc: Global,
+    pieces: Vec<Piece>,
+    meter: &mut Meter,
+) -> Result<Vec<PartialDone>, Refusal>
     requires few { meter.old < 2 ^ 63 }
     requires pieces_few { length pieces.items ≤ 64 }
-    requires faults_few { HaveFewFaults pieces.items }
+    requires faults_few { HaveFewFaults S.may_fail pieces.items }
     ensures partials { IfOk result (λ partials. partials.items ≡ all_partials pieces.items) }
     ensures whole { OnOk result (AreWhole pieces.items) }
     ensures none { OnOk result (meter.new ≡ meter.old) }
     ensures refused { IfErr result (FoldRefusal meter.old meter.new) }
+    ensures cause { meter.old < meter.new → S.may_fail }
     ensures most { meter.new ≤ meter.old + length pieces.items }
 {
     let before = meter.faults();
@@ -243,12 +249,13 @@ pub(crate) fn recount_rows<R: Threads + Sync, S: FarRead>(
         (λ answer. answer ≡ answer_over spec.now (rows_of (places_in S.content rows.now))) }
     ensures none { OnOk result (meter.new ≡ meter.old) }
     ensures refused { IfErr result (FoldRefusal meter.old meter.new) }
+    ensures cause { meter.old < meter.new → S.may_fail }
     ensures most { meter.new ≤ meter.old + workers }
 {
     let places = rows.len();
     let wide = wide_cut(size, places, workers);
     let pieces = fold_pieces(rt, alloc, rows, store, spec, wide.cut, wide.pieces)?;
-    let partials = gather(alloc, pieces, meter)?;
+    let partials = gather::<S>(alloc, pieces, meter)?;
     answer_of(alloc, spec, partials, wide.size, places)
 }
 
@@ -271,11 +278,12 @@ pub(crate) fn recount_alone<S: FarRead>(
         (λ answer. answer ≡ answer_over spec.now (rows_of (places_in S.content rows.now))) }
     ensures none { OnOk result (meter.new ≡ meter.old) }
     ensures refused { IfErr result (FoldRefusal meter.old meter.new) }
+    ensures cause { meter.old < meter.new → S.may_fail }
     ensures most { meter.new ≤ meter.old + 1 }
 {
     let places = rows.len();
     let wide = wide_cut(size, places, 1);
     let pieces = fold_in_turn(alloc, rows, store, spec, wide.cut, wide.pieces)?;
-    let partials = gather(alloc, pieces, meter)?;
+    let partials = gather::<S>(alloc, pieces, meter)?;
     answer_of(alloc, spec, partials, wide.size, places)
 }

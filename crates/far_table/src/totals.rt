@@ -3,7 +3,7 @@ ghost use Rattle.std.specs.Prelude.{◌≡◌, ◌≢◌, ◌+◌, ◌-◌, ◌*
 ghost use Rattle.far_types.specs.declared.spec.Fold.TheVariants as folds;
 ghost use Rattle.far_types.specs.Answers.{totals};
 ghost use Rattle.far_types.specs.Effects.{joined_totals};
-ghost use Rattle.far_store.specs.Faults.{faults_in, RefusedBy};
+ghost use Rattle.far_store.specs.Faults.{faults_in, FailsOnlyIf, RefusedBy};
 ghost use Rattle.far_groups.specs.Live.{CanJoin};
 ghost use Rattle.far_rows.specs.Jobs.{AreAt};
 ghost use Rattle.far_rows.specs.Places.{places_in};
@@ -47,6 +47,7 @@ fn total_at<S: FarRead>(
               (group_pairs spec.now rows.now.size group (places_in S.content rows.now)));
         }) }
     ensures faults { meter.new ≡ meter.old + faults_in result }
+    ensures cause { FailsOnlyIf S.may_fail result }
     ensures refused { RefusedBy (21 ∷ 1 ∷ []) result }
 {
     // For the proof: shows `AreRows`, which bounds the number of places.
@@ -87,6 +88,7 @@ pub(crate) fn total_run<S: FarRead>(
               (run_of rows.now.size from to (places_in S.content rows.now)));
         }) }
     ensures faults { meter.new ≡ meter.old + faults_in result }
+    ensures cause { FailsOnlyIf S.may_fail result }
     ensures refused { RefusedBy (21 ∷ 1 ∷ []) result }
 {
     // For the proof: shows `AreRows`, which bounds the number of places.

@@ -63,6 +63,8 @@ impl FarTickets for ShelfStore {
 
     ghost capacity_of = { λ s. vec_len s.places };
 
+    ghost may_fail = { ⊥ };
+
     fn again(&self, ticket: &Shelved) -> Shelved {
         Shelved {
             place: ticket.place,

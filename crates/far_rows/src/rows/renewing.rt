@@ -1,6 +1,6 @@
 // Copies the far copies of rows into another store.
-ghost use Rattle.std.specs.Prelude.{◌≡◌, ◌+◌, ◌<◌, ◌^◌, ℕ, List, [], ◌∷◌, IfOk};
-ghost use Rattle.far_store.specs.Faults.{faults_in, RefusedBy};
+ghost use Rattle.std.specs.Prelude.{◌≡◌, ◌⊎◌, ◌+◌, ◌<◌, ◌^◌, ℕ, List, [], ◌∷◌, IfOk};
+ghost use Rattle.far_store.specs.Faults.{faults_in, FailsOnlyIf, RefusedBy};
 ghost use Rattle.far_rows.specs.Rows.{all_cells};
 ghost use Rattle.far_rows.specs.Jobs.{AreAt};
 ghost use Rattle.far_rows.specs.Renewal.{RenewsRows, AreTicketsAt, renewed_rows};
@@ -32,6 +32,7 @@ impl<S: FarRead> Rows<S> {
         ensures renews { IfOk result (RenewsRows S.content N.content self.now) }
         ensures there { IfOk result (AreTicketsAt N.is_of (N.store_id new_store.now)) }
         ensures faults { meter.new ≡ meter.old + faults_in result }
+        ensures cause { FailsOnlyIf (S.may_fail ⊎ N.may_fail) result }
         ensures refused { RefusedBy (21 ∷ 22 ∷ 1 ∷ []) result }
     {
         let numbers = self.number_objects.renewal(alloc, store, new_store, meter)?;

@@ -1,6 +1,6 @@
 // Moves the far copies of objects to another store.
-ghost use Rattle.std.specs.Prelude.{◌≡◌, ◌+◌, ◌<◌, ◌^◌, ℕ, List, [], ◌∷◌, length, if◌then◌else◌, None, IfOk, option_map};
-ghost use Rattle.far_store.specs.Faults.{faults_in, RefusedBy};
+ghost use Rattle.std.specs.Prelude.{◌≡◌, ◌⊎◌, ◌+◌, ◌<◌, ◌^◌, ℕ, List, [], ◌∷◌, length, if◌then◌else◌, None, IfOk, option_map};
+ghost use Rattle.far_store.specs.Faults.{faults_in, FailsOnlyIf, RefusedBy};
 ghost use Rattle.far_scopes.specs.Movement.{list_of, AreClean, AreHere, is_local, ticket_of};
 ghost use Rattle.far_scopes.specs.Renewal.{Renews, after_renew, AreTicketsHere};
 
@@ -32,6 +32,7 @@ impl<T: Elem, S: FarRead> Objects<T, S> {
         ensures there { IfOk result
             (λ tickets. AreTicketsHere N.is_of (N.store_id new_store.now) tickets) }
         ensures faults { meter.new ≡ meter.old + faults_in result }
+        ensures cause { FailsOnlyIf (S.may_fail ⊎ N.may_fail) result }
         ensures refused { RefusedBy (21 ∷ 22 ∷ 1 ∷ []) result }
     {
         let records = Vec::with_capacity(alloc, self.records.len())?;
@@ -117,6 +118,7 @@ fn put_again<S: FarRead, N: FarStore>(
     ensures there { IfOk result (λ new. N.is_of new (N.store_id new_store.now)) }
     ensures content { IfOk result (λ new. N.content new ≡ S.content ticket.now) }
     ensures faults { meter.new ≡ meter.old + faults_in result }
+    ensures cause { FailsOnlyIf (S.may_fail ⊎ N.may_fail) result }
     ensures refused { RefusedBy (21 ∷ 22 ∷ 1 ∷ []) result }
 {
     store.get(alloc, meter, ticket, buffer)?;

@@ -38,6 +38,7 @@ impl<S: FarRead> LiveTable<S> {
         ensures none { OnOk result (meter.new ≡ meter.old) }
         ensures refused { IfErr result
             (RecountRefusal (recount_refusal self.now.table a workers) meter.old meter.new) }
+        ensures cause { meter.old < meter.new → S.may_fail }
         ensures most { meter.new ≤ meter.old + workers }
     {
         let Some(spec) = self.aggregates.spec(a) else {
@@ -51,6 +52,7 @@ impl<S: FarRead> LiveTable<S> {
         let size = self.rows.limits().group;
         recount_rows(rt, self.alloc, held, store, meter, spec, size, workers)
     }
+
     /// Does the same as `recount` with one worker, without a runtime: this thread folds all row groups as one piece.
     ///
     /// Refused with the first of these that applies:
@@ -66,6 +68,7 @@ impl<S: FarRead> LiveTable<S> {
         ensures none { OnOk result (meter.new ≡ meter.old) }
         ensures refused { IfErr result
             (RecountRefusal (recount_refusal self.now.table a 1) meter.old meter.new) }
+        ensures cause { meter.old < meter.new → S.may_fail }
         ensures most { meter.new ≤ meter.old + 1 }
     {
         let Some(spec) = self.aggregates.spec(a) else {
