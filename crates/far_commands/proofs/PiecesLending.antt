@@ -137,4 +137,4 @@ lends tickets old new column from to text given limits free owed same printed =
     let pieces = lent_part table column from to in
     let low = lends-low old.state.rows column from to free in
     let part : IsPartOf table column from to given.0 = (given-cells table limits column from to low given.0 given.1, given-flags table limits column from to low given.0 given.1) in
-    (given.0, (given.2, served (step.Lend column from to) of pieces (table_of old.state) (table_of new.state) given.0 given.1 (owed, (part, same))), printed ∙ sym (given-text of pieces (done_text (step.Lend column from to)) given.0 given.1))
+    (given.0, (given.2, (served (step.Lend column from to) of pieces (table_of old.state) (table_of new.state) given.0 given.1 (owed, (part, same)), tt)), printed ∙ sym (given-text of pieces (done_text (step.Lend column from to)) given.0 given.1))

@@ -140,7 +140,7 @@ asked : {S K : Type 0} (tickets : Tickets S K) (old : World K) (a : ℕ) (all : 
     → Answers old.state.table.places (aggregate_at old.state.table a) all → text ≡ answer_text all → Takes (both_rules tickets) old (step.Ask a) text old
 asked tickets old a all text answers printed =
     let may = may_ask old.state.table (aggregate_at old.state.table a) all answers in
-    (reply.Answer all, (((all, refl, answers, refl), refl), (may.0, (may.1, refl))), printed)
+    (reply.Answer all, (((all, refl, answers, refl), refl), ((may.0, (may.1, refl)), tt)), printed)
 
 -- printing the count and the sum that the aggregate holds is the reply to `Ask`
 pub asks : {S K : Type 0} (tickets : Tickets S K) (old : World K) (a : ℕ) (x : ℕ × ℤ) (text : List ℕ)

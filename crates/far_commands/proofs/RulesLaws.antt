@@ -49,7 +49,8 @@ module _ {V W : Type 0} (a : Rules V) (b : Rules W) (view : V → W) (same : (v 
     (steps : (old : V) (s : Step) (given : Reply) (new : V) → a.Steps old s given new → b.Steps (view old) s given (view new))
     (lists : (at : V) (text : List ℕ) → a.Lists at text → b.Lists (view at) text)
     (moves : (capacity : ℕ) (old : V) (text : List ℕ) (new : V) → a.Moves capacity old text new → b.Moves capacity (view old) text (view new))
-    (stays : (new : V) → a.Stays new → b.Stays (view new)) where
+    (stays : (new : V) → a.Stays new → b.Stays (view new))
+    (fails : a.MayFail → b.MayFail) where
   abbrev seen : At V → At W
   seen at = record { world = view at.world; number = at.number }
 
@@ -62,12 +63,16 @@ module _ {V W : Type 0} (a : Rules V) (b : Rules W) (view : V → W) (same : (v 
     after-as h.0 _ _ _ _ (λ why e. (ap view e.0, e.1)) (loads-as (count + 1) h.1 new more text) h.3,
   )
 
+  recounts-as : (table : Table) (x : ℕ) (text : List ℕ) → Recounts a.MayFail table x text → Recounts b.MayFail table x text
+  recounts-as table x text (inl found) = inl found
+  recounts-as table x text (inr why) = inr (why.0, (why.1.0, why.1.1, why.1.2, (λ some. fails (why.1.3 some))), why.2)
+
   serves-as : (old new : V) (asked : Command) (rows text : List ℕ) → Serves a old asked rows text new → Serves b (view old) asked rows text (view new)
   serves-as old new (command.Step s) rows text h = (h.0, (h.1.0, steps old s h.1.0 new h.1.1, h.1.2))
   serves-as old new (command.Load count) rows text h = (h.0, h.1, loads-as 0 old new (records_of rows) text h.2)
   serves-as old new command.Dump rows text h = (h.0, lists old text h.1, ap view h.2)
   serves-as old new (command.Renew capacity) rows text h = (h.0, moves capacity old text new h.1)
-  serves-as old new (command.Recount x) rows text h = (h.0, subst (λ (t : Table). Recounts t x text) (sym (same old)) h.1, ap view h.2)
+  serves-as old new (command.Recount x) rows text h = (h.0, recounts-as (b.table_in (view old)) x text (subst (λ (t : Table). Recounts a.MayFail t x text) (sym (same old)) h.1), ap view h.2)
 
   line-as : (number : ℕ) (old new : V) (asked : Option Command) (rows text : List ℕ) → ServesLine a number old asked rows text new → ServesLine b number (view old) asked rows text (view new)
   line-as number old new None rows text h = (h.0, h.1, ap view h.2)
@@ -85,16 +90,16 @@ module _ {V W : Type 0} (a : Rules V) (b : Rules W) (view : V → W) (same : (v 
 module _ {S K : Type 0} (tickets : Tickets S K) where
   -- an answer by both rules is one by the rules of a world
   pub world-line : (old new : At (World K)) (line rows text : List ℕ) → AnswersLine (both_rules tickets) old line rows text new → AnswersLine (world_rules tickets) old line rows text new
-  world-line = answers-as (both_rules tickets) (world_rules tickets) (λ world. world) (λ world. refl) (λ old s given new h. h.0) (λ at text h. h.0) (λ capacity old text new h. h.0) (λ new h. h.0)
+  world-line = answers-as (both_rules tickets) (world_rules tickets) (λ world. world) (λ world. refl) (λ old s given new h. h.0) (λ at text h. h.0) (λ capacity old text new h. h.0) (λ new h. h.0) (λ fails. fails)
 
   -- and one by the rules of a table
-  pub table-line : (old new : At (World K)) (line rows text : List ℕ) → AnswersLine (both_rules tickets) old line rows text new → AnswersLine table_rules (at_seen old) line rows text (at_seen new)
-  table-line = answers-as (both_rules tickets) table_rules table_seen (λ world. refl) (λ old s given new h. h.1) (λ at text h. h.1) (λ capacity old text new h. h.1) (λ new h. h.1)
+  pub table-line : (old new : At (World K)) (line rows text : List ℕ) → AnswersLine (both_rules tickets) old line rows text new → AnswersLine (table_rules tickets.may_fail) (at_seen old) line rows text (at_seen new)
+  table-line = answers-as (both_rules tickets) (table_rules tickets.may_fail) table_seen (λ world. refl) (λ old s given new h. h.1) (λ at text h. h.1) (λ capacity old text new h. h.1) (λ new h. h.1) (λ fails. fails)
 
   -- a renewal that does not change the table as its user sees it
-  pub move-seen : (capacity : ℕ) (old new : World K) (text : List ℕ) → table_seen new ≡ table_seen old → Renews tickets capacity old text new → IsTableMove (table_seen old) text (table_seen new)
+  pub move-seen : (capacity : ℕ) (old new : World K) (text : List ℕ) → table_seen new ≡ table_seen old → Renews tickets capacity old text new → IsTableMove tickets.may_fail (table_seen old) text (table_seen new)
   move-seen capacity old new text same (inl renewed) = (same, inl renewed.1)
-  move-seen capacity old new text same (inr refused) = (same, inr (refused.0, refused.1.0, refused.2))
+  move-seen capacity old new text same (inr refused) = (same, inr (refused.0, refused.1.0, refused.1.1, refused.2))
 
 -- the columns of a new table have no objects
 no-number : (size n : ℕ) (kinds : List Kind) (i g : ℕ) → option_and_then (λ v. slice_get v.objects g) (slice_get (numbers_from size n kinds) i) ≡ None

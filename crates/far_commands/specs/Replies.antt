@@ -78,7 +78,7 @@ module _ {W : Type 0} (rules : Rules W) where
   Serves old (command.Renew capacity) rows text new = (rows ≡ [])
       × rules.Moves capacity old text new
   Serves old (command.Recount a) rows text new = (rows ≡ [])
-      × Recounts (rules.table_in old) a text
+      × Recounts rules.MayFail (rules.table_in old) a text
       × (new ≡ old)
 
   -- a line is served, and the text is its reply. If it spells no command, nothing changes

@@ -19,6 +19,8 @@ pub record Rules (W : Type 0) : Type 1 where
   pub Moves : ℕ → W → List ℕ → W → Type 0
   -- what holds of the state after each command
   pub Stays : W → Type 0
+  -- whether the script's far stores may fail
+  pub MayFail : Type 0
 
 -- two sets of rules at once: one for a state, and one for what is seen of it
 abbrev pub both : {V W : Type 0} → (V → W) → Rules V → Rules W → Rules V
@@ -31,4 +33,5 @@ both view rules seen = record {
   Moves = λ capacity old text new.
       rules.Moves capacity old text new × seen.Moves capacity (view old) text (view new);
   Stays = λ new. rules.Stays new × seen.Stays (view new);
+  MayFail = rules.MayFail;
 }

@@ -32,8 +32,9 @@ module _ {S K : Type 0} (tickets : Tickets S K) where
     Lists = λ world text. text ≡ listing_of (live world.state);
     Moves = Renews tickets;
     Stays = HasOwnTickets tickets.is_of;
+    MayFail = tickets.may_fail;
   }
 
   -- the rules of a world, and those of its table as its user sees it
   abbrev pub both_rules : Rules (World K)
-  both_rules = both table_seen world_rules table_rules
+  both_rules = both table_seen world_rules (table_rules tickets.may_fail)

@@ -26,7 +26,8 @@ fn from_scratch<S: FarStore, A: Resources<S>>(
     aggregate: u32,
 ) -> Result<Answer, Refusal>
     ensures answer { IfOk result (IsAnswerNow world.now.state.table aggregate) }
-    ensures refused { IfErr result (IsNotRecounted world.now.state.table aggregate) }
+    ensures refused { IfErr result
+        (IsNotRecounted S.may_fail world.now.state.table aggregate) }
 {
     let rt = resources.runtime();
     let mut meter = Meter::new();
@@ -42,7 +43,7 @@ pub fn recount<S: FarStore, A: Resources<S>>(
     aggregate: u32,
     reply: &mut Page,
 ) -> Result<(), AllocError>
-    ensures ok { OnOk result (Recounts world.now.state.table aggregate reply.new) }
+    ensures ok { OnOk result (Recounts S.may_fail world.now.state.table aggregate reply.new) }
 {
     reply.truncate(0);
     match from_scratch(resources, world, aggregate) {

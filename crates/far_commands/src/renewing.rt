@@ -67,7 +67,7 @@ fn migrate<S: FarStore>(world: &mut World<S>, empty: World<S>, store: S) -> Resu
     ensures renewed { OnOk result
         (IsMigratedTo S.content S.content (S.store_id store) world.old world.new) }
     ensures table { table_of world.new.state ≡ table_of world.old.state }
-    ensures back { IfErr result (λ e. IsNotRenewed world.old e world.new) }
+    ensures back { IfErr result (λ e. IsNotRenewed S.may_fail world.old e world.new) }
 {
     let old = mem::replace(world, empty);
     put_back(world, old.migrate(store))
@@ -83,7 +83,7 @@ fn go_on<S: FarStore, A: Resources<S>>(
     requires few { world.old.faults < 2 ^ 62 }
     ensures renewed { OnOk result (IsRenewed S.FarTickets capacity world.old world.new) }
     ensures table { table_of world.new.state ≡ table_of world.old.state }
-    ensures back { IfErr result (λ e. IsNotRenewed world.old e world.new) }
+    ensures back { IfErr result (λ e. IsNotRenewed S.may_fail world.old e world.new) }
 {
     let store = resources.store(u64::from(capacity))?;
     let empty = stand_in(resources)?;

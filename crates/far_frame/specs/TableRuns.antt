@@ -1,7 +1,8 @@
 -- The effect of steps on a table, as its user sees it. Left out here, and defined in `Steps`: where
 -- an object is stored, when space runs out, and which job moves which chunk.
-use Rattle.std.specs.Prelude.{◌≡◌, ◌≢◌, ℕ, ◌+◌, ◌-◌, ◌==◌, ◌&&◌, true, false, cond, List, [], ◌∷◌, map, None, IsSomeAnd, slice_range}
+use Rattle.std.specs.Prelude.{◌≡◌, ◌≢◌, ⊤, ℕ, ◌+◌, ◌-◌, ◌==◌, ◌&&◌, true, false, cond, List, [], ◌∷◌, map, None, IsSomeAnd, slice_range}
 use Rattle.std.specs.List.{flat_map}
+use Rattle.far_types.specs.declared.refusal.Refusal.TheVariants.{FarFault}
 use Rattle.far_types.specs.Edits.{after_edit}
 use Rattle.far_types.specs.Table.{Table, answer_now, is_pending, part}
 use Rattle.far_table.specs.Watching.{aggregate_at, lowest_free, after_register_at, after_scan_at, with_aggregate}
@@ -58,6 +59,11 @@ IsTableServed old (step.Carry n) given new = (given ≡ reply.Done) × (new ≡ 
 IsTableServed old (step.Compact kind segment) given new = (given ≡ reply.Done) × (new ≡ old)
 IsTableServed old (step.Prefetch c) given new = new ≡ old
 IsTableServed old _ given new = ((n : ℕ) × (given ≡ reply.Job n)) × (new ≡ old)
+
+-- a carry is refused with `FarFault` only if the far store may fail
+abbrev pub FaultsOnlyIf : Type 0 → Step → Reply → Type 0
+FaultsOnlyIf may_fail (step.Carry n) (reply.Refused why) = why ≡ FarFault → may_fail
+FaultsOnlyIf may_fail s given = ⊤
 
 -- the table `old` becomes `new` by a step with this reply: it is refused for a reason and nothing
 -- changes, or no refusal is due and it is accepted

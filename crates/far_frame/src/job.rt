@@ -1,6 +1,6 @@
 // Jobs of every kind and phase.
 ghost use Rattle.std.specs.Prelude.{◌≡◌, ◌+◌, ◌<◌, ◌^◌, is_none, IfOk, IfErr, option_copied, option_map, slice_get};
-ghost use Rattle.far_store.specs.Faults.{faults_in, outcome};
+ghost use Rattle.far_store.specs.Faults.{faults_in, outcome, FailsOnlyIf};
 ghost use Rattle.far_frame.specs.Jobs.{IsWorkAt, IsWorkCarried, WorkRefusal, IsJobAt, IsCarried, CarryRefusal, is_offload, job_kind};
 ghost use Rattle.far_frame.specs.Carrying.{is_carried, outgoing_of, tickets_of_work, wanted_of};
 
@@ -186,6 +186,7 @@ impl<S: FarStore> Job<S> {
         ensures here { IfOk result (IsJobAt S.is_of (S.store_id store.now)) }
         ensures back { IfErr result (λ refused. refused.1 ≡ self) }
         ensures faults { meter.new ≡ meter.old + faults_in (outcome result) }
+        ensures cause { FailsOnlyIf S.may_fail (outcome result) }
         ensures refused { IfErr result (λ refused. CarryRefusal self refused.0) }
     {
         let name = self.name;
@@ -209,6 +210,7 @@ fn carry_work<S: FarStore>(
     ensures here { IfOk result (IsWorkAt S.is_of (S.store_id store.now)) }
     ensures back { IfErr result (λ refused. refused.1 ≡ work) }
     ensures faults { meter.new ≡ meter.old + faults_in (outcome result) }
+    ensures cause { FailsOnlyIf S.may_fail (outcome result) }
     ensures refused { IfErr result (λ refused. WorkRefusal work refused.0) }
 {
     match work {

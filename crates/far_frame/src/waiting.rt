@@ -1,6 +1,6 @@
 // The jobs of a world, by their numbers.
 ghost use Rattle.std.specs.Prelude.{◌≡◌, ◌+◌, ◌<◌, ◌^◌, [], None, Some, IfSome, IfErr, OnOk, OnErr, cond, length, option_copied};
-ghost use Rattle.far_store.specs.Faults.{faults_in};
+ghost use Rattle.far_store.specs.Faults.{faults_in, FailsOnlyIf};
 ghost use Rattle.far_frame.specs.Jobs.{IsJobAt, CarryRefusal};
 ghost use Rattle.far_frame.specs.Waiting.{job_at, one_more, with_job, without_job, spends, AreJobsAt, IsCarriedAt, RefusalAt};
 
@@ -116,6 +116,7 @@ impl<S: FarStore> Waiting<S> {
         requires here { AreJobsAt S.is_of (S.store_id store.now) self.old }
         ensures carried { OnOk result (IsCarriedAt S.content n self.old self.new) }
         ensures refused { IfErr result (RefusalAt CarryRefusal (job_at self.old n)) }
+        ensures cause { FailsOnlyIf S.may_fail result }
         ensures err { OnErr result (self.new ≡ self.old) }
         ensures faults { meter.new ≡ meter.old + faults_in result }
         ensures here { AreJobsAt S.is_of (S.store_id store.now) self.new }

@@ -5,7 +5,7 @@ ghost use Rattle.far_rows.specs.Jobs.{AreAt};
 ghost use Rattle.far_frame.specs.Lending.{IsReplyOf, lend_refusal, lent_part};
 ghost use Rattle.far_frame.specs.Steps.{IsStep, IsRun};
 ghost use Rattle.far_frame.specs.TableRefusals.{due};
-ghost use Rattle.far_frame.specs.TableRuns.{IsTableStep, IsTableRun};
+ghost use Rattle.far_frame.specs.TableRuns.{IsTableStep, IsTableRun, FaultsOnlyIf};
 ghost use Rattle.far_frame.specs.TableViews.{table_of};
 ghost use Rattle.far_frame.specs.Worlds.{HasOwnTickets, IsSpent};
 
@@ -175,6 +175,7 @@ impl<S: FarStore> World<S> {
         ensures here { HasOwnTickets S.is_of self.new }
         ensures table { IsTableStep (table_of self.old.state) step result
             (table_of self.new.state) }
+        ensures cause { FaultsOnlyIf S.may_fail step result }
         ensures faults { self.new.faults ≤ self.old.faults + 1 }
     {
         // For the proof: shows the invariant of the table.
@@ -189,6 +190,7 @@ impl<S: FarStore> World<S> {
     fn serve_step(&mut self, step: Step) -> Reply
         requires few { self.old.faults < 2 ^ 63 }
         ensures step { IsStep S.content S.number_of self.old step result self.new }
+        ensures cause { FaultsOnlyIf S.may_fail step result }
         ensures faults { self.new.faults ≤ self.old.faults + 1 }
     {
         match step {

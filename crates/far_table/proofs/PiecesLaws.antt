@@ -5,10 +5,11 @@ use Rattle.std.specs.List.{cons_option}
 use Rattle.std.specs.Result.{result_ok}
 use Rattle.std.proofs.lemmas.List.{append_assoc}
 use Rattle.far_types.specs.declared.refusal.Refusal.{Refusal}
+use Rattle.far_types.specs.declared.refusal.Refusal.TheVariants.{NoMemory, BadSchema, BadSpec, NoColumn, WrongKind, RowWidth, TextTooLong, NoRow, RemovedRow, TableFull, ChunkFull, NoAggregate, TooManyAggregates, OutOfRange, Building, Absent, RegionFull, NotPinned, Pinned, StaleJob, FarFault, FarFull, EditsUsedUp}
 use Rattle.far_types.specs.declared.spec.Spec.{Spec}
 use Rattle.far_types.specs.Refusals.{number_of}
 use Rattle.far_types.specs.Table.{Place}
-use Rattle.far_store.specs.Faults.{faults_of, faults_in}
+use Rattle.far_store.specs.Faults.{faults_of, faults_in, FailsOnlyIf}
 use Rattle.far_offload.specs.declared.partial.PartialDone.{PartialDone}
 use Rattle.far_aggregates.specs.Recounting.{partial_at, partials_from}
 use Rattle.far_table.specs.declared.piece.Piece.{Piece}
@@ -24,22 +25,53 @@ few-in : {A : Type 0} (r : Result A Refusal) → faults_in r ≤ 1
 few-in (Ok x) = omega arith
 few-in (Err e) = few-of e
 
-module _ (spec : Spec) (wide : ℕ) (places : List Place) where
+-- only FarFault is a fault
+is-fault : (e : Refusal) → 0 < faults_of e → e ≡ FarFault
+is-fault NoMemory up = absurd (omega (arith, up))
+is-fault BadSchema up = absurd (omega (arith, up))
+is-fault BadSpec up = absurd (omega (arith, up))
+is-fault NoColumn up = absurd (omega (arith, up))
+is-fault WrongKind up = absurd (omega (arith, up))
+is-fault RowWidth up = absurd (omega (arith, up))
+is-fault TextTooLong up = absurd (omega (arith, up))
+is-fault NoRow up = absurd (omega (arith, up))
+is-fault RemovedRow up = absurd (omega (arith, up))
+is-fault TableFull up = absurd (omega (arith, up))
+is-fault ChunkFull up = absurd (omega (arith, up))
+is-fault NoAggregate up = absurd (omega (arith, up))
+is-fault TooManyAggregates up = absurd (omega (arith, up))
+is-fault OutOfRange up = absurd (omega (arith, up))
+is-fault (Building left) up = absurd (omega (arith, up))
+is-fault (Absent column group) up = absurd (omega (arith, up))
+is-fault RegionFull up = absurd (omega (arith, up))
+is-fault NotPinned up = absurd (omega (arith, up))
+is-fault Pinned up = absurd (omega (arith, up))
+is-fault StaleJob up = absurd (omega (arith, up))
+is-fault FarFault up = refl
+is-fault FarFull up = absurd (omega (arith, up))
+is-fault EditsUsedUp up = absurd (omega (arith, up))
+
+-- a call that counts a fault was refused with FarFault, and so its store may fail
+pub rises-only-if : {A may_fail : Type 0} (r : Result A Refusal) → FailsOnlyIf may_fail r → 0 < faults_in r → may_fail
+rises-only-if (Ok x) cause up = absurd (omega (arith, up))
+rises-only-if (Err e) cause up = cause (is-fault e up)
+
+module _ (may_fail : Type 0) (spec : Spec) (wide : ℕ) (places : List Place) where
   -- these are the pieces from number i on
   abbrev pub AreFrom : ℕ → List Piece → Type 0
-  AreFrom i pieces = (k : ℕ) (d : Piece) → k < length pieces → IsPiece spec wide places (i + k) (slice_index_or pieces k d)
+  AreFrom i pieces = (k : ℕ) (d : Piece) → k < length pieces → IsPiece may_fail spec wide places (i + k) (slice_index_or pieces k d)
 
   rest-from : (i : ℕ) (piece : Piece) (pieces : List Piece) → AreFrom i (piece ∷ pieces) → AreFrom (i + 1) pieces
   rest-from i piece pieces are k d within =
       let e : i + suc k ≡ i + 1 + k = omega arith in
-      subst (λ n. IsPiece spec wide places n (slice_index_or pieces k d)) e (are (suc k) d (omega (arith, within)))
+      subst (λ n. IsPiece may_fail spec wide places n (slice_index_or pieces k d)) e (are (suc k) d (omega (arith, within)))
 
-  first-from : (i : ℕ) (piece : Piece) (pieces : List Piece) → AreFrom i (piece ∷ pieces) → IsPiece spec wide places i piece
+  first-from : (i : ℕ) (piece : Piece) (pieces : List Piece) → AreFrom i (piece ∷ pieces) → IsPiece may_fail spec wide places i piece
   first-from i piece pieces are =
       let e : i + 0 ≡ i = omega arith in
-      subst (λ n. IsPiece spec wide places n piece) e (are 0 piece (omega arith))
+      subst (λ n. IsPiece may_fail spec wide places n piece) e (are 0 piece (omega arith))
 
-  of-piece : (i : ℕ) (piece : Piece) → IsPiece spec wide places i piece → IsOk piece.partial → result_ok piece.partial ≡ Some (partial_at spec wide places i)
+  of-piece : (i : ℕ) (piece : Piece) → IsPiece may_fail spec wide places i piece → IsOk piece.partial → result_ok piece.partial ≡ Some (partial_at spec wide places i)
   of-piece i piece is whole = by piece.partial refl where
     by : (r : Result PartialDone Refusal) → piece.partial ≡ r → result_ok piece.partial ≡ Some (partial_at spec wide places i)
     by (Ok done) at = ap result_ok at ∙ ap Some (subst (λ (p : Result PartialDone Refusal). IfOk p (λ it. it ≡ partial_at spec wide places i)) at is.partial)
@@ -52,11 +84,17 @@ module _ (spec : Spec) (wide : ℕ) (places : List Place) where
       ap (λ (o : Option PartialDone). cons_option o (all_partials pieces)) (of-piece i piece (first-from i piece pieces are) whole.0)
       ∙ ap (λ (rest : List PartialDone). partial_at spec wide places i ∷ rest) (all-from (i + 1) pieces (rest-from i piece pieces are) whole.1)
 
-  -- each piece met at most one fault
-  pub few-faults : (i : ℕ) (pieces : List Piece) → AreFrom i pieces → HaveFewFaults pieces
+  -- each piece met at most one fault, and none if the store never fails
+  first-few : {i : ℕ} (piece : Piece) → IsPiece may_fail spec wide places i piece → (piece.meter ≤ 1) × (0 < piece.meter → may_fail)
+  first-few piece is = (
+    subst (λ n. n ≤ 1) (sym is.faults) (few-in piece.partial),
+    (λ up. rises-only-if piece.partial is.cause (subst (λ n. 0 < n) is.faults up)),
+  )
+
+  pub few-faults : (i : ℕ) (pieces : List Piece) → AreFrom i pieces → HaveFewFaults may_fail pieces
   few-faults i [] are = tt
   few-faults i (piece ∷ pieces) are = (
-    (let first = first-from i piece pieces are in subst (λ n. n ≤ 1) (sym first.faults) (few-in piece.partial)),
+    first-few piece (first-from i piece pieces are),
     few-faults (i + 1) pieces (rest-from i piece pieces are),
   )
 

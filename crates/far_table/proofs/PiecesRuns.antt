@@ -204,24 +204,24 @@ narrow len size count long small few is short =
 
 -- ---- pieces that are identified by their numbers
 
-module _ (spec : Spec) (wide : ℕ) (places : List Place) (number : ℕ) (pieces : List Piece) (many : length pieces ≡ number)
-    (each : (i : ℕ) (d : Piece) → i < number → IsPiece spec wide places i (slice_index_or pieces i d)) where
-  in-order : AreFrom spec wide places 0 pieces
+module _ (may_fail : Type 0) (spec : Spec) (wide : ℕ) (places : List Place) (number : ℕ) (pieces : List Piece) (many : length pieces ≡ number)
+    (each : (i : ℕ) (d : Piece) → i < number → IsPiece may_fail spec wide places i (slice_index_or pieces i d)) where
+  in-order : AreFrom may_fail spec wide places 0 pieces
   in-order k d within =
       let at : k ≡ 0 + k = omega arith in
-      subst (λ n. IsPiece spec wide places n (slice_index_or pieces k d)) at (each k d (omega (arith, within, many)))
+      subst (λ n. IsPiece may_fail spec wide places n (slice_index_or pieces k d)) at (each k d (omega (arith, within, many)))
 
-  pub wide-few : HaveFewFaults pieces
-  wide-few = few-faults spec wide places 0 pieces in-order
+  pub wide-few : HaveFewFaults may_fail pieces
+  wide-few = few-faults may_fail spec wide places 0 pieces in-order
 
   pub wide-whole : AreWhole pieces → all_partials pieces ≡ partials_from spec wide places 0 number
-  wide-whole whole = all-from spec wide places 0 pieces in-order whole ∙ ap (partials_from spec wide places 0) many
+  wide-whole whole = all-from may_fail spec wide places 0 pieces in-order whole ∙ ap (partials_from spec wide places 0) many
 
 -- the partials of all pieces are the partials of a table with wider row groups
-pub wide-given : (spec : Spec) (places : List Place) (size held long wide number len : ℕ) (pieces : List Piece) (partials : List PartialDone) → size ≡ held → wide ≡ long * size → number ≡ groups wide len → length pieces ≡ number
-    → ((i : ℕ) (d : Piece) → i < number → IsPiece spec (long * held) places i (slice_index_or pieces i d)) → AreWhole pieces → partials ≡ all_partials pieces → partials ≡ partials_from spec wide places 0 (groups wide len)
-wide-given spec places size held long wide number len pieces partials same wide-is counted many each whole gathered =
+pub wide-given : (may_fail : Type 0) (spec : Spec) (places : List Place) (size held long wide number len : ℕ) (pieces : List Piece) (partials : List PartialDone) → size ≡ held → wide ≡ long * size → number ≡ groups wide len → length pieces ≡ number
+    → ((i : ℕ) (d : Piece) → i < number → IsPiece may_fail spec (long * held) places i (slice_index_or pieces i d)) → AreWhole pieces → partials ≡ all_partials pieces → partials ≡ partials_from spec wide places 0 (groups wide len)
+wide-given may_fail spec places size held long wide number len pieces partials same wide-is counted many each whole gathered =
     gathered
-    ∙ wide-whole spec (long * held) places number pieces many each whole
+    ∙ wide-whole may_fail spec (long * held) places number pieces many each whole
     ∙ ap (λ n. partials_from spec n places 0 number) (ap (λ n. long * n) (sym same) ∙ sym wide-is)
     ∙ ap (partials_from spec wide places 0) counted

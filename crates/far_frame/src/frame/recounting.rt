@@ -36,10 +36,12 @@ impl<S: FarRead> Frame<S> {
         ensures none { OnOk result (meter.new ≡ meter.old) }
         ensures refused { IfErr result
             (RecountRefusal (recount_refusal self.now.table a workers) meter.old meter.new) }
+        ensures cause { meter.old < meter.new → S.may_fail }
         ensures most { meter.new ≤ meter.old + workers }
     {
         self.table.recount(rt, store, meter, a, workers)
     }
+
     /// Does the same as `recount` with one worker, without threads or a runtime.
     ///
     /// Refused with the first of these that applies:
@@ -55,6 +57,7 @@ impl<S: FarRead> Frame<S> {
         ensures none { OnOk result (meter.new ≡ meter.old) }
         ensures refused { IfErr result
             (RecountRefusal (recount_refusal self.now.table a 1) meter.old meter.new) }
+        ensures cause { meter.old < meter.new → S.may_fail }
         ensures most { meter.new ≤ meter.old + 1 }
     {
         self.table.recount_alone(store, meter, a)

@@ -1,5 +1,5 @@
 // Moves a table to another far store.
-ghost use Rattle.std.specs.Prelude.{◌≡◌, ◌+◌, ◌<◌, ◌^◌, [], ◌∷◌, IfOk, IfErr};
+ghost use Rattle.std.specs.Prelude.{◌≡◌, ◌⊎◌, ◌+◌, ◌<◌, ◌^◌, [], ◌∷◌, IfOk, IfErr};
 ghost use Rattle.far_store.specs.Faults.{faults_of};
 ghost use Rattle.far_rows.specs.Jobs.{AreAt};
 ghost use Rattle.far_frame.specs.Jobs.{IsOneOf};
@@ -30,6 +30,8 @@ pub fn migrate<S: FarRead, N: FarStore>(
     ensures there { IfOk result (λ new. AreAt N.is_of (N.store_id new_store.now) new.rows) }
     ensures back { IfErr result (λ e. e.1 ≡ frame) }
     ensures refused { IfErr result (λ e. IsOneOf (21 ∷ 22 ∷ 1 ∷ []) e.0) }
+    ensures cause { IfErr result
+        (λ e. e.0 ≡ Refusal.FarFault → S.may_fail ⊎ N.may_fail) }
     ensures met { IfErr result (λ e. meter.new ≡ meter.old + faults_of e.0) }
     ensures none { IfOk result (λ new. meter.new ≡ meter.old) }
 {

@@ -9,6 +9,7 @@ ghost use Rattle.far_table.specs.Watching.{aggregate_at};
 ghost use Rattle.far_frame.specs.Jobs.{IsJobAt, IsEvacJob, IsFetchJob, IsOffloadJob, Commits, CommitRefusal, Installs, InstallRefusal, Merges, MergeRefusal};
 ghost use Rattle.far_frame.specs.State.{live};
 ghost use Rattle.far_frame.specs.Steps.{IsStep};
+ghost use Rattle.far_frame.specs.TableRuns.{FaultsOnlyIf};
 ghost use Rattle.far_frame.specs.Waiting.{AreJobsAt, RefusalAt, job_at, one_more};
 ghost use Rattle.far_frame.specs.Worlds.{used_up};
 
@@ -143,7 +144,8 @@ impl<S: FarStore> World<S> {
     /// Serves a carry.
     pub(super) fn carry(&mut self, n: u64) -> Reply
         requires few { self.old.faults < 2 ^ 63 }
-        ensures { IsStep S.content S.number_of self.old (Step.Carry n) result self.new }
+        ensures step { IsStep S.content S.number_of self.old (Step.Carry n) result self.new }
+        ensures cause { FaultsOnlyIf S.may_fail (Step.Carry n) result }
     {
         Reply::done_or(self.jobs.carry(n, self.alloc, &self.store, &mut self.meter))
     }

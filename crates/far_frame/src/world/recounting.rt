@@ -24,6 +24,7 @@ impl<S: FarStore> World<S> {
             (RecountRefusal (recount_refusal self.old.state.table a 1) self.old.faults
             self.new.faults) }
         ensures world { self.new ≡ record self.old { faults = self.new.faults } }
+        ensures cause { self.old.faults < self.new.faults → S.may_fail }
         ensures most { self.new.faults ≤ self.old.faults + 1 }
     {
         self.frame.recount_alone(&self.store, &mut self.meter, a)

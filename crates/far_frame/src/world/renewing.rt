@@ -1,5 +1,5 @@
 // Moves a world to another far store.
-ghost use Rattle.std.specs.Prelude.{◌≡◌, ◌+◌, ◌<◌, ◌^◌, [], ◌∷◌, IfOk, IfErr};
+ghost use Rattle.std.specs.Prelude.{◌≡◌, ◌⊎◌, ◌+◌, ◌<◌, ◌^◌, [], ◌∷◌, IfOk, IfErr};
 ghost use Rattle.far_store.specs.Faults.{faults_of};
 ghost use Rattle.far_frame.specs.Jobs.{IsOneOf};
 ghost use Rattle.far_frame.specs.Renewing.{IsMigratedTo};
@@ -28,6 +28,8 @@ impl<S: FarStore> World<S> {
         ensures table { IfOk result (λ world. table_of world.state ≡ table_of self.state) }
         ensures back { IfErr result
             (λ e. e.1 ≡ record self { faults = self.faults + faults_of e.0 }) }
+        ensures cause { IfErr result
+            (λ e. e.0 ≡ Refusal.FarFault → S.may_fail ⊎ N.may_fail) }
         ensures refused { IfErr result (λ e. IsOneOf (21 ∷ 22 ∷ 1 ∷ []) e.0) }
     {
         let World {

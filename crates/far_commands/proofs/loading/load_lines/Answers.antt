@@ -20,7 +20,7 @@ returns-in-Refused-clause-ok g c =
     let i = c.loop-rest.invariant in
     let m = lines-more c.loop-rest.rest.now c.next_line.result.0.now c.next_line.result.1.now i.left.0 (search rules) c.next_line.ensures.line c.next_line.ensures.behind (search rules) i.left.1 in
     loads-refused (both_rules g.S.FarTickets) c.args.world.now c.loop-rest.world c.insert_line.new.world c.loop-rest.count (records_of c.args.text.now) i.left.0 m.0 (slice_split is_comma c.next_line.result.0.now) c.in-Refused.refusal i.left.2 m.1
-    (rw c.in-Refused.is at c.in_ok-refusal.ensures.step, rw c.in-Refused.is at c.in_ok-refusal.ensures.table)
+    (rw c.in-Refused.is at c.in_ok-refusal.ensures.step, (rw c.in-Refused.is at c.in_ok-refusal.ensures.table, tt))
 
 pub returns-clause-ok : goal.returns-clause-ok
 returns-clause-ok g c =
@@ -36,7 +36,7 @@ loop-rest-preserved-then-not-is_empty g c =
     let m = lines-more c.loop-rest.rest.now line c.next_line.result.1.now i.left.0 (search rules) next.line next.behind (search rules) i.left.1 in
     record {
       text = search rules;
-      left = (m.0, m.2, loads-more (both_rules g.S.FarTickets) c.args.world.now c.loop-rest.world c.insert_line.new.world c.loop-rest.count (records_of c.args.text.now) i.left.0 m.0 (slice_split is_comma line) c.in_ok-refusal.field-0 i.left.2 m.1 (c.in_ok-refusal.ensures.step, c.in_ok-refusal.ensures.table) c.in_default.not-Refused);
+      left = (m.0, m.2, loads-more (both_rules g.S.FarTickets) c.args.world.now c.loop-rest.world c.insert_line.new.world c.loop-rest.count (records_of c.args.text.now) i.left.0 m.0 (slice_split is_comma line) c.in_ok-refusal.field-0 i.left.2 m.1 (c.in_ok-refusal.ensures.step, (c.in_ok-refusal.ensures.table, tt)) c.in_default.not-Refused);
       faults = c.insert_line.ensures.faults ∙ i.faults;
       counted = (let low = next.shorter (search rules) in omega (arith, i.counted, low));
     }

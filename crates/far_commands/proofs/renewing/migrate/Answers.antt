@@ -1,4 +1,4 @@
-use Rattle.std.proofs.Common.{◌≡◌, ap}
+use Rattle.std.proofs.Common.{◌≡◌, inl, inr, ap}
 use Rattle.far_frame.specs.TableViews.{table_of}
 use Rattle.far_commands.specs.Renewals.{IsNotRenewed}
 use Rattle.far_commands.proofs.ResultLaws.{both-errs, both-ways, came-back, each-err, moved-on}
@@ -21,6 +21,7 @@ returns-clause-table g c =
 
 pub returns-clause-back : goal.returns-clause-back
 returns-clause-back g c =
+    let cause = each-err c.migrate.result _ _ (λ e either is. elim (either is) [ inl may ↦ may | inr may ↦ may ]) c.migrate.ensures.cause in
     let back = rw c.replace-old.ensures.value at c.migrate.ensures.back in
-    came-back c.put_back.result c.migrate.result c.put_back.new.place (λ why at. IsNotRenewed c.args.world.now why at) c.put_back.ensures.back
-    (both-errs c.migrate.result _ _ c.migrate.ensures.refused back)
+    came-back c.put_back.result c.migrate.result c.put_back.new.place (λ why at. IsNotRenewed g.S.FarTickets.may_fail c.args.world.now why at) c.put_back.ensures.back
+    (both-errs c.migrate.result _ _ c.migrate.ensures.refused (both-errs c.migrate.result _ _ cause back))

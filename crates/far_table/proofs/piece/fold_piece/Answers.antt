@@ -28,4 +28,5 @@ returns g c =
           ∙ ap (run (begin_of count long i)) c.begin_of-to.ensures
           ∙ as-one spec places r.size count long i all) c.fold_run-partial.ensures.partial;
       faults = omega (arith, c.fold_run-partial.ensures.faults, c.new-meter.ensures);
+      cause = c.fold_run-partial.ensures.cause;
     }

@@ -24,7 +24,7 @@ fold_pieces-requires-clause-all g c κs within =
 pub gather-requires-clause-faults_few : goal.gather-requires-clause-faults_few
 gather-requires-clause-faults_few g c =
     let r = c.args.rows.now in
-    wide-few c.args.spec.now (c.wide_cut-wide.result.cut.long * r.size) (places_in g.S.FarTickets.content r) c.wide_cut-wide.result.pieces c.in_ok-pieces.pieces.items c.in_ok-pieces.ensures.len c.in_ok-pieces.ensures.each
+    wide-few g.S.FarTickets.may_fail c.args.spec.now (c.wide_cut-wide.result.cut.long * r.size) (places_in g.S.FarTickets.content r) c.wide_cut-wide.result.pieces c.in_ok-pieces.pieces.items c.in_ok-pieces.ensures.len c.in_ok-pieces.ensures.each
 
 pub answer_of-requires-clause-partials : goal.answer_of-requires-clause-partials
 answer_of-requires-clause-partials g c =
@@ -33,7 +33,7 @@ answer_of-requires-clause-partials g c =
     let places = places_in content r in
     let wide = c.wide_cut-wide.result in
     let long = length-places (all_cells content r) r.alive ∙ sym c.len-places.ensures.len in
-    let whole = wide-given c.args.spec.now places c.args.size r.size wide.cut.long wide.size wide.pieces c.len-places.result c.in_ok-pieces.pieces.items c.in_ok-partials.partials.items c.requires.size c.wide_cut-wide.ensures.size c.wide_cut-wide.ensures.pieces c.in_ok-pieces.ensures.len c.in_ok-pieces.ensures.each c.in_ok-partials.ensures.whole c.in_ok-partials.ensures.partials in
+    let whole = wide-given g.S.FarTickets.may_fail c.args.spec.now places c.args.size r.size wide.cut.long wide.size wide.pieces c.len-places.result c.in_ok-pieces.pieces.items c.in_ok-partials.partials.items c.requires.size c.wide_cut-wide.ensures.size c.wide_cut-wide.ensures.pieces c.in_ok-pieces.ensures.len c.in_ok-pieces.ensures.each c.in_ok-partials.ensures.whole c.in_ok-partials.ensures.partials in
     (places, long, whole)
 
 pub returns-clause-answer : goal.returns-clause-answer
@@ -43,5 +43,5 @@ returns-clause-answer g c =
     let places = places_in content r in
     let wide = c.wide_cut-wide.result in
     let long = length-places (all_cells content r) r.alive ∙ sym c.len-places.ensures.len in
-    let whole = wide-given c.args.spec.now places c.args.size r.size wide.cut.long wide.size wide.pieces c.len-places.result c.in_ok-pieces.pieces.items c.in_ok-partials.partials.items c.requires.size c.wide_cut-wide.ensures.size c.wide_cut-wide.ensures.pieces c.in_ok-pieces.ensures.len c.in_ok-pieces.ensures.each c.in_ok-partials.ensures.whole c.in_ok-partials.ensures.partials in
+    let whole = wide-given g.S.FarTickets.may_fail c.args.spec.now places c.args.size r.size wide.cut.long wide.size wide.pieces c.len-places.result c.in_ok-pieces.pieces.items c.in_ok-partials.partials.items c.requires.size c.wide_cut-wide.ensures.size c.wide_cut-wide.ensures.pieces c.in_ok-pieces.ensures.len c.in_ok-pieces.ensures.each c.in_ok-partials.ensures.whole c.in_ok-partials.ensures.partials in
     IfOk-weaker c.answer_of.result _ _ (λ answer answered. answered places long whole) c.answer_of.ensures.answer

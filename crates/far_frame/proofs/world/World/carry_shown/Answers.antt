@@ -10,6 +10,6 @@ returns g c =
     let content = g.S.FarTickets.content in
     let kept = subst (λ (w : World g.row.S-Ticket.Denot). IsKept content w.state) c.self.view_is c.keeps.ensures in
     record {
-      step = c.carry.ensures;
-      table = step-table content g.S.FarTickets.number_of c.args.self.now c.carry.new.self kept (step.Carry c.args.n) c.carry.result c.carry.ensures;
+      step = c.carry.ensures.step;
+      table = step-table content g.S.FarTickets.number_of c.args.self.now c.carry.new.self kept (step.Carry c.args.n) c.carry.result c.carry.ensures.step;
     }

@@ -13,4 +13,5 @@ returns g c =
       here = c.keeps-2.ensures;
       table = step-table content g.S.FarTickets.number_of c.args.self.now c.serve_step-reply.new.self kept c.args.step c.serve_step-reply.result c.serve_step-reply.ensures.step;
       faults = c.serve_step-reply.ensures.faults;
+      cause = c.serve_step-reply.ensures.cause;
     }
