@@ -1,7 +1,12 @@
 -- Values that are written under a key and removed again.
-use Rattle.std.proofs.Common.{◌≡◌, Bool, true, false, List, [], ◌∷◌, Option, None, Some, cond, refl, sym, ap}
+use Rattle.std.proofs.Common.{◌≡◌, ℕ, Bool, true, false, List, [], ◌∷◌, Option, None, Some, Result, Ok, Err, cond, refl, sym, ap}
 use Rattle.std.specs.Map.{lookup, set_value}
+use Rattle.far_types.specs.declared.refusal.Refusal.{Refusal}
+use Rattle.far_store.specs.Faults.{FailsOnlyIf}
 use Rattle.far_aggregates.specs.Aggregates.{flattened}
+use Rattle.far_frame.specs.declared.step.Step.TheVariants as step
+use Rattle.far_frame.specs.Effects.{done_or}
+use Rattle.far_frame.specs.TableRuns.{FaultsOnlyIf}
 
 none-some : {A : Type 0} (x : A) → Some x ≡ None → ⊥
 none-some x h = cc
@@ -35,3 +40,8 @@ module _ {X A : Type 0} (t : X → Bool) where
   pub set-same : (es : List (X × Option A)) (w : Option A) → flattened (lookup t es) ≡ w → set_value t es w ≡ es
   set-same [] w h = refl
   set-same (e ∷ es) w h = same-step e es w (t e.0) (set-same es w) h
+
+-- the reply to a carry is a fault only if the store may fail
+pub carry-cause : {may_fail : Type 0} (n : ℕ) (r : Result Unit Refusal) → FailsOnlyIf may_fail r → FaultsOnlyIf may_fail (step.Carry n) (done_or r)
+carry-cause n (Ok done) cause = tt
+carry-cause n (Err why) cause = cause

@@ -1,8 +1,9 @@
 -- The partials of pieces that are folded separately are the partials of the whole table.
-use Rattle.std.proofs.Common.{◌≡◌, ℕ, suc, ◌+◌, ◌<◌, ◌≤◌, Bool, true, false, List, [], ◌∷◌, ◌++◌, length, refl, sym, ap, subst, ◌∙◌, arith, slice_index_or, Result, Ok, Err, Option, Some}
+use Rattle.std.proofs.Common.{◌≡◌, inl, inr, ℕ, suc, ◌+◌, ◌<◌, ◌≤◌, Bool, true, false, List, [], ◌∷◌, ◌++◌, length, refl, sym, ap, subst, ◌∙◌, arith, slice_index_or, Result, Ok, Err, Option, Some}
 use Rattle.std.specs.Prelude.{◌==◌, cond, IfOk, IsOk, is_ok}
 use Rattle.std.specs.List.{cons_option}
 use Rattle.std.specs.Result.{result_ok}
+use Rattle.std.proofs.lemmas.Bool.{cases_lt}
 use Rattle.std.proofs.lemmas.List.{append_assoc}
 use Rattle.far_types.specs.declared.refusal.Refusal.{Refusal}
 use Rattle.far_types.specs.declared.refusal.Refusal.TheVariants.{NoMemory, BadSchema, BadSpec, NoColumn, WrongKind, RowWidth, TextTooLong, NoRow, RemovedRow, TableFull, ChunkFull, NoAggregate, TooManyAggregates, OutOfRange, Building, Absent, RegionFull, NotPinned, Pinned, StaleJob, FarFault, FarFull, EditsUsedUp}
@@ -55,6 +56,11 @@ is-fault EditsUsedUp up = absurd (omega (arith, up))
 pub rises-only-if : {A may_fail : Type 0} (r : Result A Refusal) → FailsOnlyIf may_fail r → 0 < faults_in r → may_fail
 rises-only-if (Ok x) cause up = absurd (omega (arith, up))
 rises-only-if (Err e) cause up = cause (is-fault e up)
+
+-- a meter that rises by another rises only if the store may fail, if that is so of both
+pub one_cause : {may_fail : Type 0} (before at more : ℕ) → (before < at → may_fail) → (0 < more → may_fail) → before < at + more → may_fail
+one_cause before at more earlier new up =
+    elim (cases_lt before at) [ inl risen ↦ earlier risen | inr still ↦ new (omega (arith, still, up)) ]
 
 module _ (may_fail : Type 0) (spec : Spec) (wide : ℕ) (places : List Place) where
   -- these are the pieces from number i on

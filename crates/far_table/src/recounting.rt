@@ -194,6 +194,7 @@ fn append(
 /// caller's.
 ///
 /// Refused with `FarFault` (21) exactly if the meter rises, else with `NoMemory` (1).
+#[tactic(auto, using(crate::proofs::PiecesLaws::one_cause))]
 fn gather<S: FarTickets>(
     alloc: Global,
     pieces: Vec<Piece>,
