@@ -22,7 +22,7 @@ fold_pieces-requires-clause-all g c κs within =
     omega (arith, held, same, c.len-places.ensures.len)
 
 pub gather-requires-clause-faults_few : goal.gather-requires-clause-faults_few
-gather-requires-clause-faults_few g c =
+gather-requires-clause-faults_few g c κs within =
     let r = c.args.rows.now in
     wide-few g.S.FarTickets.may_fail c.args.spec.now (c.wide_cut-wide.result.cut.long * r.size) (places_in g.S.FarTickets.content r) c.wide_cut-wide.result.pieces c.in_ok-pieces.pieces.items c.in_ok-pieces.ensures.len c.in_ok-pieces.ensures.each
 
