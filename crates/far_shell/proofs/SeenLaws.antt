@@ -10,7 +10,7 @@ use Rattle.far_commands.specs.Rules.{Rules}
 use Rattle.far_commands.specs.TableRules.{table_rules}
 use Rattle.far_commands.specs.WorldRules.{at_seen, both_rules, world_rules}
 use Rattle.far_commands.proofs.RulesLaws.{opened-seen, table-line, world-line}
-use Rattle.far_shell.specs.Scripts.{AnswersLines, AreTurns, Ends, IsNew, IsScript, IsScriptBy, Turn}
+use Rattle.far_shell.specs.Scripts.{AnswersLines, AreTurns, Ends, IsNew, IsScript, IsScriptBy, IsTableScript, Turn}
 
 module _ {V W : Type 0} (a : Rules V) (b : Rules W) (seen : At V → At W)
     (line-as : (old new : At V) (line rows text : List ℕ) → AnswersLine a old line rows text new → AnswersLine b (seen old) line rows text (seen new)) where
@@ -63,5 +63,5 @@ module _ {S K : Type 0} (tickets : Tickets S K) where
   pub world-script : (script text : List ℕ) → IsScriptBy (both_rules tickets) script text → IsScript tickets script text
   world-script = script-as (both_rules tickets) (world_rules tickets) (λ at. at) (world-line tickets) world-new
 
-  pub table-script : (script text : List ℕ) → IsScriptBy (both_rules tickets) script text → IsScriptBy (table_rules tickets.may_fail) script text
+  pub table-script : (script text : List ℕ) → IsScriptBy (both_rules tickets) script text → IsTableScript tickets.may_fail script text
   table-script = script-as (both_rules tickets) (table_rules tickets.may_fail) at_seen (table-line tickets) (λ opened at new. (new.0.1, new.1))

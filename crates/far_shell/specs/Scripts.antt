@@ -98,9 +98,9 @@ module _ {W : Type 0} (rules : Rules W) where
     pub said : text ≡ codes "ok\n" ++ tail
 
 -- the text is the replies to a whole script over a table, for a user who sees its rows and aggregates, and which of its
--- chunks are away or pinned. The far stores of a script never fail
-abbrev pub IsTableScript : List ℕ → List ℕ → Type 0
-IsTableScript script text = IsScriptBy (table_rules ⊥) script text
+-- chunks are away or pinned, and who knows whether its far stores may fail
+abbrev pub IsTableScript : Type 0 → List ℕ → List ℕ → Type 0
+IsTableScript may_fail script text = IsScriptBy (table_rules may_fail) script text
 
 -- the same with objects, space, jobs and the store, so that more is said of the replies
 abbrev pub IsScript : {S K : Type 0} → Tickets S K → List ℕ → List ℕ → Type 0

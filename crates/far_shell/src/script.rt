@@ -38,7 +38,7 @@ fn serve<
         ((bytes : List ℕ) × (text : List ℕ) × Reads R.Read input.old bytes input.new
         × Prints (W.contents writer.old) [] text (W.contents writer.new) output.new.page
         × IsAnswered (IsScript S.FarTickets) bytes (IsAtEnd R.Read input.new) text
-        × IsAnswered IsTableScript bytes (IsAtEnd R.Read input.new) text) }
+        × IsAnswered (IsTableScript S.may_fail) bytes (IsAtEnd R.Read input.new) text) }
     ensures err { IfErr result
         (λ fault. (bytes : List ℕ) × (rest : List ℕ) × (text : List ℕ)
         × Gives R.Read fault input.old input.new bytes rest
@@ -116,7 +116,7 @@ pub fn run_input<T: AllocGlobal + Sync + Threads + Wait, R: Source + Drop, W: Si
     ensures table { OnOk result
         ((bytes : List ℕ) × (text : List ℕ) × Reads R.Read input.old bytes input.new
         × Appends (W.contents writer.old) (W.contents writer.new) text
-        × IsAnswered IsTableScript bytes (IsAtEnd R.Read input.new) text) }
+        × IsAnswered (IsTableScript ⊥) bytes (IsAtEnd R.Read input.new) text) }
     ensures err { IfErr result
         (λ fault. Breaks ⟦<AgentStore<&'static T> as FarTickets>⟧
         (λ _. IsUnseen R.Read R.may_fail input.old input.new) (IsOver R.Read input.new)
@@ -186,7 +186,7 @@ pub fn run_script<T: AllocGlobal + Sync + Threads + Wait, R: Source + Drop, W: S
         ((bytes : List ℕ) × (rest : List ℕ) × (text : List ℕ)
         × IsFrontOf (R.remaining reader) bytes rest
         × Appends (W.contents writer.old) (W.contents writer.new) text
-        × IsAnswered IsTableScript bytes (rest ≡ []) text) }
+        × IsAnswered (IsTableScript ⊥) bytes (rest ≡ []) text) }
     ensures err { IfErr result
         (λ fault. Breaks ⟦<AgentStore<&'static T> as FarTickets>⟧ (IsUnfinished R.may_fail)
         (λ rest. rest ≡ [])
