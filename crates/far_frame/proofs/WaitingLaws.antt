@@ -42,6 +42,6 @@ module _ {X A : Type 0} (t : X → Bool) where
   set-same (e ∷ es) w h = same-step e es w (t e.0) (set-same es w) h
 
 -- the reply to a carry is a fault only if the store may fail
-pub carry-cause : {may_fail : Type 0} (n : ℕ) (r : Result Unit Refusal) → FailsOnlyIf may_fail r → FaultsOnlyIf may_fail (step.Carry n) (done_or r)
-carry-cause n (Ok done) cause = tt
-carry-cause n (Err why) cause = cause
+pub carry-cause : (may_fail : Type 0) (n : ℕ) (r : Result Unit Refusal) → FailsOnlyIf may_fail r → FaultsOnlyIf may_fail (step.Carry n) (done_or r)
+carry-cause may_fail n (Ok done) cause = tt
+carry-cause may_fail n (Err why) cause = cause

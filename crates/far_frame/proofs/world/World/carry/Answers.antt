@@ -7,4 +7,4 @@ use Rattle.far_frame.proofs.world.World.carry.Goals as goal
 
 pub returns-clause-cause : goal.returns-clause-cause
 returns-clause-cause g c =
-    subst (λ (given : Reply). FaultsOnlyIf g.S.FarTickets.may_fail (step.Carry c.args.n) given) (sym c.done_or.ensures) (carry-cause c.args.n c.carry.result c.carry.ensures.cause)
+    subst (λ (given : Reply). FaultsOnlyIf g.S.FarTickets.may_fail (step.Carry c.args.n) given) (sym c.done_or.ensures) (carry-cause g.S.FarTickets.may_fail c.args.n c.carry.result c.carry.ensures.cause)
