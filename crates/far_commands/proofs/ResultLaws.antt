@@ -19,9 +19,9 @@ printed-ok (Ok x) (Ok y) A B Q is a b f = f a b
 printed-ok (Ok x) (Err e) A B Q is a b f = cc is
 printed-ok (Err e) printed A B Q is a b f = tt
 
-pub both-errs : {T E : Type 0} (r : Result T E) (P Q : E → Type 0) → IfErr r P → IfErr r Q → IfErr r (λ e. P e × Q e)
-both-errs (Ok x) P Q p q = tt
-both-errs (Err e) P Q p q = (p, q)
+pub three-errs : {T E : Type 0} (r : Result T E) (P Q R : E → Type 0) → IfErr r P → IfErr r Q → IfErr r R → IfErr r (λ e. P e × Q e × R e)
+three-errs (Ok x) P Q R p q s = tt
+three-errs (Err e) P Q R p q s = (p, q, s)
 
 -- a property of the moved value is a property of what is now in its place
 pub moved-on : {T E F U : Type 0} (r : Result U E) (m : Result T F) (place : T) (P : T → Type 0) → OnOk r (IsOkAnd m (λ new. place ≡ new)) → IfOk m P → OnOk r (P place)

@@ -1,7 +1,8 @@
-use Rattle.std.proofs.Common.{◌≡◌, inl, inr, ap}
+use Rattle.std.proofs.Common.{◌≡◌, ◌⊎◌, inl, inr, ap}
+use Rattle.far_types.specs.declared.refusal.Refusal.TheVariants as refusal
 use Rattle.far_frame.specs.TableViews.{table_of}
 use Rattle.far_commands.specs.Renewals.{IsNotRenewed}
-use Rattle.far_commands.proofs.ResultLaws.{both-errs, both-ways, came-back, each-err, moved-on}
+use Rattle.far_commands.proofs.ResultLaws.{three-errs, both-ways, came-back, each-err, moved-on}
 use Rattle.far_commands.proofs.renewing.migrate.Goals as goal
 
 pub returns-clause-renewed : goal.returns-clause-renewed
@@ -21,7 +22,9 @@ returns-clause-table g c =
 
 pub returns-clause-back : goal.returns-clause-back
 returns-clause-back g c =
-    let cause = each-err c.migrate.result _ _ (λ e either is. elim (either is) [ inl may ↦ may | inr may ↦ may ]) c.migrate.ensures.cause in
+    let may_fail = g.S.FarTickets.may_fail in
+    let either : may_fail ⊎ may_fail → may_fail = λ o. elim o [ inl may ↦ may | inr may ↦ may ] in
+    let cause = each-err c.migrate.result (λ e. e.0 ≡ refusal.FarFault → may_fail ⊎ may_fail) (λ e. e.0 ≡ refusal.FarFault → may_fail) (λ e may is. either (may is)) c.migrate.ensures.cause in
     let back = rw c.replace-old.ensures.value at c.migrate.ensures.back in
     came-back c.put_back.result c.migrate.result c.put_back.new.place (λ why at. IsNotRenewed g.S.FarTickets.may_fail c.args.world.now why at) c.put_back.ensures.back
-    (both-errs c.migrate.result _ _ c.migrate.ensures.refused (both-errs c.migrate.result _ _ cause back))
+    (three-errs c.migrate.result _ (λ e. e.0 ≡ refusal.FarFault → may_fail) _ c.migrate.ensures.refused cause back)
