@@ -1,4 +1,6 @@
 // A store whose first put may be held, or whose gets.
+ghost use Rattle.std.specs.Prelude.{⊤};
+
 use crate::scenes::Gate;
 use far_store::{FarRead, FarStore, FarTickets, GateStore, Meter};
 use far_types::Refusal;
