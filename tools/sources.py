@@ -36,6 +36,13 @@ def text_of(path):
     return read(ROOT / path)
 
 
+def fill(pages, path, what, text):
+    """Writes a text between the marks of a part of a page."""
+    part = re.compile(rf"(<!-- Made by tools/documents: {what}\. -->\n\n).*?(\n\n<!-- Its end\. -->)", re.DOTALL)
+    pages[path], count = part.subn(lambda it: it[1] + text + it[2], pages[path])
+    need(count == 1, f"{path} lacks the marks of the part that is {what}")
+
+
 # ---- definitions
 
 

@@ -1,8 +1,8 @@
-"""The scripts that tools/bench times: whole workloads, and turns of a line or of a job."""
+"""The scripts that tools/bench times: whole workloads, with the aim for each, and turns of a line or of a job."""
 import random
 
 GROUP = 64
-KEYS = 100
+KEYS, MANY_KEYS = 100, 5_000
 TURNS = 4
 AGGREGATES = ["totals 0", "totals 0 by 1", "totals 0 if 0 > 10", "extrema 0", "totals 0 by 1 if 0 > -100", "extrema 0 by 1"]
 AGGREGATES += ["extrema 0 if 0 <= 250", "totals 0 if 0 >= -250 if 0 < 250"]
@@ -21,9 +21,9 @@ def number(draw):
     return draw.randrange(-500, 500)
 
 
-def rows(draw, count, kinds):
+def rows(draw, count, kinds, keys=KEYS):
     """Returns rows of a number alone, or with one of the keys, or with one of 400 texts."""
-    rest = {"int": lambda: "", "int,int": lambda: f",{draw.randrange(KEYS)}", "int,text": lambda: f",town{draw.randrange(400)}"}
+    rest = {"int": lambda: "", "int,int": lambda: f",{draw.randrange(keys)}", "int,text": lambda: f",town{draw.randrange(400)}"}
     return [f"{number(draw)}{rest[kinds]()}\n" for _ in range(count)]
 
 
@@ -38,10 +38,10 @@ def jobs(form, column, groups, first):
     return [form.format(column, group, first + group) for group in range(groups)]
 
 
-def inserts(draw, size, kinds, count):
+def inserts(draw, size, kinds, count, keys=KEYS):
     """Inserts under the first few aggregates, which are asked at the end."""
     asked = [f"ask {it}\n" for it in range(count)]
-    return opening(kinds, AGGREGATES[:count]) + [f"insert {it}" for it in rows(draw, size, kinds)] + asked
+    return opening(kinds, AGGREGATES[:count]) + [f"insert {it}" for it in rows(draw, size, kinds, keys)] + asked
 
 
 def edits(draw, size, count):
@@ -121,17 +121,18 @@ def recounts(draw, size):
     return opening("int,int", ["totals 0 by 1"]) + load(rows(draw, size, "int,int")) + ["recount 0\n"] * 20
 
 
-# For each workload, the function that makes its script, its size, and the function's other arguments.
 def sets(draw, size, count, edited=True):
     """A load of rows, and then sets at random, under the first few aggregates."""
     filled = opening("int,int", AGGREGATES[:count]) + load(rows(draw, size, "int,int"))
     return filled + [f"set {draw.randrange(size)} 0 {number(draw)}\n" for _ in range(size * edited)]
 
 
+# For each workload, the function that makes its script, its size, and the function's other arguments.
 WORKLOADS = {
     "insert_0": (inserts, 200_000, "int", 0),
     "insert_1": (inserts, 200_000, "int", 1),
     "insert_8": (inserts, 100_000, "int,int", 8),
+    "insert_8_keys": (inserts, 100_000, "int,int", 8, MANY_KEYS),
     "insert_text": (inserts, 50_000, "int,text", 1),
     "edits_1": (edits, 200_000, 1),
     "edits_8": (edits, 100_000, 8),
@@ -157,6 +158,16 @@ WORKLOADS = {
     "offloads": (offloads, 2_000),
     "recounts": (recounts, 200_000),
 }
+
+# The aims: the most that a workload should take, as a multiple of the time of the earlier program (docs/PERFORMANCE.md, "Scripts"). The
+# first is for the size above, the second for 8 times that size.
+NAMES_OF = {
+    (1.5, 1.5): "insert_0 insert_1 load_int dump scans scans_extrema lend_int move_4096 offloads recounts",
+    (1.6, 1.6): "asks asks_extrema asks_extrema_by least_goes least_goes_by move_64 move_written_64 move_written_4096",
+    (1.8, 2.0): "insert_8 insert_8_keys edits_1 edits_8 sets_0 sets_1 sets_8",
+    (2.0, 2.0): "insert_text load_text lend_text",
+}
+AIMS = {name: aims for aims, names in NAMES_OF.items() for name in names.split()}
 
 
 # For each turn its name, the lines that open a script, and the turn: a line, or the commands of a job or two. `{0}` and `{1}` are the
