@@ -1,5 +1,5 @@
 -- The jobs of a world, by number.
-use Rattle.std.specs.Prelude.{◌≡◌, ℕ, ◌==◌, Bool, true, List, Option, None, Some, Result, IfSome}
+use Rattle.std.specs.Prelude.{◌≡◌, ℕ, ◌==◌, Bool, true, List, [], ◌∷◌, Option, None, Some, Result, IfSome}
 use Rattle.std.specs.declared.result.Result.TheVariants.{Ok, Err}
 use Rattle.std.specs.List.{All}
 use Rattle.std.specs.Ordering.{nat_cmp}
@@ -25,6 +25,16 @@ is_number n = is_at (nat_cmp n)
 abbrev pub spends : Result Unit Refusal → Bool
 spends (Ok done) = true
 spends (Err given) = refusal_number given == 20
+
+-- what a map lists, or the one entry that is kept beside it
+abbrev pub listed : {A : Type 0} → Option (ℕ × A) → List (ℕ × A) → List (ℕ × A)
+listed None entries = entries
+listed (Some lone) entries = lone ∷ []
+
+-- an entry is kept beside a map only while the map is empty
+abbrev pub IsAlone : {A : Type 0} → Option (ℕ × A) → List (ℕ × A) → Type 0
+IsAlone None entries = Unit {0}
+IsAlone (Some lone) entries = entries ≡ []
 
 module _ {K : Type 0} where
   -- the job with this number
