@@ -1,5 +1,7 @@
 -- When the end of a job is accepted.
-use Rattle.std.specs.Prelude.{◌≡◌, ℕ, ◌<◌, true, false, List, length, Some, option_map, IsSomeAnd}
+use Rattle.std.specs.Prelude.{◌≡◌, ◌↔◌, ◌⊎◌, ℕ, ◌<◌, true, false, List, length, Some, option_map, IsSomeAnd, Result, IsErrOf, IfErr}
+use Rattle.far_types.specs.declared.refusal.Refusal.{Refusal}
+use Rattle.far_types.specs.declared.refusal.Refusal.TheVariants as refusal
 use Rattle.far_pointer.specs.declared.pointer.Pointer.TheVariants.{Remote}
 use Rattle.far_scopes.specs.Memory.{list_in}
 use Rattle.far_scopes.specs.Movement.{Movement, ChangesObject, word_of, record_of, is_local, dirty, version_of, leavings_of, ticket_of, list_of, AreClean, AreHere}
@@ -52,3 +54,24 @@ pub record LeavesRest {X K : Type 0} (meaning : List ℕ → List X) (content : 
   pub others : ChangesObject old new o
   pub clean : AreClean meaning content old → AreClean meaning content new
   pub here : AreHere is_of id new
+
+-- when the commit of a carried evacuation is refused: `valid` says that the job's assumptions hold, `held` that its object has a pin
+pub record RefusesCommit {A : Type 0} (result : Result A Refusal)
+    (valid held : Type 0) : Type 0 where
+  -- the assumptions no longer hold
+  pub stale : IsErrOf result refusal.StaleJob ↔ (¬ valid)
+  -- else the object has a pin
+  pub pinned : IsErrOf result refusal.Pinned ↔ (valid × held)
+  -- no other refusal
+  pub only : IfErr result (λ e. (e ≡ refusal.StaleJob) ⊎ (e ≡ refusal.Pinned))
+
+-- when the install of a carried fetch is refused: `valid` says that the job's assumptions hold, `crowded` that no segment has the space
+pub record RefusesInstall {A : Type 0} (result : Result A Refusal)
+    (valid crowded : Type 0) : Type 0 where
+  -- the assumptions no longer hold
+  pub stale : IsErrOf result refusal.StaleJob ↔ (¬ valid)
+  -- else no segment has the space
+  pub full : IsErrOf result refusal.RegionFull ↔ (valid × crowded)
+  -- no other refusal but `NoMemory`
+  pub only : IfErr result (λ e. (e ≡ refusal.StaleJob)
+      ⊎ ((e ≡ refusal.RegionFull) ⊎ (e ≡ refusal.NoMemory)))

@@ -58,3 +58,13 @@ module _ {K : Type 0} where
   abbrev pub IsFormOf : (K → List ℕ → Type 0) → List ℕ → EvacForm K → Type 0
   IsFormOf is_of id (Dirty bytes) = Unit {0}
   IsFormOf is_of id (Clean own) = is_of own id
+
+-- the job was carried: its far form is in the store with this id
+pub record IsCarriedAt {K : Type 0} (content : K → List ℕ) (is_of : K → List ℕ → Type 0)
+    (id : List ℕ) (job : Evacuation K) (carried : CarriedEvacuation K) : Type 0 where
+  -- the same job
+  pub same_job : carried.job ≡ job
+  -- the ticket is of the job's far form
+  pub ticket : IsFormTicket content job.form carried.ticket
+  -- the ticket is of this store
+  pub here : is_of carried.ticket id

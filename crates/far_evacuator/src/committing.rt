@@ -1,10 +1,10 @@
 // The ends of evacuations.
-ghost use Rattle.std.specs.Prelude.{◌≡◌, ◌≢◌, ℕ, ◌<◌, ◌↔◌, ◌⊎◌, length, IsTrue, OnOk, OnErr, IfErr, IsErrOf, IsSomeAnd};
+ghost use Rattle.std.specs.Prelude.{◌≡◌, ◌≢◌, ◌<◌, ◌↔◌, length, IsTrue, OnOk, OnErr, IsSomeAnd};
 ghost use Rattle.far_codec.specs.Spelling.{IsSpelled};
 ghost use Rattle.far_scopes.specs.Memory.{list_in};
-ghost use Rattle.far_scopes.specs.Movement.{ChangesObject, list_of, pins_of, AreClean, AreHere, AreTracked};
+ghost use Rattle.far_scopes.specs.Movement.{pins_of, AreClean, AreHere, AreTracked};
 ghost use Rattle.far_scopes.specs.Effects.{after_leave};
-ghost use Rattle.far_evacuator.specs.Acceptance.{IsCommittable, IsStill, LeavesRest};
+ghost use Rattle.far_evacuator.specs.Acceptance.{IsCommittable, IsStill, LeavesRest, RefusesCommit};
 
 use crate::evacuation::{Carried, EvacForm};
 use crate::tickets::is_under;
@@ -36,12 +36,9 @@ pub fn commit<T: Elem, S: FarTickets>(
     ensures committed { OnOk result
         (objects.new ≡ after_leave objects.old carried.now.job.object carried.now.ticket) }
     ensures accepted { OnOk result (IsCommittable S.number_of T.spelling objects.old carried.now) }
-    ensures stale { IsErrOf result Refusal.StaleJob
-        ↔ (¬ IsCommittable S.number_of T.spelling objects.old carried.now) }
-    ensures pinned { IsErrOf result Refusal.Pinned
-        ↔ (IsCommittable S.number_of T.spelling objects.old carried.now
-        × (pins_of objects.old carried.now.job.object ≢ 0)) }
-    ensures refused { IfErr result (λ e. (e ≡ Refusal.StaleJob) ⊎ (e ≡ Refusal.Pinned)) }
+    ensures refused { RefusesCommit result
+        (IsCommittable S.number_of T.spelling objects.old carried.now)
+        (pins_of objects.old carried.now.job.object ≢ 0) }
     ensures rest { LeavesRest T.meaning S.content S.is_of (S.store_id store.now) objects.old
         objects.new carried.now.job.object }
     ensures err { OnErr result (objects.new ≡ objects.old) }

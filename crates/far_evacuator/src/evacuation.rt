@@ -2,7 +2,7 @@
 ghost use Rattle.std.specs.Prelude.{◌≡◌, ◌+◌, ◌<◌, ◌^◌, [], ◌∷◌, IfOk, IfErr, IsErr, option_map};
 ghost use Rattle.far_store.specs.Faults.{faults_in, outcome, FailsOnlyIf, RefusedBy};
 ghost use Rattle.far_codec.specs.Spelling.{IsSpelled};
-ghost use Rattle.far_evacuator.specs.Jobs.{IsFormTicket, IsFormOf, IsSpelledForm, IsDirtyForm, put_ticket};
+ghost use Rattle.far_evacuator.specs.Jobs.{IsCarriedAt, IsFormTicket, IsFormOf, IsSpelledForm, IsDirtyForm, put_ticket};
 
 use crate::far_form::FarForm;
 use far_codec::Elem;
@@ -86,9 +86,8 @@ impl<T: Elem, S: FarStore> EvacJob<T, S> {
     ) -> Result<Carried<T, S>, (Refusal, EvacJob<T, S>)>
         requires few { meter.old < 2 ^ 63 }
         requires here { IsFormOf S.is_of (S.store_id store.now) self.form }
-        ensures job { IfOk result (λ carried. carried.job ≡ self) }
-        ensures ticket { IfOk result (λ carried. IsFormTicket S.content self.form carried.ticket) }
-        ensures here { IfOk result (λ carried. S.is_of carried.ticket (S.store_id store.now)) }
+        ensures carried { IfOk result
+            (IsCarriedAt S.content S.is_of (S.store_id store.now) self) }
         ensures back { IfErr result (λ refused. refused.1 ≡ self) }
         ensures dirty { IsErr result → IsDirtyForm self.form }
         ensures faults { meter.new ≡ meter.old + faults_in (outcome result) }

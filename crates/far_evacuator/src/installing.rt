@@ -1,10 +1,10 @@
 // The ends of fetches.
-ghost use Rattle.std.specs.Prelude.{◌≡◌, ℕ, List, ◌<◌, ◌↔◌, ◌⊎◌, length, false, Some, IsTrue, OnOk, OnErr, IfOk, IfErr, IsErrOf, IsSomeAnd, option_map};
+ghost use Rattle.std.specs.Prelude.{◌≡◌, List, ◌<◌, ◌↔◌, ◌⊎◌, length, false, Some, IsTrue, OnOk, OnErr, IfOk, IfErr, IsErrOf, IsSomeAnd, option_map};
 ghost use Rattle.far_log.specs.RegionState.{fits_in};
 ghost use Rattle.far_codec.specs.Spelling.{IsSpelled};
-ghost use Rattle.far_scopes.specs.Movement.{ChangesObject, list_of, ticket_of, AreClean, AreHere};
+ghost use Rattle.far_scopes.specs.Movement.{list_of, ticket_of, AreHere};
 ghost use Rattle.far_scopes.specs.Effects.{after_arrive};
-ghost use Rattle.far_evacuator.specs.Acceptance.{IsInstallable, LeavesRest};
+ghost use Rattle.far_evacuator.specs.Acceptance.{IsInstallable, LeavesRest, RefusesInstall};
 
 use crate::fetching::Fetched;
 use crate::tickets::is_under;
@@ -37,17 +37,11 @@ pub fn install<T: Elem, S: FarTickets>(
         (λ list. objects.new ≡ after_arrive objects.old fetched.now.job.object list)) }
     ensures accepted { OnOk result (IsInstallable S.number_of
         (IsSpelled T.in_range T.has_spelling T.spelling) objects.old fetched.now) }
-    ensures stale { IsErrOf result Refusal.StaleJob
-        ↔ (¬ IsInstallable S.number_of (IsSpelled T.in_range T.has_spelling T.spelling)
-        objects.old fetched.now) }
-    ensures full { IsErrOf result Refusal.RegionFull
-        ↔ (IsInstallable S.number_of (IsSpelled T.in_range T.has_spelling T.spelling) objects.old
-        fetched.now
-        × IsSomeAnd (list_of T.meaning S.content objects.old fetched.now.job.object)
+    ensures refused { RefusesInstall result
+        (IsInstallable S.number_of (IsSpelled T.in_range T.has_spelling T.spelling) objects.old
+        fetched.now)
+        (IsSomeAnd (list_of T.meaning S.content objects.old fetched.now.job.object)
         (λ list. fits_in objects.old.memory.state (length list) ≡ false)) }
-    ensures refused { IfErr result
-        (λ e. (e ≡ Refusal.StaleJob)
-        ⊎ ((e ≡ Refusal.RegionFull) ⊎ (e ≡ Refusal.NoMemory))) }
     ensures rest { LeavesRest T.meaning S.content S.is_of (S.store_id store.now) objects.old
         objects.new fetched.now.job.object }
     ensures err { OnErr result (objects.new ≡ objects.old) }

@@ -1,5 +1,5 @@
 -- The changes of a local region.
-use Rattle.std.specs.Prelude.{◌≡◌, ◌≢◌, ℕ, ◌+◌, ◌-◌, ◌<◌, ◌==◌, not, if◌then◌else◌, List, [], ◌∷◌, ◌++◌, length, take, drop, map, filter, unwrap_or, Option, Some, IsSome, slice_set, slice_index, Contains, All, AllPairs}
+use Rattle.std.specs.Prelude.{◌≡◌, ◌≢◌, ℕ, ◌+◌, ◌-◌, ◌<◌, ◌==◌, not, if◌then◌else◌, List, [], ◌∷◌, ◌++◌, length, take, drop, map, filter, unwrap_or, Option, None, Some, IsSome, slice_set, slice_index, Contains, All, AllPairs}
 use Rattle.far_pointer.specs.declared.pointer.At.{At}
 use Rattle.far_log.specs.RegionState.{Part, SegmentState, RegionState, fill_of, list_at, segment_of, part_of, target_of}
 
@@ -86,6 +86,13 @@ module _ {X : Type 0} where
     pub listed : All (λ offset. IsSome (list_at parts offset)) order
     pub whole : (offset : ℕ) → IsSome (list_at parts offset) → Contains order offset
     pub once : AllPairs (λ offset other. offset ≢ other) order
+
+  -- this location, where no part began, now has this list
+  pub record AddsPart (old new : RegionState X) (at : At) (list : List X) : Type 0 where
+    -- no part began there
+    pub free : part_of old at ≡ None
+    -- only this location changes
+    pub change : ChangesOnly old new at (Some list)
 
   -- new is old with this list as one more part, at this location: the fill of the lowest segment that has the space
   pub record IsPlaced (old new : RegionState X) (at : At) (list : List X) : Type 0 where

@@ -3,7 +3,7 @@ ghost use Rattle.std.specs.Prelude.{◌≡◌, ◌≢◌, ℕ, ◌+◌, ◌-◌,
 ghost use Rattle.std.specs.Borrow.{sem};
 ghost use Rattle.far_log.specs.RegionState.{part_of, used_of, spaces_of, space_of, capacity_of, fits_in, target_of, fit_in_order, segment_of, IsRegion};
 ghost use Rattle.far_log.specs.Skipping.{IsSkip};
-ghost use Rattle.far_log.specs.Effects.{ChangesOnly, WritesPart, after_write_at, IsPlaced, IsEmptyOther, HasNoEmptyOther, IsOrder, Compacts, with_segment, without_part};
+ghost use Rattle.far_log.specs.Effects.{ChangesOnly, WritesPart, after_write_at, AddsPart, IsPlaced, IsEmptyOther, HasNoEmptyOther, IsOrder, Compacts, with_segment, without_part};
 
 use super::compaction::Moved;
 use super::fitting::{fill, none_waits};
@@ -199,8 +199,7 @@ impl<T: Copy + Drop> Region<T> {
     pub fn place(&mut self, items: &[T]) -> Result<At, Refusal>
         requires some { 0 < length items.now }
         ensures placed { IfOk result (λ at. IsPlaced self.old self.new at items.now) }
-        ensures free { IfOk result (λ at. part_of self.old at ≡ None) }
-        ensures change { IfOk result (λ at. ChangesOnly self.old self.new at (Some items.now)) }
+        ensures added { IfOk result (λ at. AddsPart self.old self.new at items.now) }
         ensures space { IfOk result (λ at. spaces_of self.new
             ≡ slice_set (spaces_of self.old) at.segment
             (slice_index (spaces_of self.old) at.segment - length items.now)) }

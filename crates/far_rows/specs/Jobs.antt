@@ -54,6 +54,15 @@ module _ {K : Type 0} where
     IsCarriedEvac (Numbers job) (Texts carried) = ⊥
     IsCarriedEvac (Texts job) (Numbers carried) = ⊥
 
+    -- an evacuation after its carry, to the store with this id
+    pub record IsCarriedEvacAt (is_of : K → List ℕ → Type 0) (id : List ℕ)
+        (job : ByKind (Evacuation K) (Evacuation K))
+        (carried : ByKind (CarriedEvacuation K) (CarriedEvacuation K)) : Type 0 where
+      -- the store has the job's far form
+      pub form : IsCarriedEvac job carried
+      -- its ticket is of this store
+      pub here : is_of (of_either carried).ticket id
+
     -- a fetch after its carry: its bytes are the content of its ticket
     abbrev pub IsCarriedFetch : ByKind (Fetch K) (Fetch K)
         → ByKind (CarriedFetch K) (CarriedFetch K) → Type 0

@@ -2,7 +2,7 @@
 ghost use Rattle.std.specs.Prelude.{◌≡◌, ◌+◌, ◌<◌, ◌^◌, [], ◌∷◌, IfOk, IfErr, IsErr, option_map};
 ghost use Rattle.far_store.specs.Faults.{faults_in, outcome, FailsOnlyIf, RefusedBy};
 ghost use Rattle.far_evacuator.specs.Jobs.{IsFormOf, IsDirtyForm, put_ticket};
-ghost use Rattle.far_rows.specs.Jobs.{of_either, IsCarriedEvac, IsCarriedFetch};
+ghost use Rattle.far_rows.specs.Jobs.{of_either, IsCarriedEvacAt, IsCarriedFetch};
 
 use far_evacuator::{Carried, EvacJob, FetchJob, Fetched};
 use far_store::{FarRead, FarStore, FarTickets, Meter};
@@ -95,9 +95,8 @@ impl<S: FarStore> RowsEvac<S> {
     ) -> Result<RowsCarried<S>, (Refusal, RowsEvac<S>)>
         requires few { meter.old < 2 ^ 63 }
         requires here { IsFormOf S.is_of (S.store_id store.now) (of_either self).form }
-        ensures carried { IfOk result (IsCarriedEvac S.content self) }
-        ensures here { IfOk result
-            (λ carried. S.is_of (of_either carried).ticket (S.store_id store.now)) }
+        ensures carried { IfOk result
+            (IsCarriedEvacAt S.content S.is_of (S.store_id store.now) self) }
         ensures back { IfErr result (λ refused. refused.1 ≡ self) }
         ensures dirty { IsErr result → IsDirtyForm (of_either self).form }
         ensures faults { meter.new ≡ meter.old + faults_in (outcome result) }

@@ -11,11 +11,12 @@ use Rattle.far_pointer.specs.Layout.{is_dirty}
 use Rattle.far_scopes.specs.declared.object_record.ObjectRecord.{ObjectRecord}
 use Rattle.far_scopes.specs.Recency.{has}
 use Rattle.far_scopes.specs.Memory.{Memory, list_in, ChangesList}
-use Rattle.far_scopes.specs.Movement.{Movement, word_of, record_of, is_local, dirty, pins_of, list_of, AreClean, IsTracked, AreTracked}
+use Rattle.far_scopes.specs.Movement.{Movement, ChangesObject, AreHere, word_of, record_of, is_local, dirty, pins_of, list_of, AreClean, IsTracked, AreTracked}
 use Rattle.far_scopes.specs.Effects.{new_record}
 use Rattle.far_scopes.proofs.MemoryWordPlaces.{slice_get-push_last, slice_get-push_other, place-push_last, place-push_other, place-end}
 use Rattle.far_scopes.proofs.RecencyLaws.{has-cons_same, has-cons_other}
 use Rattle.far_scopes.proofs.MovementLaws.{Others, clean-one, list-one, each-one}
+use Rattle.far_scopes.proofs.MovementFrames.{here-one}
 use Rattle.far_scopes.proofs.MovementTransitions.{some-one}
 
 -- the invariant of a new object
@@ -45,6 +46,14 @@ module _ {X K : Type 0} (meaning : List ℕ → List X) (content : K → List �
     records = slice_get-push_other m.records (new_record name (length list));
     lists = λ p ne. change.others p (disjoint p ne);
   }
+
+  -- every other object keeps its word and its record
+  pub changes-made : ChangesObject m with_one (length m.records)
+  changes-made = record { words = others.words; records = others.records }
+
+  -- the new object has no ticket
+  pub here-made : (is_of : K → List ℕ → Type 0) (id : List ℕ) → AreHere is_of id m → AreHere is_of id with_one
+  here-made is_of id here = here-one is_of id m with_one (length m.records) changes-made here (rw (slice_get-push_last m.records (new_record name (length list))) tt)
 
   -- the new object is local, and has no pin
   pub last-made : (is_local with_one (length m.records) ≡ true) × (pins_of with_one (length m.records) ≡ 0)

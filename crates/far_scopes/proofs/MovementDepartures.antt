@@ -11,7 +11,7 @@ use Rattle.far_codec.specs.Spelling.{IsSpelled}
 use Rattle.far_scopes.specs.declared.object_record.ObjectRecord.{ObjectRecord}
 use Rattle.far_scopes.specs.Recency.{has, without}
 use Rattle.far_scopes.specs.Memory.{Memory, list_in, ChangesList}
-use Rattle.far_scopes.specs.Movement.{Movement, word_of, record_of, is_local, pins_of, leavings_of, list_of, AreClean, IsTracked, AreTracked}
+use Rattle.far_scopes.specs.Movement.{Movement, ChangesObject, word_of, record_of, is_local, pins_of, leavings_of, list_of, AreClean, IsTracked, AreTracked}
 use Rattle.far_scopes.proofs.MemoryWordPlaces.{word-read, list-within, slice_get-set_same, slice_get-set_other}
 use Rattle.far_scopes.proofs.RecencyLaws.{has-without_same, has-without_other, once-without}
 use Rattle.far_scopes.proofs.MovementLaws.{Others, clean-one, lists-unchanged, each-one}
@@ -73,6 +73,10 @@ module _ {X K : Type 0} (meaning : List ℕ → List X) (content : K → List �
 
       others-gone : Others meaning content m gone o
       others-gone = record { words = words-gone; records = λ p ne. slice_get-set_other m.records o p left-behind ne; lists = change.others }
+
+      -- every other object keeps its word and its record
+      pub changes-gone : ChangesObject m gone o
+      changes-gone = record { words = others-gone.words; records = others-gone.records }
 
       pub lists-gone : (p : ℕ) → list_of meaning content gone p ≡ list_of meaning content m p
       lists-gone = lists-unchanged meaning content m gone o others-gone (rw (change.here, object_record-gone, found.1) (ap Some means))

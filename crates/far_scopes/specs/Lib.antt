@@ -11,6 +11,8 @@ pub mod Opening
 pub mod Coldest
 pub mod Refusing
 pub mod Effects
+pub mod Keeping
+pub mod Outcomes
 pub mod ObjectsLending
 pub mod Entering
 pub mod Renewal

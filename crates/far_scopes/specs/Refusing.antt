@@ -1,5 +1,5 @@
 -- When calls on objects are refused.
-use Rattle.std.specs.Prelude.{ℕ, ◌==◌, nat_lt, not, if◌then◌else◌, Bool, List, [], ◌∷◌, map, Option, None, Some, Result}
+use Rattle.std.specs.Prelude.{◌≡◌, ◌⊎◌, true, ℕ, ◌==◌, nat_lt, not, if◌then◌else◌, Bool, List, [], ◌∷◌, map, Option, None, Some, Result}
 use Rattle.std.specs.List.{list_any}
 use Rattle.std.specs.declared.result.Result.TheVariants.{Ok, Err}
 use Rattle.std.specs.Option.{option_map_or, option_or}
@@ -9,7 +9,7 @@ use Rattle.far_types.specs.FirstOf.{first_of}
 use Rattle.far_log.specs.RegionState.{fits_in}
 use Rattle.far_scopes.specs.declared.replacement.Replacement.{Replacement}
 use Rattle.far_scopes.specs.Movement.{Movement, record_of, is_local, version_of, pins_of}
-use Rattle.far_scopes.specs.Replacing.{no_space_for_all}
+use Rattle.far_scopes.specs.Replacing.{no_space_for_all, first_fits}
 
 -- the refusal that a call returned, if there is one
 abbrev pub refusal_in : {A : Type 0} → Result A Refusal → Option Refusal
@@ -73,3 +73,12 @@ module _ {X K : Type 0} where
   replace_all_refusal m lists =
       option_or (first_absent m (map (λ r. r.object) lists))
       (first_of (no_space_for_all m.memory.state lists ∷ any_written_out m lists ∷ []))
+
+  -- why the lists of several objects are not replaced (`replace_all`)
+  pub record IsReplaceAllRefused (m : Movement X K) (lists : List (Replacement X))
+      (why : Refusal) : Type 0 where
+    -- the refusal of the objects and of the space; or else memory ran out, and no listed object is away
+    pub reason : (replace_all_refusal m lists ≡ Some why)
+        ⊎ ((first_absent m (map (λ r. r.object) lists) ≡ None) × (why ≡ refusal.NoMemory))
+    -- memory can only run out if the first new list fits
+    pub memory : why ≡ refusal.NoMemory → first_fits m.memory.state lists ≡ true

@@ -8,7 +8,7 @@ use Rattle.far_pointer.specs.declared.pointer.Pointer.{Pointer}
 use Rattle.far_pointer.specs.Layout.{with_at}
 use Rattle.far_log.specs.RegionState.{RegionState, spaces_of, fits_in, fit_in_order}
 use Rattle.far_scopes.specs.declared.replacement.Replacement.{Replacement}
-use Rattle.far_scopes.specs.Memory.{Memory, place_of}
+use Rattle.far_scopes.specs.Memory.{Memory, place_of, list_in}
 use Rattle.far_scopes.specs.Placing.{spot, with_new, without_at}
 use Rattle.far_scopes.specs.Movement.{Movement, dirty, ticket_of, meant, list_of}
 
@@ -68,6 +68,13 @@ module _ {X : Type 0} where
     words = moved_all memory.state memory.words lists;
     state = without_all (with_all memory.state lists) memory.words lists;
   }
+
+  -- each listed object, which is local, has its new list
+  pub record ReplacesLists (old new : Memory X) (lists : List (Replacement X)) : Type 0 where
+    -- the new state
+    pub state : new ≡ replaced_all old lists
+    -- only the listed objects' lists change
+    pub each : ChangesLists (list_in old) (list_in new) lists
 
   -- the memory without the last object, whose part now belongs to object o
   abbrev pub after_take_over : Memory X → ℕ → Memory X

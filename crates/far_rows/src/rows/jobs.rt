@@ -1,5 +1,6 @@
 // Ends jobs on the objects of the rows.
-ghost use Rattle.std.specs.Prelude.{◌≡◌, ◌≢◌, ◌↔◌, ◌⊎◌, OnOk, OnErr, IfErr, IsErrOf};
+ghost use Rattle.std.specs.Prelude.{◌≡◌, ◌≢◌, OnOk, OnErr};
+ghost use Rattle.far_evacuator.specs.Acceptance.{RefusesCommit, RefusesInstall};
 ghost use Rattle.far_rows.specs.Rows.{all_cells};
 ghost use Rattle.far_rows.specs.Jobs.{of_either, AreAt, IsEvacAccepted, IsFetchAccepted, pins_by, after_commit, HasNoSpace, IsAfterInstall};
 
@@ -28,12 +29,8 @@ impl<S: FarTickets> Rows<S> {
         ensures accepted { OnOk result (IsEvacAccepted S.number_of self.old carried.now) }
         ensures cells { all_cells S.content self.new ≡ all_cells S.content self.old }
         ensures here { AreAt S.is_of (S.store_id store.now) self.new }
-        ensures stale { IsErrOf result Refusal.StaleJob
-            ↔ (¬ IsEvacAccepted S.number_of self.old carried.now) }
-        ensures pinned { IsErrOf result Refusal.Pinned
-            ↔ (IsEvacAccepted S.number_of self.old carried.now
-            × (pins_by self.old carried.now ≢ 0)) }
-        ensures refused { IfErr result (λ e. (e ≡ Refusal.StaleJob) ⊎ (e ≡ Refusal.Pinned)) }
+        ensures refused { RefusesCommit result (IsEvacAccepted S.number_of self.old carried.now)
+            (pins_by self.old carried.now ≢ 0) }
         ensures err { OnErr result (self.new ≡ self.old) }
     {
         match &carried.carried {
@@ -65,14 +62,9 @@ impl<S: FarTickets> Rows<S> {
         ensures accepted { OnOk result (IsFetchAccepted S.number_of self.old fetched.now) }
         ensures cells { all_cells S.content self.new ≡ all_cells S.content self.old }
         ensures here { AreAt S.is_of (S.store_id store.now) self.new }
-        ensures stale { IsErrOf result Refusal.StaleJob
-            ↔ (¬ IsFetchAccepted S.number_of self.old fetched.now) }
-        ensures full { IsErrOf result Refusal.RegionFull
-            ↔ (IsFetchAccepted S.number_of self.old fetched.now
-            × HasNoSpace S.content self.old fetched.now) }
-        ensures refused { IfErr result
-            (λ e. (e ≡ Refusal.StaleJob)
-            ⊎ ((e ≡ Refusal.RegionFull) ⊎ (e ≡ Refusal.NoMemory))) }
+        ensures refused { RefusesInstall result
+            (IsFetchAccepted S.number_of self.old fetched.now)
+            (HasNoSpace S.content self.old fetched.now) }
         ensures err { OnErr result (self.new ≡ self.old) }
     {
         match &fetched.fetched {

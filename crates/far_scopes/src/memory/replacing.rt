@@ -4,7 +4,7 @@ ghost use Rattle.std.specs.Option.{option_or};
 ghost use Rattle.far_types.specs.FirstOf.{first_of};
 ghost use Rattle.far_scopes.specs.Memory.{place_of, list_in};
 ghost use Rattle.far_scopes.specs.Refusing.{refusal_in};
-ghost use Rattle.far_scopes.specs.Replacing.{AreListedOnce, ChangesLists, no_space_for_all, first_fits, replaced_all, after_take_over};
+ghost use Rattle.far_scopes.specs.Replacing.{AreListedOnce, no_space_for_all, first_fits, after_take_over, ReplacesLists};
 
 use super::{LocalMemory, at_of, cool_of};
 use crate::replacement::Replacement;
@@ -24,8 +24,7 @@ impl<T: Elem> LocalMemory<T> {
         requires some { All (λ r. 0 < length r.list.items) lists.now }
         requires local { All (λ r. IsSome (place_of self.old.words r.object)) lists.now }
         requires once { AreListedOnce lists.now }
-        ensures ok { OnOk result (self.new ≡ replaced_all self.old lists.now) }
-        ensures lists { OnOk result (ChangesLists (list_in self.old) (list_in self.new) lists.now) }
+        ensures replaced { OnOk result (ReplacesLists self.old self.new lists.now) }
         ensures free { OnOk result (option_or
             (first_of (no_space_for_all self.old.state lists.now ∷ [])) (refusal_in checked)
             ≡ None) }

@@ -1,8 +1,8 @@
 // Compaction of a segment of the objects' local memory.
-ghost use Rattle.std.specs.Prelude.{◌≡◌, ℕ, ◌<◌, ◌≤◌, ◌↔◌, ◌⊎◌, length, OnOk, OnErr, IfErr, IsErrOf, List};
+ghost use Rattle.std.specs.Prelude.{◌≡◌, ◌<◌, ◌≤◌, ◌↔◌, ◌⊎◌, length, OnOk, OnErr, IfErr, IsErrOf};
 ghost use Rattle.far_log.specs.Effects.{HasNoEmptyOther};
 ghost use Rattle.far_scopes.specs.Compaction.{IsCompacted};
-ghost use Rattle.far_scopes.specs.Movement.{list_of, AreClean, AreHere};
+ghost use Rattle.far_scopes.specs.Keeping.{KeepsLists};
 
 use super::Objects;
 use far_codec::Elem;
@@ -22,13 +22,8 @@ impl<T: Elem, S: FarTickets> Objects<T, S> {
     /// - else only `NoMemory` (1).
     pub fn compact(&mut self, alloc: Global, segment: u32) -> Result<(), Refusal>
         ensures compacted { OnOk result (IsCompacted self.old.memory self.new.memory segment) }
-        ensures kept { self.new ≡ record self.old { memory = self.new.memory } }
-        ensures lists { (p : ℕ)
-            → list_of T.meaning S.content self.new p ≡ list_of T.meaning S.content self.old p }
-        ensures clean { AreClean T.meaning S.content self.old
-            → AreClean T.meaning S.content self.new }
-        ensures store { (id : List ℕ) → AreHere S.is_of id self.old
-            → AreHere S.is_of id self.new }
+        ensures rest { self.new ≡ record self.old { memory = self.new.memory } }
+        ensures keeps { KeepsLists T.meaning S.content S.is_of self.old self.new }
         ensures missing { IsErrOf result Refusal.OutOfRange
             ↔ (length self.old.memory.state ≤ segment) }
         ensures full { IsErrOf result Refusal.RegionFull

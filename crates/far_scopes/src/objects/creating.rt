@@ -1,9 +1,11 @@
 // Creates objects, and removes the last one.
-ghost use Rattle.std.specs.Prelude.{◌≡◌, ◌-◌, ◌<◌, ◌^◌, ◌↔◌, ◌⊎◌, ◌∷◌, length, false, true, Some, None, OnOk, OnErr, IfOk, IfErr, IsErrOf, ℕ, List};
-ghost use Rattle.far_log.specs.RegionState.{fits_in, spaces_of, fit_in_order};
+ghost use Rattle.std.specs.Prelude.{◌≡◌, ◌-◌, ◌<◌, ◌^◌, ◌↔◌, ◌⊎◌, length, false, true, None, OnOk, OnErr, IfOk, IfErr, IsErrOf};
+ghost use Rattle.far_log.specs.RegionState.{fits_in};
 ghost use Rattle.far_scopes.specs.Memory.{ChangesList};
-ghost use Rattle.far_scopes.specs.Movement.{list_of, AreClean, is_local, pins_of, AreHere, ChangesObject};
-ghost use Rattle.far_scopes.specs.Effects.{after_create, after_uncreate};
+ghost use Rattle.far_scopes.specs.Movement.{list_of, is_local, pins_of, ChangesObject};
+ghost use Rattle.far_scopes.specs.Effects.{after_uncreate};
+ghost use Rattle.far_scopes.specs.Keeping.{KeepsCopies};
+ghost use Rattle.far_scopes.specs.Outcomes.{IsCreated};
 
 use super::{ObjectRecord, Objects};
 use far_codec::Elem;
@@ -14,8 +16,8 @@ impl<T: Elem, S: FarTickets> Objects<T, S> {
     /// Creates an object with this list. Returns its number, which is the count of objects before the call.
     ///
     /// - The object is local, dirty, hot and the most recently used. Its counts of writes, evictions and pins are 0.
-    /// - `uncreate` undoes the call (`undone`).
-    /// - Further lists fit in order exactly if this list, followed by them, fitted before the call (`next`).
+    /// - `uncreate` undoes the call (`undone` of `IsCreated`).
+    /// - Further lists fit in order exactly if this list, followed by them, fitted before the call (`next` of `IsCreated`).
     ///
     /// A refused call changes nothing. Refused with:
     /// - `RegionFull` (17) exactly if no segment has the space;
@@ -24,20 +26,9 @@ impl<T: Elem, S: FarTickets> Objects<T, S> {
         requires some { 0 < length items.now }
         requires few { length self.old.records < 2 ^ 28 }
         ensures number { IfOk result (λ o. o ≡ length self.old.records) }
-        ensures created { OnOk result (self.new ≡ after_create self.old name items.now) }
-        ensures list { OnOk result (ChangesList (list_of T.meaning S.content self.old)
-            (list_of T.meaning S.content self.new) (length self.old.records) (Some items.now)) }
-        ensures undone { OnOk result (after_uncreate self.new ≡ self.old) }
-        ensures last { OnOk result ((is_local self.new (length self.old.records) ≡ true)
-            × (pins_of self.new (length self.old.records) ≡ 0)) }
-        ensures next { OnOk result ((lens : List ℕ)
-            → fit_in_order (spaces_of self.old.memory.state) (length items.now ∷ lens)
-            ≡ fit_in_order (spaces_of self.new.memory.state) lens) }
-        ensures clean { AreClean T.meaning S.content self.old
-            → AreClean T.meaning S.content self.new }
-        ensures others { OnOk result (ChangesObject self.old self.new (length self.old.records)) }
-        ensures store { (id : List ℕ) → AreHere S.is_of id self.old
-            → AreHere S.is_of id self.new }
+        ensures created { OnOk result
+            (IsCreated T.meaning S.content self.old self.new name items.now) }
+        ensures copies { KeepsCopies T.meaning S.content S.is_of self.old self.new }
         ensures full { IsErrOf result Refusal.RegionFull
             ↔ (fits_in self.old.memory.state (length items.now) ≡ false) }
         ensures refused { IfErr result
@@ -74,11 +65,8 @@ impl<T: Elem, S: FarTickets> Objects<T, S> {
         ensures uncreated { self.new ≡ after_uncreate self.old }
         ensures list { ChangesList (list_of T.meaning S.content self.old)
             (list_of T.meaning S.content self.new) (length self.old.records - 1) None }
-        ensures clean { AreClean T.meaning S.content self.old
-            → AreClean T.meaning S.content self.new }
+        ensures copies { KeepsCopies T.meaning S.content S.is_of self.old self.new }
         ensures others { ChangesObject self.old self.new (length self.old.records - 1) }
-        ensures store { (id : List ℕ) → AreHere S.is_of id self.old
-            → AreHere S.is_of id self.new }
     {
         self.memory.remove_last();
         self.records.pop();

@@ -2,10 +2,11 @@
 ghost use Rattle.std.specs.Prelude.{◌≡◌, ℕ, ◌-◌, ◌<◌, ◌≤◌, ◌++◌, List, length, take, drop, slice_range, true, Some, None, IfOk, IsSomeAnd};
 ghost use Rattle.std.specs.Borrow.{sem};
 ghost use Rattle.far_scopes.specs.Memory.{list_in, ChangesList};
-ghost use Rattle.far_scopes.specs.Movement.{list_of, dirty, is_local, AreClean, AreHere, ChangesObject};
+ghost use Rattle.far_scopes.specs.Movement.{list_of, dirty, is_local, AreClean};
 ghost use Rattle.std.specs.Prelude.{not};
 ghost use Rattle.far_scopes.specs.Refusing.{refusal_in, absent, lend_refusal, write_refusal};
 ghost use Rattle.far_scopes.specs.Effects.{after_write, after_overwrite};
+ghost use Rattle.far_scopes.specs.Keeping.{KeepsWhileLent};
 ghost use Rattle.far_scopes.specs.ObjectsLending.{lends_written};
 
 use super::Objects;
@@ -73,13 +74,8 @@ impl<T: Elem, S: FarTickets> Objects<T, S> {
             → ChangesList (list_of T.meaning S.content self.old)
             (list_of T.meaning S.content (after_overwrite (after_write self.old o) o 0 list)) o
             (Some list) }
-        ensures clean { (list : List T) → length list ≡ length result.now
-            → AreClean T.meaning S.content self.old
-            → AreClean T.meaning S.content (after_overwrite (after_write self.old o) o 0 list) }
-        ensures others { (list : List T)
-            → ChangesObject self.old (after_overwrite (after_write self.old o) o 0 list) o }
-        ensures store { (list : List T) (id : List ℕ) → AreHere S.is_of id self.old
-            → AreHere S.is_of id (after_overwrite (after_write self.old o) o 0 list) }
+        ensures keeps { KeepsWhileLent T.meaning S.content S.is_of self.old o 0
+            (length result.now) }
     {
         self.mark(o);
         let len = self.records[o as usize].len as usize;
@@ -104,14 +100,7 @@ impl<T: Elem, S: FarTickets> Objects<T, S> {
             → ChangesList (list_of T.meaning S.content self.old) (list_of T.meaning S.content
             (after_overwrite (after_write self.old o) o from range)) o
             (Some (take from list ++ (range ++ drop to list)))) }
-        ensures clean { (range : List T) → length range ≡ to - from
-            → AreClean T.meaning S.content self.old
-            → AreClean T.meaning S.content
-            (after_overwrite (after_write self.old o) o from range) }
-        ensures others { (range : List T)
-            → ChangesObject self.old (after_overwrite (after_write self.old o) o from range) o }
-        ensures store { (range : List T) (id : List ℕ) → AreHere S.is_of id self.old
-            → AreHere S.is_of id (after_overwrite (after_write self.old o) o from range) }
+        ensures keeps { KeepsWhileLent T.meaning S.content S.is_of self.old o from (to - from) }
     {
         self.mark(o);
         let memory = &mut self.memory;

@@ -1,11 +1,11 @@
 // Evicts objects, and makes them local again.
-ghost use Rattle.std.specs.Prelude.{◌≡◌, ℕ, ◌<◌, ◌↔◌, ◌⊎◌, length, false, true, Some, None, OnOk, OnErr, IfErr, IfSome, IsSomeAnd, IsErrOf, List};
+ghost use Rattle.std.specs.Prelude.{◌≡◌, ℕ, ◌<◌, ◌↔◌, ◌⊎◌, length, false, Some, OnOk, OnErr, IfErr, IsSomeAnd, IsErrOf};
 ghost use Rattle.far_codec.specs.Spelling.{IsSpelled};
 ghost use Rattle.far_log.specs.RegionState.{fits_in};
-ghost use Rattle.far_scopes.specs.Memory.{list_in, ChangesList};
-ghost use Rattle.far_scopes.specs.Movement.{list_of, AreClean, is_local, pins_of, leavings_of, ticket_of, AreHere, ChangesObject};
-ghost use Rattle.far_scopes.specs.Refusing.{write_refusal};
-ghost use Rattle.far_scopes.specs.Effects.{after_leave, after_arrive, after_replace};
+ghost use Rattle.far_scopes.specs.Memory.{list_in};
+ghost use Rattle.far_scopes.specs.Movement.{list_of, AreClean, is_local, pins_of, leavings_of, AreHere};
+ghost use Rattle.far_scopes.specs.Keeping.{KeepsLists};
+ghost use Rattle.far_scopes.specs.Outcomes.{IsDeparted, IsArrived};
 
 use super::Objects;
 use far_codec::Elem;
@@ -20,12 +20,11 @@ impl<T: Elem, S: FarTickets> Objects<T, S> {
             (λ list. IsSpelled T.in_range T.has_spelling T.spelling list (S.content ticket.now)) }
         requires unpinned { pins_of self.old o ≡ 0 }
         requires left { leavings_of self.old o < self.old.leavings }
-        ensures departed { self.new ≡ after_leave self.old o ticket.now }
+        ensures departed { IsDeparted self.old self.new o ticket.now }
         ensures lists { (p : ℕ)
             → list_of T.meaning S.content self.new p ≡ list_of T.meaning S.content self.old p }
         ensures clean { AreClean T.meaning S.content self.old
             → AreClean T.meaning S.content self.new }
-        ensures others { ChangesObject self.old self.new o }
         ensures store { AreHere S.is_of (S.store_id store.now) self.old
             → AreHere S.is_of (S.store_id store.now) self.new }
     {
@@ -45,14 +44,8 @@ impl<T: Elem, S: FarTickets> Objects<T, S> {
         requires within { o < length self.old.records }
         requires away { is_local self.old o ≡ false }
         requires meant { list_of T.meaning S.content self.old o ≡ Some items.now }
-        ensures arrived { OnOk result (self.new ≡ after_arrive self.old o items.now) }
-        ensures lists { (p : ℕ)
-            → list_of T.meaning S.content self.new p ≡ list_of T.meaning S.content self.old p }
-        ensures clean { AreClean T.meaning S.content self.old
-            → AreClean T.meaning S.content self.new }
-        ensures others { OnOk result (ChangesObject self.old self.new o) }
-        ensures store { (id : List ℕ) → AreHere S.is_of id self.old
-            → AreHere S.is_of id self.new }
+        ensures arrived { OnOk result (IsArrived self.old self.new o items.now) }
+        ensures keeps { KeepsLists T.meaning S.content S.is_of self.old self.new }
         ensures full { IsErrOf result Refusal.RegionFull
             ↔ (fits_in self.old.memory.state (length items.now) ≡ false) }
         ensures refused { IfErr result

@@ -1,8 +1,9 @@
 // Pins, which keep objects local.
-ghost use Rattle.std.specs.Prelude.{◌≡◌, ◌<◌, List, ℕ, length, OnOk, OnErr};
+ghost use Rattle.std.specs.Prelude.{◌≡◌, ◌<◌, length, OnOk, OnErr};
 ghost use Rattle.far_scopes.specs.Refusing.{refusal_in, pin_refusal, unpin_refusal};
 ghost use Rattle.far_scopes.specs.Effects.{after_pin, after_unpin, after_touch};
-ghost use Rattle.far_scopes.specs.Movement.{list_of, AreClean, AreHere, ChangesObject};
+ghost use Rattle.far_scopes.specs.Movement.{ChangesObject};
+ghost use Rattle.far_scopes.specs.Keeping.{KeepsLists};
 
 use super::Objects;
 use far_codec::Elem;
@@ -18,13 +19,8 @@ impl<T: Elem, S: FarTickets> Objects<T, S> {
     pub fn pin(&mut self, o: u32) -> Result<(), Refusal>
         requires { o < length self.old.records }
         ensures pinned { OnOk result (self.new ≡ after_pin self.old o) }
-        ensures lists { (p : ℕ)
-            → list_of T.meaning S.content self.new p ≡ list_of T.meaning S.content self.old p }
-        ensures clean { AreClean T.meaning S.content self.old
-            → AreClean T.meaning S.content self.new }
+        ensures keeps { KeepsLists T.meaning S.content S.is_of self.old self.new }
         ensures others { OnOk result (ChangesObject self.old self.new o) }
-        ensures store { (id : List ℕ) → AreHere S.is_of id self.old
-            → AreHere S.is_of id self.new }
         ensures refused { refusal_in result ≡ pin_refusal self.old o }
         ensures err { OnErr result (self.new ≡ self.old) }
     {
@@ -45,13 +41,8 @@ impl<T: Elem, S: FarTickets> Objects<T, S> {
     pub fn unpin(&mut self, o: u32) -> Result<(), Refusal>
         requires { o < length self.old.records }
         ensures unpinned { OnOk result (self.new ≡ after_unpin self.old o) }
-        ensures lists { (p : ℕ)
-            → list_of T.meaning S.content self.new p ≡ list_of T.meaning S.content self.old p }
-        ensures clean { AreClean T.meaning S.content self.old
-            → AreClean T.meaning S.content self.new }
+        ensures keeps { KeepsLists T.meaning S.content S.is_of self.old self.new }
         ensures others { OnOk result (ChangesObject self.old self.new o) }
-        ensures store { (id : List ℕ) → AreHere S.is_of id self.old
-            → AreHere S.is_of id self.new }
         ensures refused { refusal_in result ≡ unpin_refusal self.old o }
         ensures err { OnErr result (self.new ≡ self.old) }
     {
@@ -68,13 +59,8 @@ impl<T: Elem, S: FarTickets> Objects<T, S> {
     pub fn touch(&mut self, o: u32)
         requires { o < length self.old.records }
         ensures touched { self.new ≡ after_touch self.old o }
-        ensures lists { (p : ℕ)
-            → list_of T.meaning S.content self.new p ≡ list_of T.meaning S.content self.old p }
-        ensures clean { AreClean T.meaning S.content self.old
-            → AreClean T.meaning S.content self.new }
+        ensures keeps { KeepsLists T.meaning S.content S.is_of self.old self.new }
         ensures others { ChangesObject self.old self.new o }
-        ensures store { (id : List ℕ) → AreHere S.is_of id self.old
-            → AreHere S.is_of id self.new }
     {
         self.memory.heat(o as usize);
         self.order.touch(o);

@@ -1,11 +1,12 @@
 // Replaces the lists of objects.
-ghost use Rattle.std.specs.Prelude.{◌≡◌, ℕ, ◌<◌, ◌^◌, ◌⊎◌, List, [], ◌∷◌, true, length, map, All, Some, None, OnOk, OnErr, IfErr};
+ghost use Rattle.std.specs.Prelude.{◌≡◌, ℕ, ◌<◌, ◌^◌, ◌⊎◌, [], ◌∷◌, length, map, All, Some, None, OnOk, OnErr, IfErr};
 ghost use Rattle.far_types.specs.FirstOf.{first_of};
-ghost use Rattle.far_scopes.specs.Memory.{ChangesList};
-ghost use Rattle.far_scopes.specs.Movement.{list_of, AreClean, AreHere, ChangesObject};
-ghost use Rattle.far_scopes.specs.Replacing.{AreListedOnce, ChangesLists, AreCleanElsewhere, first_fits};
-ghost use Rattle.far_scopes.specs.Refusing.{refusal_in, replace_refusal, write_refusal, first_absent, any_written_out, replace_all_refusal};
-ghost use Rattle.far_scopes.specs.Effects.{after_replace, with_lens, after_write_all, after_replace_all};
+ghost use Rattle.far_scopes.specs.Movement.{list_of, AreClean};
+ghost use Rattle.far_scopes.specs.Replacing.{AreListedOnce, AreCleanElsewhere};
+ghost use Rattle.far_scopes.specs.Refusing.{refusal_in, replace_refusal, write_refusal, first_absent, any_written_out, replace_all_refusal, IsReplaceAllRefused};
+ghost use Rattle.far_scopes.specs.Effects.{with_lens, after_write_all};
+ghost use Rattle.far_scopes.specs.Keeping.{KeepsCopies};
+ghost use Rattle.far_scopes.specs.Outcomes.{IsReplaced, AreReplaced};
 
 use super::Objects;
 use crate::object_record::ObjectRecord;
@@ -26,14 +27,9 @@ impl<T: Elem, S: FarTickets> Objects<T, S> {
     pub fn replace(&mut self, o: u32, items: &[T]) -> Result<(), Refusal>
         requires some { 0 < length items.now }
         requires within { o < length self.old.records }
-        ensures replaced { OnOk result (self.new ≡ after_replace self.old o items.now) }
-        ensures list { OnOk result (ChangesList (list_of T.meaning S.content self.old)
-            (list_of T.meaning S.content self.new) o (Some items.now)) }
-        ensures clean { AreClean T.meaning S.content self.old
-            → AreClean T.meaning S.content self.new }
-        ensures others { OnOk result (ChangesObject self.old self.new o) }
-        ensures store { (id : List ℕ) → AreHere S.is_of id self.old
-            → AreHere S.is_of id self.new }
+        ensures replaced { OnOk result
+            (IsReplaced T.meaning S.content self.old self.new o items.now) }
+        ensures copies { KeepsCopies T.meaning S.content S.is_of self.old self.new }
         ensures free { OnOk result (replace_refusal self.old o (length items.now) ≡ None) }
         ensures refused { IfErr result (λ e. (replace_refusal self.old o (length items.now)
             ≡ Some e)
@@ -102,20 +98,11 @@ impl<T: Elem, S: FarTickets> Objects<T, S> {
         requires some { All (λ r. 0 < length r.list.items) lists.now }
         requires within { All (λ r. r.object < length self.old.records) lists.now }
         requires once { AreListedOnce lists.now }
-        ensures replaced { OnOk result (self.new ≡ after_replace_all self.old lists.now) }
-        ensures lists { OnOk result (ChangesLists (list_of T.meaning S.content self.old)
-            (list_of T.meaning S.content self.new) lists.now) }
-        ensures count { length self.new.records ≡ length self.old.records }
-        ensures clean { AreClean T.meaning S.content self.old
-            → AreClean T.meaning S.content self.new }
-        ensures store { (id : List ℕ) → AreHere S.is_of id self.old
-            → AreHere S.is_of id self.new }
+        ensures replaced { OnOk result
+            (AreReplaced T.meaning S.content self.old self.new lists.now) }
+        ensures copies { KeepsCopies T.meaning S.content S.is_of self.old self.new }
         ensures free { OnOk result (replace_all_refusal self.old lists.now ≡ None) }
-        ensures refused { IfErr result (λ e. (replace_all_refusal self.old lists.now ≡ Some e)
-            ⊎ ((first_absent self.old (map (λ r. r.object) lists.now) ≡ None)
-            × (e ≡ Refusal.NoMemory))) }
-        ensures memory { IfErr result
-            (λ e. e ≡ Refusal.NoMemory → first_fits self.old.memory.state lists.now ≡ true) }
+        ensures refused { IfErr result (IsReplaceAllRefused self.old lists.now) }
         ensures err { OnErr result (self.new ≡ self.old) }
     {
         self.all_here(lists)?;

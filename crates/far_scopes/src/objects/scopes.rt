@@ -1,9 +1,10 @@
 // Objects that are pinned together.
-ghost use Rattle.std.specs.Prelude.{◌≡◌, ◌⊎◌, ◌==◌, not, false, IsTrue, ◌<◌, ◌≤◌, ◌^◌, ℕ, List, length, take, All, Some, None, OnOk, OnErr, IfOk, IfErr};
-ghost use Rattle.far_scopes.specs.Movement.{Movement, list_of, AreClean, pins_of, AreHere};
+ghost use Rattle.std.specs.Prelude.{◌≡◌, ◌⊎◌, ◌==◌, not, false, IsTrue, ◌<◌, ◌^◌, length, All, Some, None, OnOk, OnErr, IfOk, IfErr};
+ghost use Rattle.far_scopes.specs.Movement.{Movement, AreClean, pins_of};
 ghost use Rattle.far_scopes.specs.Effects.{after_unpin};
 ghost use Rattle.far_scopes.specs.Refusing.{refusal_in, first_absent};
 ghost use Rattle.far_scopes.specs.Entering.{after_pin_all, enter_refusal, pins_overflow, after_close};
+ghost use Rattle.far_scopes.specs.Keeping.{KeepsLists};
 
 use super::Objects;
 use crate::scope::Scope;
@@ -24,12 +25,7 @@ impl<T: Elem, S: FarTickets> Objects<T, S> {
         requires few { length objects.now < 2 ^ 32 }
         ensures scope { IfOk result (λ scope. scope ≡ objects.now) }
         ensures pinned { OnOk result (self.new ≡ after_pin_all self.old objects.now) }
-        ensures lists { (p : ℕ)
-            → list_of T.meaning S.content self.new p ≡ list_of T.meaning S.content self.old p }
-        ensures clean { AreClean T.meaning S.content self.old
-            → AreClean T.meaning S.content self.new }
-        ensures store { (id : List ℕ) → AreHere S.is_of id self.old
-            → AreHere S.is_of id self.new }
+        ensures keeps { KeepsLists T.meaning S.content S.is_of self.old self.new }
         ensures free { OnOk result (enter_refusal self.old objects.now ≡ None) }
         ensures refused { IfErr result (λ e. (enter_refusal self.old objects.now ≡ Some e)
             ⊎ ((enter_refusal self.old objects.now ≡ None) × (e ≡ Refusal.NoMemory))) }
@@ -110,12 +106,7 @@ impl<T: Elem, S: FarTickets> Objects<T, S> {
         requires { All (λ o. o < length self.old.records) scope }
         ensures closed { self.new ≡ (after_close self.old scope).0 }
         ensures count { result ≡ (after_close self.old scope).1 }
-        ensures lists { (p : ℕ)
-            → list_of T.meaning S.content self.new p ≡ list_of T.meaning S.content self.old p }
-        ensures clean { AreClean T.meaning S.content self.old
-            → AreClean T.meaning S.content self.new }
-        ensures store { (id : List ℕ) → AreHere S.is_of id self.old
-            → AreHere S.is_of id self.new }
+        ensures keeps { KeepsLists T.meaning S.content S.is_of self.old self.new }
     {
         let Scope { objects } = scope;
         let mut taken = 0;

@@ -48,15 +48,15 @@ module _ (g : Over) (c : goal.After-self-2-1 g) where
   layout = c.deref.ensures.value ∙ layout-first c.self.inside.next.items c.args.x c.self.inside.default_value c.self.inside.size c.self.invariant.shaped.some c.self.invariant.long c.self.invariant.default_value
 
   has : list_of g.T.Elem.meaning g.S.FarTickets.content c.create.new.self (length c.args.objects.now.records) ≡ Some (c.args.x ∷ replicate (c.self.inside.size - 1) c.self.inside.default_value)
-  has = c.in_ok-o.ensures.list.here ∙ ap Some layout
+  has = c.in_ok-o.ensures.created.list.here ∙ ap Some layout
 
 pub returns-clause-pushed : goal.returns-clause-pushed
 returns-clause-pushed g c =
     let group : c.len.result ≡ length c.self.inside.objects.items = c.len.ensures ∙ c.reserve.new.self.ok.0 ∙ ap length c.reserve.ensures.items in
-    let created = c.in_ok-o.ensures.created
+    let created = c.in_ok-o.ensures.created.state
     ∙ ap (λ n. after_create c.args.objects.now record { column = c.self.inside.column; group = n } c.deref.result.now) group
     ∙ ap (after_create c.args.objects.now record { column = c.self.inside.column; group = length c.self.inside.objects.items }) (layout g c) in
-    let more = elements-begun (list_of g.T.Elem.meaning g.S.FarTickets.content c.args.objects.now) (list_of g.T.Elem.meaning g.S.FarTickets.content c.create.new.self) (view g c) c.self.invariant.shaped (is g c) (full g c) (length c.args.objects.now.records) c.in_ok-o.ensures.list.others c.args.x (has g c) (below g c) in
+    let more = elements-begun (list_of g.T.Elem.meaning g.S.FarTickets.content c.args.objects.now) (list_of g.T.Elem.meaning g.S.FarTickets.content c.create.new.self) (view g c) c.self.invariant.shaped (is g c) (full g c) (length c.args.objects.now.records) c.in_ok-o.ensures.created.list.others c.args.x (has g c) (below g c) in
     let free : first_of (no_space c.args.objects.now (length c.args.objects.now.records) c.self.inside.size ∷ []) ≡ None = search rules in
     let long : length c.deref.result.now ≡ c.self.inside.size = ap length c.deref.ensures.value ∙ length-set c.self.inside.next.items 0 c.args.x ∙ c.self.invariant.long in
     rw (← c.self.view_is, objects-are g c) (pushed-begun g.T.Elem.meaning g.S.FarTickets.content c.args.objects.now c.create.new.self (view g c) c.args.x
@@ -64,22 +64,22 @@ returns-clause-pushed g c =
     created more
     record {
       unpushed = unpushed-begun (view g c) (length c.args.objects.now.records);
-      uncreated = c.in_ok-o.ensures.undone;
-      local = c.in_ok-o.ensures.last.0;
-      unpinned = c.in_ok-o.ensures.last.1;
-      next = λ lens. subst (λ n. fit_in_order (spaces_of c.args.objects.now.memory.state) (n ∷ lens) ≡ fit_in_order (spaces_of c.create.new.self.memory.state) lens) long (c.in_ok-o.ensures.next lens);
+      uncreated = c.in_ok-o.ensures.created.undone;
+      local = c.in_ok-o.ensures.created.last.0;
+      unpinned = c.in_ok-o.ensures.created.last.1;
+      next = λ lens. subst (λ n. fit_in_order (spaces_of c.args.objects.now.memory.state) (n ∷ lens) ≡ fit_in_order (spaces_of c.create.new.self.memory.state) lens) long (c.in_ok-o.ensures.created.next lens);
     } free)
 
 pub returns-clause-changes : goal.returns-clause-changes
 returns-clause-changes g c =
-    rw (← c.self.view_is, objects-are g c) (changed-begun (list_of g.T.Elem.meaning g.S.FarTickets.content c.args.objects.now) (list_of g.T.Elem.meaning g.S.FarTickets.content c.create.new.self) (view g c) c.self.invariant.shaped (is g c) (full g c) (length c.args.objects.now.records) c.in_ok-o.ensures.list.others c.args.x (has g c)
+    rw (← c.self.view_is, objects-are g c) (changed-begun (list_of g.T.Elem.meaning g.S.FarTickets.content c.args.objects.now) (list_of g.T.Elem.meaning g.S.FarTickets.content c.create.new.self) (view g c) c.self.invariant.shaped (is g c) (full g c) (length c.args.objects.now.records) c.in_ok-o.ensures.created.list.others c.args.x (has g c)
     (λ w is-w k d within. in-use g.T.Elem.meaning g.S.FarTickets.content _ c.args.objects.now c.number.ensures.tracked _ _ (is-w.whole k d within)))
 
 pub returns-clause-keeps : goal.returns-clause-keeps
 returns-clause-keeps g c =
     let o = object-begun (view g c) (length c.args.objects.now.records) c.self.invariant.shaped (full g c) in
     rw (← c.self.view_is, objects-are g c, o) record {
-      lists = c.in_ok-o.ensures.list.others;
-      others = c.in_ok-o.ensures.others;
-      copies = record { clean = c.create.ensures.clean; store = c.create.ensures.store };
+      lists = c.in_ok-o.ensures.created.list.others;
+      others = c.in_ok-o.ensures.created.others;
+      copies = record { clean = c.create.ensures.copies.clean; store = c.create.ensures.copies.store };
     }

@@ -102,9 +102,9 @@ returns g c = (
       elements = elements-are g c range long;
       vector = changed-written (lists g c (was g c)) (lists g c (now g c range long)) (v g c) (shaped g c) c.requires.is c.args.from range (places g c range long) (others g c range long) (inside g c) (omega (arith, long, within g c, c.requires.some));
       lists = others g c range long;
-      clean = λ clean. subst (λ (m : Movement g.row.T.Denot g.row.S-Ticket.Denot). AreClean g.T.Elem.meaning g.S.FarTickets.content m) (is-after_write g c range) (c.lend_range_mut.ensures.clean range (omega (arith, long)) clean);
+      clean = λ clean. subst (λ (m : Movement g.row.T.Denot g.row.S-Ticket.Denot). AreClean g.T.Elem.meaning g.S.FarTickets.content m) (is-after_write g c range) (c.lend_range_mut.ensures.keeps.clean range (omega (arith, long)) clean);
     };
-    others = λ range. at-place g.T.Elem.meaning g.S.FarTickets.content c.args.objects.now c.args.vector.now (λ p size. ChangesObject c.args.objects.now (after_overwrite (after_write c.args.objects.now p) p (c.args.from % size) range) p) c.args.from c.writable_at-o.result c.vector.inside.size c.writable_at-o.ensures.object (size-is g c) (c.lend_range_mut.ensures.others range);
-    store = λ range id here. subst (λ (m : Movement g.row.T.Denot g.row.S-Ticket.Denot). AreHere g.S.FarTickets.is_of id m) (is-after_write g c range) (c.lend_range_mut.ensures.store range id here);
+    others = λ range. at-place g.T.Elem.meaning g.S.FarTickets.content c.args.objects.now c.args.vector.now (λ p size. ChangesObject c.args.objects.now (after_overwrite (after_write c.args.objects.now p) p (c.args.from % size) range) p) c.args.from c.writable_at-o.result c.vector.inside.size c.writable_at-o.ensures.object (size-is g c) (c.lend_range_mut.ensures.keeps.others range);
+    store = λ range id here. subst (λ (m : Movement g.row.T.Denot g.row.S-Ticket.Denot). AreHere g.S.FarTickets.is_of id m) (is-after_write g c range) (c.lend_range_mut.ensures.keeps.store range id here);
   },
 )

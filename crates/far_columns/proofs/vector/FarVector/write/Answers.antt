@@ -65,9 +65,9 @@ returns-clause-keeps g c =
     record {
       lists = subst (λ (m : Movement g.row.T.Denot g.row.S-Ticket.Denot). KeepsOthers (list_of g.T.Elem.meaning g.S.FarTickets.content c.args.objects.now) (list_of g.T.Elem.meaning g.S.FarTickets.content m) (object_at c.args.self.now c.args.at.place)) (sym (is-after_write g c))
           (others-range g.T.Elem.meaning g.S.FarTickets.content c.args.objects.now c.args.self.now (shaped g c) c.requires.is c.args.at.place 1 c.requires.within (fits g c) (there g c) (changes g c) (c.args.x ∷ []) refl);
-      others = subst (ChangesObject c.args.objects.now (now g c)) c.requires.object (c.lend_range_mut-range.ensures.others (set c.lend_range_mut-range.result.now 0 c.args.x));
+      others = subst (ChangesObject c.args.objects.now (now g c)) c.requires.object (c.lend_range_mut-range.ensures.keeps.others (set c.lend_range_mut-range.result.now 0 c.args.x));
       copies = record {
-        clean = c.lend_range_mut-range.ensures.clean (set c.lend_range_mut-range.result.now 0 c.args.x) (set-long g c);
-        store = c.lend_range_mut-range.ensures.store (set c.lend_range_mut-range.result.now 0 c.args.x);
+        clean = c.lend_range_mut-range.ensures.keeps.clean (set c.lend_range_mut-range.result.now 0 c.args.x) (set-long g c);
+        store = c.lend_range_mut-range.ensures.keeps.store (set c.lend_range_mut-range.result.now 0 c.args.x);
       };
     }

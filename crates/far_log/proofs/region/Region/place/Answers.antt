@@ -41,19 +41,12 @@ invariant_of-self-2 g c =
       skipped = rw placed (skip-set state c.after_search-skip.result skip first s c.with_space-self-inside.result takes.0 (subst (IsSpaced c.after_search-skip.result c.with_space-self-inside.result first) space c.with_space-self-inside.ensures));
     }
 
-pub returns-clause-free : goal.returns-clause-free
-returns-clause-free g c =
+pub returns-clause-added : goal.returns-clause-added
+returns-clause-added g c =
     let first = c.in-Some.found.first in
     let at : At = record { segment = first; offset = c.in_ok-offset.offset } in
     let all = places c.args.self.now at c.args.items.now c.in-Some.ensures.sound c.requires.some (sym c.in-Some.ensures.lowest) (c.in_ok-offset.ensures.offset ∙ ap (λ r. fill_of (segment_of r first)) c.self.view_is) in
-    all.free
-
-pub returns-clause-change : goal.returns-clause-change
-returns-clause-change g c =
-    let first = c.in-Some.found.first in
-    let at : At = record { segment = first; offset = c.in_ok-offset.offset } in
-    let all = places c.args.self.now at c.args.items.now c.in-Some.ensures.sound c.requires.some (sym c.in-Some.ensures.lowest) (c.in_ok-offset.ensures.offset ∙ ap (λ r. fill_of (segment_of r first)) c.self.view_is) in
-    rw (c.in_ok-offset.ensures.placed, c.self.view_is) all.change
+    record { free = all.free; change = rw (c.in_ok-offset.ensures.placed, c.self.view_is) all.change }
 
 pub returns-clause-space : goal.returns-clause-space
 returns-clause-space g c =

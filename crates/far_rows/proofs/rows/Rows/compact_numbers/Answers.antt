@@ -4,7 +4,7 @@ use Rattle.far_rows.proofs.MovingCells.{numbers-moved, numbers-unchanged}
 use Rattle.far_rows.proofs.rows.Rows.compact_numbers.Goals as goal
 
 pub invariant_of-self : goal.invariant_of-self
-invariant_of-self g c = numbers-moved g.S.FarTickets.content c.self.invariant c.compact.new.self c.compact.ensures.lists (ap names_of c.compact.ensures.kept) (c.compact.ensures.clean c.self.invariant.clean_numbers)
+invariant_of-self g c = numbers-moved g.S.FarTickets.content c.self.invariant c.compact.new.self c.compact.ensures.keeps.lists (ap names_of c.compact.ensures.rest) (c.compact.ensures.keeps.copies.clean c.self.invariant.clean_numbers)
 
 pub returns-clause-kept : goal.returns-clause-kept
-returns-clause-kept g c = numbers-unchanged g.S.FarTickets.content c.self.view_is g.S.FarTickets.is_of c.compact.new.self c.compact.ensures.lists c.compact.ensures.store
+returns-clause-kept g c = numbers-unchanged g.S.FarTickets.content c.self.view_is g.S.FarTickets.is_of c.compact.new.self c.compact.ensures.keeps.lists c.compact.ensures.keeps.copies.store

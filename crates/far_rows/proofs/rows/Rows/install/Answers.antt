@@ -15,3 +15,9 @@ invariant_of-self-in-Texts g c = texts-moved g.S.FarTickets.content c.self.invar
 
 pub returns-in-Texts-clause-cells : goal.returns-in-Texts-clause-cells
 returns-in-Texts-clause-cells g c = text-cells g.S.FarTickets.content c.self.view_is c.install-in-Texts.new.objects c.install-in-Texts.ensures.rest.lists
+
+pub returns-in-Numbers-clause-refused : goal.returns-in-Numbers-clause-refused
+returns-in-Numbers-clause-refused g c = rw (← c.self.view_is, ← c.fetched.view_is, c.in-Numbers.is) c.install.ensures.refused
+
+pub returns-in-Texts-clause-refused : goal.returns-in-Texts-clause-refused
+returns-in-Texts-clause-refused g c = rw (← c.self.view_is, ← c.fetched.view_is, c.in-Texts.is) c.install-in-Texts.ensures.refused

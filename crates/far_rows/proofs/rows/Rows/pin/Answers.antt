@@ -7,16 +7,16 @@ use Rattle.far_rows.proofs.NamingLaws.{names-with, still-named}
 use Rattle.far_rows.proofs.rows.Rows.pin.Goals as goal
 
 pub invariant_of-self : goal.invariant_of-self
-invariant_of-self g c = numbers-moved g.S.FarTickets.content c.self.invariant c.pin.new.self c.pin.ensures.lists (still-named _ _ _ c.pin.result c.pin.ensures.pinned c.pin.ensures.err (names-with c.self.inside.number_objects.records c.in-Number.o _ (λ object_record. refl))) (c.pin.ensures.clean c.self.invariant.clean_numbers)
+invariant_of-self g c = numbers-moved g.S.FarTickets.content c.self.invariant c.pin.new.self c.pin.ensures.keeps.lists (still-named _ _ _ c.pin.result c.pin.ensures.pinned c.pin.ensures.err (names-with c.self.inside.number_objects.records c.in-Number.o _ (λ object_record. refl))) (c.pin.ensures.keeps.copies.clean c.self.invariant.clean_numbers)
 
 pub returns-in-Number-clause-kept : goal.returns-in-Number-clause-kept
-returns-in-Number-clause-kept g c = numbers-unchanged g.S.FarTickets.content c.self.view_is g.S.FarTickets.is_of c.pin.new.self c.pin.ensures.lists c.pin.ensures.store
+returns-in-Number-clause-kept g c = numbers-unchanged g.S.FarTickets.content c.self.view_is g.S.FarTickets.is_of c.pin.new.self c.pin.ensures.keeps.lists c.pin.ensures.keeps.copies.store
 
 pub invariant_of-self-in-Text : goal.invariant_of-self-in-Text
-invariant_of-self-in-Text g c = texts-moved g.S.FarTickets.content c.self.invariant c.pin-in-Text.new.self c.pin-in-Text.ensures.lists (still-named _ _ _ c.pin-in-Text.result c.pin-in-Text.ensures.pinned c.pin-in-Text.ensures.err (names-with c.self.inside.text_objects.records c.in-Text.o _ (λ object_record. refl))) (c.pin-in-Text.ensures.clean c.self.invariant.clean_texts)
+invariant_of-self-in-Text g c = texts-moved g.S.FarTickets.content c.self.invariant c.pin-in-Text.new.self c.pin-in-Text.ensures.keeps.lists (still-named _ _ _ c.pin-in-Text.result c.pin-in-Text.ensures.pinned c.pin-in-Text.ensures.err (names-with c.self.inside.text_objects.records c.in-Text.o _ (λ object_record. refl))) (c.pin-in-Text.ensures.keeps.copies.clean c.self.invariant.clean_texts)
 
 pub returns-in-Text-clause-kept : goal.returns-in-Text-clause-kept
-returns-in-Text-clause-kept g c = texts-unchanged g.S.FarTickets.content c.self.view_is g.S.FarTickets.is_of c.pin-in-Text.new.self c.pin-in-Text.ensures.lists c.pin-in-Text.ensures.store
+returns-in-Text-clause-kept g c = texts-unchanged g.S.FarTickets.content c.self.view_is g.S.FarTickets.is_of c.pin-in-Text.new.self c.pin-in-Text.ensures.keeps.lists c.pin-in-Text.ensures.keeps.copies.store
 
 pub returns-in-Number-clause-refused : goal.returns-in-Number-clause-refused
 returns-in-Number-clause-refused g c =

@@ -1,4 +1,4 @@
 use Rattle.far_rows_tests.proofs.scopes.calls.pin_together.Goals as goal
 
 pub returns : goal.returns
-returns g c = λ id here. c.close.ensures.store id (c.in_ok-scope.ensures.store id here)
+returns g c = λ id here. c.close.ensures.keeps.copies.store id (c.in_ok-scope.ensures.store id here)

@@ -29,28 +29,26 @@ returns-in-Err-clause-refused g t c =
 pub take_over-requires-clause-other : goal.take_over-requires-clause-other
 take_over-requires-clause-other g t c κs within =
     let placed = c.in_ok-add.ensures.ok ∙ ap (with_object c.args.self.now) c.deref.ensures.value in
-    first-other c.args.self.now c.in-Some.first.now c.in-Some.rest.now c.args.lists.now c.in-Some.ensures.cases.0 c.requires.local c.requires.once c.add.new.self placed c.replace_all.new.self c.in_default-replace_all.ensures.ok
+    first-other c.args.self.now c.in-Some.first.now c.in-Some.rest.now c.args.lists.now c.in-Some.ensures.cases.0 c.requires.local c.requires.once c.add.new.self placed c.replace_all.new.self c.in_default-replace_all.ensures.replaced.state
 
 pub take_over-requires-clause-local : goal.take_over-requires-clause-local
 take_over-requires-clause-local g t c κs within =
     let placed = c.in_ok-add.ensures.ok ∙ ap (with_object c.args.self.now) c.deref.ensures.value in
-    local-first c.args.self.now c.in-Some.first.now c.in-Some.rest.now c.args.lists.now c.in-Some.ensures.cases.0 c.requires.local c.requires.once c.add.new.self placed c.replace_all.new.self c.in_default-replace_all.ensures.ok
+    local-first c.args.self.now c.in-Some.first.now c.in-Some.rest.now c.args.lists.now c.in-Some.ensures.cases.0 c.requires.local c.requires.once c.add.new.self placed c.replace_all.new.self c.in_default-replace_all.ensures.replaced.state
 
 pub take_over-requires-clause-last : goal.take_over-requires-clause-last
 take_over-requires-clause-last g t c κs within =
     let placed = c.in_ok-add.ensures.ok ∙ ap (with_object c.args.self.now) c.deref.ensures.value in
-    local-last c.args.self.now c.in-Some.first.now c.in-Some.rest.now c.args.lists.now c.in-Some.ensures.cases.0 c.requires.local c.requires.once c.add.new.self placed c.replace_all.new.self c.in_default-replace_all.ensures.ok
+    local-last c.args.self.now c.in-Some.first.now c.in-Some.rest.now c.args.lists.now c.in-Some.ensures.cases.0 c.requires.local c.requires.once c.add.new.self placed c.replace_all.new.self c.in_default-replace_all.ensures.replaced.state
 
-pub returns-clause-ok : goal.returns-clause-ok
-returns-clause-ok g t c =
-    let placed = c.in_ok-add.ensures.ok ∙ ap (with_object c.args.self.now) c.deref.ensures.value in
-    replaced-is c.args.self.now c.in-Some.first.now c.in-Some.rest.now c.args.lists.now c.in-Some.ensures.cases.0 c.requires.local c.requires.once c.add.new.self placed c.replace_all.new.self c.in_default-replace_all.ensures.ok c.take_over.new.self c.take_over.ensures.effect
-
-pub returns-clause-lists : goal.returns-clause-lists
-returns-clause-lists g t c =
+pub returns-clause-replaced : goal.returns-clause-replaced
+returns-clause-replaced g t c =
     let placed = c.in_ok-add.ensures.ok ∙ ap (with_object c.args.self.now) c.deref.ensures.value in
     let first = subst (λ l. ChangesList (list_in c.args.self.now) (list_in c.add.new.self) (length c.args.self.now.words) (Some l)) c.deref.ensures.value c.in_ok-add.ensures.list in
-    lists-replaced c.args.self.now c.in-Some.first.now c.in-Some.rest.now c.args.lists.now c.in-Some.ensures.cases.0 c.requires.local c.requires.once c.add.new.self placed c.replace_all.new.self c.in_default-replace_all.ensures.ok c.take_over.new.self c.take_over.ensures.effect first c.in_default-replace_all.ensures.lists c.take_over.ensures.here c.take_over.ensures.others
+    record {
+      state = replaced-is c.args.self.now c.in-Some.first.now c.in-Some.rest.now c.args.lists.now c.in-Some.ensures.cases.0 c.requires.local c.requires.once c.add.new.self placed c.replace_all.new.self c.in_default-replace_all.ensures.replaced.state c.take_over.new.self c.take_over.ensures.effect;
+      each = lists-replaced c.args.self.now c.in-Some.first.now c.in-Some.rest.now c.args.lists.now c.in-Some.ensures.cases.0 c.requires.local c.requires.once c.add.new.self placed c.replace_all.new.self c.in_default-replace_all.ensures.replaced.state c.take_over.new.self c.take_over.ensures.effect first c.in_default-replace_all.ensures.replaced.each c.take_over.ensures.here c.take_over.ensures.others;
+    }
 
 pub returns-clause-free : goal.returns-clause-free
 returns-clause-free g t c =

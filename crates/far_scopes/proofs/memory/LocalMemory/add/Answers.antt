@@ -8,12 +8,12 @@ use Rattle.far_scopes.proofs.memory.LocalMemory.add.Goals as goal
 
 pub invariant_of-self-2 : goal.invariant_of-self-2
 invariant_of-self-2 g c = rw (c.push_reserved.ensures.items, c.reserve.ensures.items) record {
-  memory = memory-with_object c.self.inside.words.items c.self.inside.region c.place.new.self c.self.invariant.memory c.local_word.result c.in_ok-at.at c.args.items.now (ap at_of c.local_word.ensures) c.in_ok-at.ensures.free c.in_ok-at.ensures.change c.in_ok-at.ensures.sound;
+  memory = memory-with_object c.self.inside.words.items c.self.inside.region c.place.new.self c.self.invariant.memory c.local_word.result c.in_ok-at.at c.args.items.now (ap at_of c.local_word.ensures) c.in_ok-at.ensures.added.free c.in_ok-at.ensures.added.change c.in_ok-at.ensures.sound;
   count = count-pushed c.self.inside.words.items c.local_word.result c.self.inside.cool c.self.invariant.count (ap cool_of c.local_word.ensures);
 }
 
 pub returns-clause-list : goal.returns-clause-list
-returns-clause-list g c = rw (← c.self.view_is, c.push_reserved.ensures.items, c.reserve.ensures.items) (list-with_object c.self.inside.words.items c.self.inside.region c.place.new.self c.self.invariant.memory c.local_word.result c.in_ok-at.at c.args.items.now (ap at_of c.local_word.ensures) c.in_ok-at.ensures.free c.in_ok-at.ensures.change)
+returns-clause-list g c = rw (← c.self.view_is, c.push_reserved.ensures.items, c.reserve.ensures.items) (list-with_object c.self.inside.words.items c.self.inside.region c.place.new.self c.self.invariant.memory c.local_word.result c.in_ok-at.at c.args.items.now (ap at_of c.local_word.ensures) c.in_ok-at.ensures.added.free c.in_ok-at.ensures.added.change)
 
 pub returns-clause-undone : goal.returns-clause-undone
 returns-clause-undone g c =

@@ -14,7 +14,7 @@ invariant_of-self-2 g c =
     let away : slice_get c.self.inside.words.items c.args.o ≡ Some Remote = subst (λ m. slice_get m.words c.args.o ≡ Some Remote) (sym c.self.view_is) c.requires.away in
     record {
       memory = memory-after_bring c.self.inside.words.items c.self.inside.region c.place.new.self c.self.invariant.memory c.args.o c.local_word.result c.in_ok-at.at c.args.items.now
-          (slice_get_within c.self.inside.words.items c.args.o Remote away) (ap (option_and_then at_of) away) (ap at_of c.local_word.ensures) c.in_ok-at.ensures.free c.in_ok-at.ensures.change c.in_ok-at.ensures.sound;
+          (slice_get_within c.self.inside.words.items c.args.o Remote away) (ap (option_and_then at_of) away) (ap at_of c.local_word.ensures) c.in_ok-at.ensures.added.free c.in_ok-at.ensures.added.change c.in_ok-at.ensures.sound;
       count = count-same c.self.inside.words.items c.args.o Remote away c.self.inside.cool c.self.invariant.count c.local_word.result (ap cool_of c.local_word.ensures);
     }
 
@@ -22,4 +22,4 @@ pub returns-clause-list : goal.returns-clause-list
 returns-clause-list g c =
     let away : slice_get c.self.inside.words.items c.args.o ≡ Some Remote = subst (λ m. slice_get m.words c.args.o ≡ Some Remote) (sym c.self.view_is) c.requires.away in
     rw (← c.self.view_is) (list-after_bring c.self.inside.words.items c.self.inside.region c.place.new.self c.self.invariant.memory c.args.o c.local_word.result c.in_ok-at.at c.args.items.now
-    (slice_get_within c.self.inside.words.items c.args.o Remote away) (ap (option_and_then at_of) away) (ap at_of c.local_word.ensures) c.in_ok-at.ensures.free c.in_ok-at.ensures.change)
+    (slice_get_within c.self.inside.words.items c.args.o Remote away) (ap (option_and_then at_of) away) (ap at_of c.local_word.ensures) c.in_ok-at.ensures.added.free c.in_ok-at.ensures.added.change)

@@ -13,7 +13,7 @@ invariant_of-self-2 g c =
     let there = word-read c.self.inside.words.items c.args.o c.index-word.result.now within c.index-word.ensures in
     record {
       memory = memory-replaced c.self.inside.words.items c.self.inside.region c.drop_at.new.self c.self.invariant.memory c.args.o c.with_at.result c.at_of.result c.in_ok-at.at c.args.items.now c.place.new.self within was
-          (ap at_of c.with_at.ensures ∙ at-moved c.index-word.result.now c.at_of.result c.in_ok-at.at c.at_of.ensures) c.in_ok-at.ensures.free c.in_ok-at.ensures.change c.drop_at.ensures.change c.drop_at.ensures.sound;
+          (ap at_of c.with_at.ensures ∙ at-moved c.index-word.result.now c.at_of.result c.in_ok-at.at c.at_of.ensures) c.in_ok-at.ensures.added.free c.in_ok-at.ensures.added.change c.drop_at.ensures.change c.drop_at.ensures.sound;
       count = count-same c.self.inside.words.items c.args.o c.index-word.result.now there c.self.inside.cool c.self.invariant.count c.with_at.result (ap cool_of c.with_at.ensures ∙ same-moved c.index-word.result.now c.in_ok-at.at);
     }
 
@@ -29,4 +29,4 @@ returns-clause-list g c =
     let within = subst (λ m. c.args.o < length m.words) (sym c.self.view_is) (place-within c.args.self.now.words c.args.o c.requires.local) in
     let was = place-read c.self.inside.words.items c.args.o c.index-word.result.now c.at_of.result within c.index-word.ensures c.at_of.ensures in
     rw (← c.self.view_is) (list-replaced c.self.inside.words.items c.self.inside.region c.drop_at.new.self c.self.invariant.memory c.args.o c.with_at.result c.at_of.result c.in_ok-at.at c.args.items.now c.place.new.self within was
-    (ap at_of c.with_at.ensures ∙ at-moved c.index-word.result.now c.at_of.result c.in_ok-at.at c.at_of.ensures) c.in_ok-at.ensures.free c.in_ok-at.ensures.change c.drop_at.ensures.change)
+    (ap at_of c.with_at.ensures ∙ at-moved c.index-word.result.now c.at_of.result c.in_ok-at.at c.at_of.ensures) c.in_ok-at.ensures.added.free c.in_ok-at.ensures.added.change c.drop_at.ensures.change)

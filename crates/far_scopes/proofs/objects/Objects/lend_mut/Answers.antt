@@ -26,11 +26,13 @@ returns g c =
             let change = subst (λ m. ChangesList (list_in m.memory) (list_in (after_overwrite m c.args.o 0 list).memory) c.args.o (Some list)) c.self.view_is (c.lend_mut.ensures.alone list long) in
             subst (λ m. ChangesList (list_of g.T.Elem.meaning g.S.FarTickets.content c.args.self.now) (list_of g.T.Elem.meaning g.S.FarTickets.content (after_overwrite m c.args.o 0 list)) c.args.o (Some list)) c.mark.ensures.written
             (list-since g.T.Elem.meaning g.S.FarTickets.content (IsSpelled g.T.Elem.in_range g.T.Elem.has_spelling g.T.Elem.spelling) c.mark.new.self c.args.o 0 list list change c.args.self.now c.mark.ensures.lists);
-        clean = λ list long clean.
-            let change = subst (λ m. ChangesList (list_in m.memory) (list_in (after_overwrite m c.args.o 0 list).memory) c.args.o (Some list)) c.self.view_is (c.lend_mut.ensures.alone list long) in
-            subst (λ m. AreClean g.T.Elem.meaning g.S.FarTickets.content (after_overwrite m c.args.o 0 list)) c.mark.ensures.written
-            (clean-after_overwrite g.T.Elem.meaning g.S.FarTickets.content (IsSpelled g.T.Elem.in_range g.T.Elem.has_spelling g.T.Elem.spelling) c.mark.new.self c.args.o 0 list list change c.mark.ensures.dirty (c.mark.ensures.clean clean));
-        others = others-after_overwrite c.args.self.now c.args.o 0;
-        store = λ list id here. here-after_write c.args.self.now c.args.o g.S.FarTickets.is_of id here;
+        keeps = record {
+          clean = λ list long clean.
+              let change = subst (λ m. ChangesList (list_in m.memory) (list_in (after_overwrite m c.args.o 0 list).memory) c.args.o (Some list)) c.self.view_is (c.lend_mut.ensures.alone list long) in
+              subst (λ m. AreClean g.T.Elem.meaning g.S.FarTickets.content (after_overwrite m c.args.o 0 list)) c.mark.ensures.written
+              (clean-after_overwrite g.T.Elem.meaning g.S.FarTickets.content (IsSpelled g.T.Elem.in_range g.T.Elem.has_spelling g.T.Elem.spelling) c.mark.new.self c.args.o 0 list list change c.mark.ensures.dirty (c.mark.ensures.clean clean));
+          others = others-after_overwrite c.args.self.now c.args.o 0;
+          store = λ list id here. here-after_write c.args.self.now c.args.o g.S.FarTickets.is_of id here;
+        };
       },
     )

@@ -27,11 +27,13 @@ returns g c =
             let alone = subst (λ m. IsSomeAnd (list_in m.memory c.args.o) (λ list. (range : List g.row.T.Denot) → length range ≡ c.args.to - c.args.from → ChangesList (list_in m.memory) (list_in (after_overwrite m c.args.o c.args.from range).memory) c.args.o (Some (take c.args.from list ++ (range ++ drop c.args.to list))))) c.self.view_is c.lend_range_mut.ensures.alone in
             subst (λ m. IsSomeAnd (list_in c.args.self.now.memory c.args.o) (λ list. (range : List g.row.T.Denot) → length range ≡ c.args.to - c.args.from → ChangesList (list_of g.T.Elem.meaning g.S.FarTickets.content c.args.self.now) (list_of g.T.Elem.meaning g.S.FarTickets.content (after_overwrite m c.args.o c.args.from range)) c.args.o (Some (take c.args.from list ++ (range ++ drop c.args.to list))))) c.mark.ensures.written
             (range-since g.T.Elem.meaning g.S.FarTickets.content (IsSpelled g.T.Elem.in_range g.T.Elem.has_spelling g.T.Elem.spelling) c.args.self.now c.mark.new.self c.args.o c.args.from c.args.to c.mark.ensures.parts c.mark.ensures.lists alone);
-        clean = λ range long clean.
-            let alone = subst (λ m. IsSomeAnd (list_in m.memory c.args.o) (λ list. (range : List g.row.T.Denot) → length range ≡ c.args.to - c.args.from → ChangesList (list_in m.memory) (list_in (after_overwrite m c.args.o c.args.from range).memory) c.args.o (Some (take c.args.from list ++ (range ++ drop c.args.to list))))) c.self.view_is c.lend_range_mut.ensures.alone in
-            subst (λ m. AreClean g.T.Elem.meaning g.S.FarTickets.content (after_overwrite m c.args.o c.args.from range)) c.mark.ensures.written
-            (clean-range g.T.Elem.meaning g.S.FarTickets.content (IsSpelled g.T.Elem.in_range g.T.Elem.has_spelling g.T.Elem.spelling) c.args.self.now c.mark.new.self c.args.o c.args.from c.args.to c.mark.ensures.parts c.mark.ensures.lists c.mark.ensures.dirty alone range long (c.mark.ensures.clean clean));
-        others = others-after_overwrite c.args.self.now c.args.o c.args.from;
-        store = λ list id here. here-after_write c.args.self.now c.args.o g.S.FarTickets.is_of id here;
+        keeps = record {
+          clean = λ range long clean.
+              let alone = subst (λ m. IsSomeAnd (list_in m.memory c.args.o) (λ list. (range : List g.row.T.Denot) → length range ≡ c.args.to - c.args.from → ChangesList (list_in m.memory) (list_in (after_overwrite m c.args.o c.args.from range).memory) c.args.o (Some (take c.args.from list ++ (range ++ drop c.args.to list))))) c.self.view_is c.lend_range_mut.ensures.alone in
+              subst (λ m. AreClean g.T.Elem.meaning g.S.FarTickets.content (after_overwrite m c.args.o c.args.from range)) c.mark.ensures.written
+              (clean-range g.T.Elem.meaning g.S.FarTickets.content (IsSpelled g.T.Elem.in_range g.T.Elem.has_spelling g.T.Elem.spelling) c.args.self.now c.mark.new.self c.args.o c.args.from c.args.to c.mark.ensures.parts c.mark.ensures.lists c.mark.ensures.dirty alone range long (c.mark.ensures.clean clean));
+          others = others-after_overwrite c.args.self.now c.args.o c.args.from;
+          store = λ list id here. here-after_write c.args.self.now c.args.o g.S.FarTickets.is_of id here;
+        };
       },
     )

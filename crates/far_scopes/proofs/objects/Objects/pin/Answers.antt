@@ -1,8 +1,9 @@
-use Rattle.std.proofs.Common.{◌≡◌, ◌<◌, length, refl, sym, subst}
+use Rattle.std.proofs.Common.{◌≡◌, ◌<◌, ◌+◌, length, refl, sym, subst}
 use Rattle.std.proofs.lemmas.Bool.{ne_eqb}
-use Rattle.far_scopes.specs.Movement.{is_local, pins_of, list_of, AreClean}
+use Rattle.far_scopes.specs.Movement.{is_local, pins_of, list_of, AreClean, AreHere}
 use Rattle.far_scopes.proofs.MemoryWordPlaces.{word-read}
 use Rattle.far_scopes.proofs.MovementTransitions.{tracked-recorded, tracked-pins, clean-recorded, true-or-false}
+use Rattle.far_scopes.proofs.MovementFrames.{here-recorded}
 use Rattle.far_scopes.proofs.MovementRecords.{lists-after_pin}
 use Rattle.far_scopes.proofs.objects.Objects.pin.Goals as goal
 
@@ -19,11 +20,17 @@ returns-clause-pinned g c =
     let was = word-read c.self.inside.records.items c.args.o c.index_mut-object_record.result.now within c.index_mut-object_record.ensures.value in
     rw (← c.self.view_is, was) refl
 
-pub returns-clause-clean : goal.returns-clause-clean
-returns-clause-clean g c =
+pub returns-clause-keeps : goal.returns-clause-keeps
+returns-clause-keeps g c =
     let within = subst (λ m. c.args.o < length m.records) (sym c.self.view_is) c.requires in
     let was = word-read c.self.inside.records.items c.args.o c.index_mut-object_record.result.now within c.index_mut-object_record.ensures.value in
-    λ clean. clean-recorded g.T.Elem.meaning g.S.FarTickets.content _ _ c.self.invariant c.args.o c.index_mut-object_record.result.now _ was refl (subst (AreClean g.T.Elem.meaning g.S.FarTickets.content) (sym c.self.view_is) clean)
+    record {
+      lists = λ p. subst (λ m. list_of g.T.Elem.meaning g.S.FarTickets.content m p ≡ list_of g.T.Elem.meaning g.S.FarTickets.content c.args.self.now p) (sym (returns-clause-pinned g c)) (lists-after_pin g.T.Elem.meaning g.S.FarTickets.content c.args.self.now c.args.o p);
+      copies = record {
+        clean = λ clean. clean-recorded g.T.Elem.meaning g.S.FarTickets.content _ _ c.self.invariant c.args.o c.index_mut-object_record.result.now _ was refl (subst (AreClean g.T.Elem.meaning g.S.FarTickets.content) (sym c.self.view_is) clean);
+        store = λ id here. subst (AreHere g.S.FarTickets.is_of id) (sym (returns-clause-pinned g c)) (here-recorded c.args.self.now c.args.o g.S.FarTickets.is_of id here (λ object_record. record object_record { pins = object_record.pins + 1 }) (λ e. refl));
+      };
+    }
 
 pub returns-clause-refused : goal.returns-clause-refused
 returns-clause-refused g c =
@@ -31,7 +38,3 @@ returns-clause-refused g c =
     let was = word-read c.self.inside.records.items c.args.o c.index_mut-object_record.result.now within c.index_mut-object_record.ensures.value in
     let pins : pins_of c.args.self.now c.args.o ≡ c.index_mut-object_record.result.now.pins = rw (← c.self.view_is, was) refl in
     rw (← c.if-is_away.ensures, pins, ne_eqb c.index_mut-object_record.result.now.pins 65535 c.if-object_record.false) refl
-
-pub returns-clause-lists : goal.returns-clause-lists
-returns-clause-lists g c =
-    λ p. subst (λ m. list_of g.T.Elem.meaning g.S.FarTickets.content m p ≡ list_of g.T.Elem.meaning g.S.FarTickets.content c.args.self.now p) (sym (returns-clause-pinned g c)) (lists-after_pin g.T.Elem.meaning g.S.FarTickets.content c.args.self.now c.args.o p)

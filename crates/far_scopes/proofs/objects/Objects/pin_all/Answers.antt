@@ -28,5 +28,5 @@ loop-k-preserved g c =
       ap (λ m. length m.records) is ∙ length-with c.loop-k.self.records o _ ∙ c.loop-k.invariant.1,
       c.loop-k.invariant.2 ∙ at_drop_more (pins_overflow c.loop-k.self) c.args.objects.now c.loop-k.k 0 c.loop-k-test.true ∙ overflow-later c.loop-k.self o rest local.0 c.in_default.ensures.refused ∙ ap (λ m. pins_overflow m rest) (sym is),
       ap (λ m. first_absent m rest) is ∙ first_absent-after_pin c.loop-k.self o rest ∙ local.1,
-      λ clean. c.in_default.ensures.clean (c.loop-k.invariant.4 clean),
+      λ clean. c.in_default.ensures.keeps.copies.clean (c.loop-k.invariant.4 clean),
     )

@@ -16,13 +16,13 @@ invariant_of-self g c = rw (c.remove.ensures, c.len.ensures, c.pop.new.self.ok.0
 pub returns-clause-list : goal.returns-clause-list
 returns-clause-list g c = rw (← c.self.view_is, c.pop.ensures.rest, c.self.inside.records.ok.0) (lists-unmade g.T.Elem.meaning g.S.FarTickets.content _ _ c.self.invariant c.remove_last.new.self (ap (λ m. m.words) c.remove_last.ensures.removed) c.remove_last.ensures.list)
 
-pub returns-clause-clean : goal.returns-clause-clean
-returns-clause-clean g c = rw (← c.self.view_is, c.pop.ensures.rest, c.self.inside.records.ok.0) (clean-unmade g.T.Elem.meaning g.S.FarTickets.content _ _ c.self.invariant c.remove_last.new.self (ap (λ m. m.words) c.remove_last.ensures.removed) c.remove_last.ensures.list)
+pub returns-clause-copies : goal.returns-clause-copies
+returns-clause-copies g c = record {
+  clean = rw (← c.self.view_is, c.pop.ensures.rest, c.self.inside.records.ok.0) (clean-unmade g.T.Elem.meaning g.S.FarTickets.content _ _ c.self.invariant c.remove_last.new.self (ap (λ m. m.words) c.remove_last.ensures.removed) c.remove_last.ensures.list);
+  store = rw (← c.self.view_is, c.pop.ensures.rest, c.self.inside.records.ok.0) (λ id. here-unmade g.T.Elem.meaning g.S.FarTickets.content _ _ c.self.invariant c.remove_last.new.self (ap (λ m. m.words) c.remove_last.ensures.removed) c.remove_last.ensures.list g.S.FarTickets.is_of id);
+}
 
 pub returns-clause-others : goal.returns-clause-others
 returns-clause-others g c =
     let changes = changes-unmade g.T.Elem.meaning g.S.FarTickets.content _ _ c.self.invariant c.remove_last.new.self (ap (λ m. m.words) c.remove_last.ensures.removed) c.remove_last.ensures.list in
     rw (← c.self.view_is, c.pop.ensures.rest, c.self.inside.records.ok.0) record { words = changes.words; records = changes.records }
-
-pub returns-clause-store : goal.returns-clause-store
-returns-clause-store g c = rw (← c.self.view_is, c.pop.ensures.rest, c.self.inside.records.ok.0) (λ id. here-unmade g.T.Elem.meaning g.S.FarTickets.content _ _ c.self.invariant c.remove_last.new.self (ap (λ m. m.words) c.remove_last.ensures.removed) c.remove_last.ensures.list g.S.FarTickets.is_of id)

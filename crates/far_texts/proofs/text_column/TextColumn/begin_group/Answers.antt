@@ -13,5 +13,5 @@ pub returns-clause-begun : goal.returns-clause-begun
 returns-clause-begun g c = record {
   pushed = search rules;
   created = search rules;
-  list = c.in_ok-o.ensures.list;
+  list = c.in_ok-o.ensures.created.list;
 }

@@ -13,7 +13,7 @@ use Rattle.far_texts.proofs.text_column.together.growing.+begin_groups.Goals as 
 pub begin_groups-requires-clause-groups : goal.begin_groups-requires-clause-groups
 begin_groups-requires-clause-groups g t c κs within =
     let m = c.args.objects.now in
-    let more = count-after_create m c.create.new.self _ _ c.in_ok-o.ensures.created in
+    let more = count-after_create m c.create.new.self _ _ c.in_ok-o.ensures.created.state in
     All-weaker (λ (d : Texts). length d.objects ≤ length m.records) (λ (d : Texts). length d.objects ≤ length c.create.new.self.records) (λ d few. omega (arith, few, more)) c.in-Some.columns.now
     (All-rest (λ (d : Texts). length d.objects ≤ length m.records) c.in-Some.column.now c.in-Some.columns.now c.args.columns.now c.in-Some.ensures.cases.0 c.requires.groups)
 
@@ -24,7 +24,7 @@ begin_groups-requires-clause-some g t c κs within =
 pub begin_groups-requires-clause-numbered : goal.begin_groups-requires-clause-numbered
 begin_groups-requires-clause-numbered g t c κs within =
     let m = c.args.objects.now in
-    let more = count-after_create m c.create.new.self _ _ c.in_ok-o.ensures.created in
+    let more = count-after_create m c.create.new.self _ _ c.in_ok-o.ensures.created.state in
     let rest = numbered-rest (length m.records) c.in-Some-split_first.form.now c.in-Some-split_first.forms.now c.args.forms.now c.in-Some-split_first.ensures.cases.0 c.requires.numbered in
     λ k d below. let at = rest k d below in omega (arith, at, more)
 
@@ -47,7 +47,7 @@ returns-clause-begun g t c =
     let forms = c.in-Some-split_first.ensures.cases.0 in
     let begins = All-head (λ (d : Texts). begins_group d ≡ true) c.in-Some.column.now c.in-Some.columns.now (subst (λ l. All (λ (d : Texts). begins_group d ≡ true) l) columns c.requires.begin) in
     let items = c.column.inside.objects.items in
-    let more = count-after_create m c.create.new.self _ _ c.in_ok-o.ensures.created in
+    let more = count-after_create m c.create.new.self _ _ c.in_ok-o.ensures.created.state in
     let first = numbered-first (length m.records) c.in-Some-split_first.form.now c.in-Some-split_first.forms.now c.args.forms.now forms c.requires.numbered in
     let rest = numbered-rest (length m.records) c.in-Some-split_first.form.now c.in-Some-split_first.forms.now c.args.forms.now forms c.requires.numbered in
     record {
@@ -57,17 +57,17 @@ returns-clause-begun g t c =
           more made.pushed;
       created = created-more m c.create.new.self c.begin_groups.new.objects _ c.in-Some.columns.now c.args.columns.now _ _ _ _
           (columns ∙ ap (λ (d : Texts). d ∷ c.in-Some.columns.now) (sym c.column.view_is)) c.deref.ensures.value
-          (c.in_ok-o.ensures.created ∙ ap (λ n. after_create m record { column = c.column.inside.column; group = n } c.deref.result.now) (c.len.ensures ∙ c.column.inside.objects.ok.0)) made.created
+          (c.in_ok-o.ensures.created.state ∙ ap (λ n. after_create m record { column = c.column.inside.column; group = n } c.deref.result.now) (c.len.ensures ∙ c.column.inside.objects.ok.0)) made.created
           ∙ ap (λ l. after_create_all m c.args.columns.now (forms_of l)) (sym forms);
       count = omega (arith, more, made.count, c.in-Some.ensures.cases.1);
       lists = subst (λ l. ChangesTo lists (lists_of g.S.FarTickets.content c.begin_groups.new.objects) (forms_of l)) (sym forms)
           (changes-more lists (lists_of g.S.FarTickets.content c.create.new.self) (lists_of g.S.FarTickets.content c.begin_groups.new.objects) (length m.records) _ _ _ _ first c.deref.ensures.value
-          (numbered-disjoint (length m.records) c.in-Some-split_first.forms.now rest) c.in_ok-o.ensures.list made.lists);
-      space = fit-more m c.create.new.self c.in-Some-split_first.form.now c.in-Some-split_first.forms.now c.args.forms.now _ forms c.deref.ensures.value c.in_ok-o.ensures.next made.space;
+          (numbered-disjoint (length m.records) c.in-Some-split_first.forms.now rest) c.in_ok-o.ensures.created.list made.lists);
+      space = fit-more m c.create.new.self c.in-Some-split_first.form.now c.in-Some-split_first.forms.now c.args.forms.now _ forms c.deref.ensures.value c.in_ok-o.ensures.created.next made.space;
     }
 
 pub returns-clause-copies : goal.returns-clause-copies
 returns-clause-copies g t c = record {
-  clean = λ clean. c.begin_groups.ensures.copies.clean (c.create.ensures.clean clean);
-  store = λ id here. c.begin_groups.ensures.copies.store id (c.create.ensures.store id here);
+  clean = λ clean. c.begin_groups.ensures.copies.clean (c.create.ensures.copies.clean clean);
+  store = λ id here. c.begin_groups.ensures.copies.store id (c.create.ensures.copies.store id here);
 }
