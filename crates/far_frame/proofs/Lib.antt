@@ -6,7 +6,11 @@ mod PinsRefusals
 mod PinsRuns
 mod PinsRenewal
 mod ViewsLaws
-mod EffectsLaws
+mod LiveEdits
+mod LiveMoved
+mod GroupsAtHand
+mod GroupsRetract
+mod OffloadingMerge
 mod WaitingLaws
 mod WorldsLaws
 mod CarryingLaws

@@ -23,6 +23,10 @@ empty_state schema limits number = record {
 }
 
 module _ {K : Type 0} where
+  -- a table and its rows, with an access history
+  abbrev pub with_accesses : LiveState K → List (List ℕ) → State K
+  with_accesses s accesses = record { table = s.table; rows = s.rows; accesses = accesses }
+
   -- the table and its rows, without the access history
   abbrev pub live : State K → LiveState K
   live s = record { table = s.table; rows = s.rows }

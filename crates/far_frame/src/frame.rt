@@ -1,30 +1,30 @@
 // A table with its aggregates.
-ghost use Rattle.std.specs.Prelude.{◌≡◌, ◌⊎◌, ℕ, List, true, false, length, option_map, IfOk, IfErr, IfSome, IfNone, OnOk};
-ghost use Rattle.std.specs.Option.{option_copied};
+ghost use Rattle.std.specs.Prelude.{◌≡◌, ◌⊎◌, ℕ, List, true, false, length, IfOk, IfErr, OnOk};
 ghost use Rattle.far_types.specs.declared.edit.Edit.TheVariants as edit;
 ghost use Rattle.far_types.specs.Bounds.{AreLimits};
-ghost use Rattle.far_aggregates.specs.Aggregates.{is_pending_in};
-ghost use Rattle.far_aggregates.specs.Readings.{plain_in};
 ghost use Rattle.far_rows.specs.Jobs.{AreAt};
-ghost use Rattle.far_table.specs.Watching.{aggregate_at};
 ghost use Rattle.far_frame.specs.Effects.{Accepts, Refuses};
 ghost use Rattle.far_frame.specs.State.{empty_state, live};
 ghost use Rattle.far_frame.specs.declared.step.Step.TheVariants as step;
 ghost use Rattle.far_frame.specs.declared.step.Reply.TheVariants as reply;
 ghost use Rattle.far_frame.specs.TableViews.{IsKept, new_table, table_of};
 
+mod editing;
 mod lending;
 mod moving;
 mod offloading;
 mod reading;
 mod recounting;
 mod renewing;
+mod watching;
 
 use super::view::View;
+use editing::{put_cell, retract_row};
+use far_aggregates::Aggregates;
 use far_prefetcher::Prefetcher;
 use far_store::FarTickets;
-use far_table::LiveTable;
-use far_types::{Answer, Cell, Limits, Refusal, Row, Schema, Spec};
+use far_table::TableRows;
+use far_types::{Cell, Limits, Refusal, Row, Schema};
 pub use renewing::migrate;
 use std::alloc::Global;
 use std::marker::Model;
@@ -74,17 +74,21 @@ use std::marker::Model;
 #[derive(Drop)]
 pub struct Frame<S: FarTickets> {
     alloc: Global,
-    table: LiveTable<S>,
+    rows: TableRows<S>,
+    registrations: u64,
+    aggregates: Aggregates,
     prefetcher: Prefetcher,
 }
 
 impl<S: FarTickets> Model for Frame<S> {
-    ghost use Rattle.far_frame.specs.State.{State};
+    ghost use Rattle.far_table.specs.Live.{IsLive, state_of};
+    ghost use Rattle.far_frame.specs.State.{State, with_accesses};
 
     ghost Value = { State S.Ticket };
 
-    ghost view = { λ f. record
-        { table = f.table.table; rows = f.table.rows; accesses = f.prefetcher } };
+    ghost view = { λ f. with_accesses (state_of f.rows f.registrations f.aggregates) f.prefetcher };
+
+    ghost invariant = { λ f. IsLive f.rows f.registrations f.aggregates };
 }
 
 impl<S: FarTickets> Frame<S> {
@@ -109,11 +113,14 @@ impl<S: FarTickets> Frame<S> {
             ⊎ ((e ≡ Refusal.NoMemory) × AreLimits limits)) }
     {
         let columns = schema.len();
-        let table = LiveTable::open(alloc, schema, limits, number)?;
+        limits.check()?;
+        let rows = TableRows::new(alloc, schema, limits, number)?;
         let prefetcher = Prefetcher::new(alloc, columns as u32)?;
         Ok(Frame {
             alloc,
-            table,
+            rows,
+            registrations: 0,
+            aggregates: Aggregates::new(alloc),
             prefetcher,
         })
     }
@@ -122,7 +129,7 @@ impl<S: FarTickets> Frame<S> {
     pub fn spare_cells(&mut self) -> Vec<Cell>
         ensures { self.new ≡ self.old }
     {
-        self.table.spare_cells()
+        self.rows.spare_cells()
     }
 
     /// Appends a row and returns its place.
@@ -142,7 +149,24 @@ impl<S: FarTickets> Frame<S> {
         ensures here { (id : List ℕ) → AreAt S.is_of id self.old.rows
             → AreAt S.is_of id self.new.rows }
     {
-        self.table.insert(row)
+        self.rows.may_insert(row)?;
+        let place = self.rows.len();
+        let size = self.rows.limits().group;
+        // Without aggregates there is nothing to update.
+        if self.aggregates.is_empty() {
+            self.rows.push(self.alloc)?;
+            return Ok(place as u32);
+        }
+        let pending = self
+            .aggregates
+            .apply_deltas(self.alloc, &self.rows.new_row_ref(), size, place)?;
+        if let Err(refusal) = self.rows.push(self.alloc) {
+            // The rows are as before, and now the aggregates are too.
+            self.aggregates.undo(pending);
+            return Err(refusal);
+        }
+        self.aggregates.end(pending);
+        Ok(place as u32)
     }
 
     /// Sets the cell of a place in a column. Counts as an edit even if the cell had this value.
@@ -161,7 +185,16 @@ impl<S: FarTickets> Frame<S> {
         ensures here { (id : List ℕ) → AreAt S.is_of id self.old.rows
             → AreAt S.is_of id self.new.rows }
     {
-        self.table.set(column, place, cell)
+        let value = self.rows.may_set(column, place, cell)?;
+        put_cell(
+            self.alloc,
+            &mut self.rows,
+            &mut self.aggregates,
+            column,
+            place,
+            &value,
+        )?;
+        Ok(())
     }
 
     /// Marks a place as dead. Its cells stay.
@@ -179,77 +212,48 @@ impl<S: FarTickets> Frame<S> {
         ensures here { (id : List ℕ) → AreAt S.is_of id self.old.rows
             → AreAt S.is_of id self.new.rows }
     {
-        self.table.remove(place)
-    }
-
-    /// Registers an aggregate and returns its number, the lowest free one of 0 to 31. Every row group that has a place is
-    /// pending in it.
-    ///
-    /// Refused with the first of these that applies:
-    ///
-    /// - `BadSpec` (3), `NoColumn` (4) or `WrongKind` (5): the aggregate does not fit the schema.
-    /// - `TooManyAggregates` (13): 32 are registered now, or 2^32 were registered in all.
-    /// - `NoMemory` (1): an allocation fails.
-    pub fn watch(&mut self, spec: Spec) -> Result<u32, Refusal>
-        ensures ok { IfOk result
-            (λ a. Accepts S.content self.old (step.Watch spec) (reply.Aggregate a) self.new) }
-        ensures err { IfErr result (λ e. Refuses self.old (step.Watch spec) e self.new) }
-    {
-        self.table.watch(spec)
-    }
-
-    /// Forgets an aggregate. Refused with `NoAggregate` (12) exactly if there is none of this number. Allocates nothing.
-    pub fn unwatch(&mut self, a: u32) -> Result<(), Refusal>
-        ensures ok { OnOk result (Accepts S.content self.old (step.Unwatch a) reply.Done self.new) }
-        ensures err { IfErr result (λ e. Refuses self.old (step.Unwatch a) e self.new) }
-    {
-        self.table.unwatch(a)
-    }
-
-    /// Scans the rows of a row group into an aggregate.
-    ///
-    /// Refused with the first of these that applies:
-    ///
-    /// - `NoAggregate` (12): there is no such aggregate.
-    /// - `OutOfRange` (14): the row group has no place.
-    /// - `StaleJob` (20): the row group was scanned already.
-    /// - `Absent` (16): the object of a column that the aggregate needs is away. The refusal names the lowest such column.
-    /// - `NoMemory` (1): an allocation fails.
-    pub fn scan_group(&mut self, a: u32, group: u32) -> Result<(), Refusal>
-        ensures ok { OnOk result
-            (Accepts S.content self.old (step.ScanGroup a group) reply.Done self.new) }
-        ensures err { IfErr result (λ e. Refuses self.old (step.ScanGroup a group) e self.new) }
-    {
-        self.table.scan_group(a, group)
-    }
-
-    /// Returns the answer of an aggregate over the rows as they are, whichever objects are away.
-    ///
-    /// Refused with the first of these that applies:
-    ///
-    /// - `NoAggregate` (12): there is no such aggregate.
-    /// - `Building` (15): row groups are pending. The refusal says how many.
-    /// - `NoMemory` (1): an allocation fails.
-    pub fn ask(&self, a: u32) -> Result<Answer, Refusal>
-        ensures ok { IfOk result
-            (λ answer. Accepts S.content self.now (step.Ask a) (reply.Answer answer) self.now) }
-        ensures err { IfErr result (λ e. Refuses self.now (step.Ask a) e self.now) }
-    {
-        self.table.ask(a)
+        let _row = self.rows.may_remove(place)?;
+        // Without aggregates there is nothing to update.
+        if self.aggregates.is_empty() {
+            self.rows.remove(place);
+            return Ok(());
+        }
+        let size = self.rows.limits().group;
+        // For the proof: shows `AreTableRows`, which bounds the number of places and the numbers in them.
+        let _len = self.rows.len();
+        let Ok(row) = self.rows.place_row(place as usize) else {
+            unreachable!()
+        };
+        let pending = self
+            .aggregates
+            .leave(self.alloc, &row, size, place as usize)?;
+        self.rows.remove(place);
+        retract_row(&self.rows, &mut self.aggregates, place, pending);
+        Ok(())
     }
 
     /// Returns a view of the rows, which reads them in place. Allocates nothing.
     pub fn scope(&self) -> View<'_, S>
         ensures { result ≡ live self.now }
     {
-        View::new(&self.table)
+        View::new(self)
+    }
+
+    /// Returns the rows, with their limits. Allocates nothing.
+    pub(crate) fn rows(&self) -> &TableRows<S>
+        ensures schema { result.now.schema ≡ self.now.table.schema }
+        ensures limits { result.now.limits ≡ self.now.table.limits }
+        ensures places { result.now.places ≡ self.now.table.places }
+        ensures held { result.now.held ≡ self.now.rows }
+    {
+        &self.rows
     }
 
     /// Returns the kinds of the columns. Allocates nothing.
     pub fn schema(&self) -> &Schema
         ensures { result.now ≡ self.now.table.schema }
     {
-        self.table.rows().schema()
+        self.rows.schema()
     }
 
     /// Returns the limits of the table. Allocates nothing.
@@ -257,7 +261,7 @@ impl<S: FarTickets> Frame<S> {
         ensures same { result.now ≡ self.now.table.limits }
         ensures bounds { AreLimits self.now.table.limits }
     {
-        self.table.rows().limits()
+        self.rows.limits()
     }
 
     /// For the proof: shows the invariant of a table, its rows and their objects. Does nothing.
@@ -265,9 +269,8 @@ impl<S: FarTickets> Frame<S> {
     pub fn keeps(&self)
         ensures { IsKept S.content self.now }
     {
-        let rows = self.table.rows();
-        let _limits = rows.limits();
-        let held = rows.held();
+        let _limits = self.rows.limits();
+        let held = self.rows.held();
         held.each_object_has_a_word();
     }
 
@@ -276,34 +279,7 @@ impl<S: FarTickets> Frame<S> {
         ensures { result ≡ length self.now.table.places }
     {
         // For the proof: shows that a table has at most 16,777,216 places.
-        let _limits = self.table.rows().limits();
-        self.table.rows().len() as u32
-    }
-
-    /// Returns the specification of an aggregate, or `None` if there is none of this number. Allocates nothing.
-    pub fn spec(&self, a: u32) -> Option<&Spec>
-        ensures { option_copied result
-            ≡ option_map (λ aggregate. aggregate.spec) (aggregate_at self.now.table a) }
-    {
-        self.table.spec(a)
-    }
-
-    /// Returns an aggregate and a row group that is pending in it, or `None` if no row group is pending in any. Allocates
-    /// nothing.
-    pub fn unbuilt(&self) -> Option<(u32, u32)>
-        ensures some { IfSome result
-            (λ at. is_pending_in (aggregate_at self.now.table at.0) at.1 ≡ true) }
-        ensures none { IfNone result
-            ((a : ℕ) → (g : ℕ) → is_pending_in (aggregate_at self.now.table a) g ≡ false) }
-    {
-        self.table.unbuilt()
-    }
-
-    /// Returns the count and the sum of an aggregate of totals without key column. `None` if there is no such aggregate, or
-    /// row groups are pending in it. Allocates nothing.
-    pub fn plain(&self, a: u32) -> Option<(u64, i128)>
-        ensures { result ≡ plain_in self.now.table.places (aggregate_at self.now.table a) }
-    {
-        self.table.plain(a)
+        let _limits = self.rows.limits();
+        self.rows.len() as u32
     }
 }

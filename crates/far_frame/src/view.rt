@@ -7,12 +7,13 @@ ghost use Rattle.far_types.specs.Table.{column as column_of, part};
 ghost use Rattle.far_rows.specs.Refusing.{absents, ints_refusal, text_refusal, texts_refusal};
 ghost use Rattle.far_rows.specs.ColumnIndexes.{kind_of};
 ghost use Rattle.far_frame.specs.Lending.{flags_of, ints_lent, lent_part};
+ghost use Rattle.far_frame.specs.State.{live};
 ghost use Rattle.far_frame.specs.Views.{away};
 
+use crate::frame::Frame;
 use far_columns::Lents;
 use far_rows::RowRef;
 use far_store::FarTickets;
-use far_table::LiveTable;
 use far_texts::TextCells;
 use far_types::{Kind, LentRow, Refusal};
 use std::marker::Model;
@@ -45,30 +46,31 @@ use std::marker::Model;
 /// ```
 #[derive(Drop)]
 pub struct View<'a, S: FarTickets> {
-    table: &'a LiveTable<S>,
+    frame: &'a Frame<S>,
 }
 
 impl<'a, S: FarTickets> Model for View<'a, S> {
     ghost use Rattle.far_table.specs.State.{LiveState};
+    ghost use Rattle.far_frame.specs.State.{live};
 
     ghost Value = { LiveState S.Ticket };
 
-    ghost view = { λ v. v.table.now };
+    ghost view = { λ v. live v.frame.now };
 }
 
 impl<'a, S: FarTickets> View<'a, S> {
     /// Returns a view of the rows of a table. Allocates nothing.
-    pub(crate) fn new(table: &'a LiveTable<S>) -> View<'a, S>
-        ensures { result ≡ table.now }
+    pub(crate) fn new(frame: &'a Frame<S>) -> View<'a, S>
+        ensures { result ≡ live frame.now }
     {
-        View { table }
+        View { frame }
     }
 
     /// Returns whether a place is alive; `None` if there is no such place. Allocates nothing.
     pub fn is_alive(&self, place: u32) -> Option<bool>
         ensures { result ≡ option_map (λ p. p.alive) (slice_get self.now.table.places place) }
     {
-        self.table.rows().is_alive(place as usize)
+        self.frame.rows().is_alive(place as usize)
     }
 
     /// Checks that every place can be lent. Allocates nothing.
@@ -82,7 +84,7 @@ impl<'a, S: FarTickets> View<'a, S> {
             → first_of (absents self.now.rows (place / self.now.table.limits.group)) ≡ None) }
     {
         // For the proof: shows `AreLimits`, and that there are few places.
-        let rows = self.table.rows();
+        let rows = self.frame.rows();
         let _limits = rows.limits();
         let _len = rows.len();
         let held = rows.held();
@@ -108,7 +110,7 @@ impl<'a, S: FarTickets> View<'a, S> {
             → refusal_in result
             ≡ first_of (absents self.now.rows (place / self.now.table.limits.group)) }
     {
-        let rows = self.table.rows();
+        let rows = self.frame.rows();
         if place as usize >= rows.len() {
             return Err(Refusal::NoRow);
         }
@@ -127,7 +129,7 @@ impl<'a, S: FarTickets> View<'a, S> {
             → refusal_in result
             ≡ first_of (absents self.now.rows (place / self.now.table.limits.group)) }
     {
-        let rows = self.table.rows();
+        let rows = self.frame.rows();
         if place as usize >= rows.len() {
             return Err(Refusal::NoRow);
         }
@@ -140,7 +142,7 @@ impl<'a, S: FarTickets> View<'a, S> {
         ensures column_index { result
             ≡ option_map kind_of (slice_get self.now.rows.column_indexes column) }
     {
-        let rows = self.table.rows();
+        let rows = self.frame.rows();
         // For the proof: shows that the schema has the kinds of the columns.
         let _held = rows.held();
         rows.schema().get(column as usize)
@@ -153,7 +155,7 @@ impl<'a, S: FarTickets> View<'a, S> {
         ensures some { 0 < result }
         ensures small { result ≤ 2 ^ 16 }
     {
-        let rows = self.table.rows();
+        let rows = self.frame.rows();
         // For the proof: shows that the size of a row group is the one in the limits.
         let _held = rows.held();
         rows.limits().group as usize
@@ -173,7 +175,7 @@ impl<'a, S: FarTickets> View<'a, S> {
             (λ lents. map ints_lent lents ≡ lent_part self.now.table column from to) }
         ensures refused { refusal_in result ≡ ints_refusal self.now.rows column from to }
     {
-        let rows = self.table.rows();
+        let rows = self.frame.rows();
         // For the proof: shows `AreRows`, and how many places there are.
         let _len = rows.len();
         let _limits = rows.limits();
@@ -198,7 +200,7 @@ impl<'a, S: FarTickets> View<'a, S> {
             ≡ slice_range (flags_of self.now.table.places) from to) }
         ensures refused { refusal_in result ≡ texts_refusal self.now.rows column from to }
     {
-        let rows = self.table.rows();
+        let rows = self.frame.rows();
         // For the proof: shows how many places there are.
         let _len = rows.len();
         rows.held()
@@ -219,7 +221,7 @@ impl<'a, S: FarTickets> View<'a, S> {
             ≡ Some (text_cell (option_copied text))) }
         ensures refused { refusal_in result ≡ text_refusal self.now.rows column place }
     {
-        let rows = self.table.rows();
+        let rows = self.frame.rows();
         // For the proof: shows how many places there are.
         let _len = rows.len();
         rows.held().text(column as usize, place as usize)

@@ -1,8 +1,8 @@
-mod FirstOfLaws
-mod Places
-mod EditsAcceptance
+pub mod FirstOfLaws
+pub mod Places
+pub mod EditsAcceptance
 mod EditsRefusals
-mod EditsSetRefusals
+pub mod EditsSetRefusals
 mod AccumulatorsFits
 mod TableRowsEdits
 mod TableRowsOpening
@@ -10,18 +10,13 @@ mod RefusingOutcome
 mod OpeningWidths
 mod Groups
 mod GroupsColumns
-mod WatchingColumns
-mod GroupsAtHand
-mod WatchingLaws
-mod LiveEdits
-mod GroupsRetract
-mod WatchingScans
+pub mod WatchingColumns
+pub mod WatchingLaws
+pub mod WatchingScans
 mod MovingLaws
-mod LiveMoved
 mod RenewingLaws
 mod FarGroupsCopies
 mod OffloadingTickets
-mod OffloadingMerge
 mod GroupsAway
 mod MixedGroupsReads
 mod PiecesLaws

@@ -1,5 +1,4 @@
 -- A row group whose columns were read from the far store for an offloaded build, as it is lent to aggregates.
--- Internal: no public contract cites it.
 use Rattle.std.specs.Prelude.{◌≡◌, ◌<◌, ℕ, Bool, true, List, map, IsSomeAnd}
 use Rattle.far_types.specs.declared.spec.Spec.{Spec}
 use Rattle.far_types.specs.Bounds.{needs}

@@ -1,10 +1,8 @@
--- How a table's calls change it, and why they are refused.
-use Rattle.std.specs.Prelude.{◌≡◌, ℕ, ◌≤◌, ◌^◌, Bool, List, None, Some, Option, option_map, slice_get, slice_set, false}
+-- A table's parts, and how edits change them.
+use Rattle.std.specs.Prelude.{◌≡◌, ℕ, ◌≤◌, ◌^◌, List, None, Some, option_map, slice_get, slice_set, false}
 use Rattle.far_types.specs.declared.edit.Edit.{Edit}
 use Rattle.far_types.specs.declared.edit.Edit.TheVariants as edit
-use Rattle.far_types.specs.declared.refusal.Refusal.{Refusal}
 use Rattle.far_types.specs.Edits.{after_edit}
-use Rattle.far_types.specs.MayRefuse.{MayRefuse}
 use Rattle.far_aggregates.specs.Accumulators.{RegistryEntry, Keeps, registered_of}
 use Rattle.far_rows.specs.declared.new_cell.NewCell.{NewCell}
 use Rattle.far_rows.specs.ColumnIndexes.{Values, kind_of, row_of}
@@ -36,10 +34,6 @@ module _ {K : Type 0} where
     pub registrations_few : registrations ≤ 2 ^ 32
     pub kept : Keeps t.limits.group t.places registry
     pub checked : AreChecked t.schema (registered_of registry)
-
-  -- a call is refused: nothing changes, and this refusal was due, or an allocation failed
-  abbrev pub Refuses : Option Refusal → Bool → LiveState K → Refusal → LiveState K → Type 0
-  Refuses due grows old given new = (new ≡ old) × MayRefuse due grows given
 
   -- how an edit changes the rows. A set writes a value of its column's kind, even if it is missing, so it writes the column's object
   -- whatever the cell was before

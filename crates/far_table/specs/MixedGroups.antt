@@ -1,5 +1,4 @@
 -- A row group as it is lent for a recount: local columns in place, and other columns from their contents, which were read.
--- Internal: no public contract cites it.
 use Rattle.std.specs.Prelude.{◌≡◌, ℕ, ◌<◌, ◌≤◌, ◌==◌, Bool, true, false, List, length, All, IsSome}
 use Rattle.std.specs.List.{find}
 use Rattle.far_types.specs.declared.spec.Spec.{Spec}

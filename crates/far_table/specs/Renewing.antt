@@ -1,6 +1,5 @@
--- A table whose far copies move to another store: everything else is unchanged.
+-- Rows of a table whose far copies move to another store: everything else is unchanged.
 use Rattle.far_rows.specs.Renewal.{RowsTickets, renewed_rows}
-use Rattle.far_table.specs.State.{LiveState}
 use Rattle.far_table.specs.TableRows.{TableRows}
 
 module _ {K L : Type 0} where
@@ -14,7 +13,3 @@ module _ {K L : Type 0} where
     new_row = t.new_row;
     held = renewed_rows t.held tickets;
   }
-
-  -- a table under these tickets
-  abbrev pub renewed_state : LiveState K → RowsTickets L → LiveState L
-  renewed_state s tickets = record { table = s.table; rows = renewed_rows s.rows tickets }

@@ -60,11 +60,7 @@ pub(crate) fn away_copy<'a, S: FarTickets>(
 /// Checks that the far store has the current content of each column of a row group that an aggregate needs. Allocates nothing.
 ///
 /// Refused with `StaleJob` (20) exactly if it lacks one.
-pub(crate) fn are_copied<S: FarTickets>(
-    rows: &Rows<S>,
-    spec: &Spec,
-    group: u32,
-) -> Result<(), Refusal>
+pub fn are_copied<S: FarTickets>(rows: &Rows<S>, spec: &Spec, group: u32) -> Result<(), Refusal>
     ensures { refusal_in result
         ≡ first_of (dirty_from rows.now spec.now group 0 rows.now.column_indexes) }
 {
@@ -85,10 +81,11 @@ fn lacks<S: FarTickets>(rows: &Rows<S>, spec: &Spec, column: u32, group: u32) ->
     spec.needs(column) && copy_of(rows, column, group).is_none()
 }
 
-/// Returns the tickets of the columns that an aggregate needs, each with the index of its column.
+/// Returns the tickets of the columns that an aggregate needs, each with the index of its column. The far store has the current content
+/// of a column under its ticket.
 ///
 /// Refused only with `NoMemory` (1).
-pub(crate) fn copies_of<S: FarTickets>(
+pub fn copies_of<S: FarTickets>(
     alloc: Global,
     rows: &Rows<S>,
     store: &S,
@@ -187,8 +184,9 @@ fn is_still<S: FarTickets>(
     store.same(own, ticket)
 }
 
-/// Returns whether `is_still` is true of each column that an aggregate needs. Allocates nothing.
-pub(crate) fn are_still<S: FarTickets>(
+/// Returns whether each column that an aggregate needs has a ticket, among these, with the number under which the far store has the
+/// row group's current content. Allocates nothing.
+pub fn are_still<S: FarTickets>(
     rows: &Rows<S>,
     store: &S,
     tickets: &[(u32, S::Ticket)],

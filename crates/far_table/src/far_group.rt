@@ -12,7 +12,7 @@ use std::marker::Model;
 
 /// The row group of a carried build, whose contents are the current ones. Contracts see the rows and the build.
 #[derive(Drop)]
-pub(crate) struct FarGroup<'a, S: FarTickets> {
+pub struct FarGroup<'a, S: FarTickets> {
     // For the proof: only contracts read the rows and the build. The columns were looked up when the row group was made.
     rows: &'a Rows<S>,
     build: &'a OffloadBuild<S>,
@@ -36,7 +36,7 @@ impl<'a, S: FarTickets> FarGroup<'a, S> {
     ghost use Rattle.far_table.specs.FarGroups.{AreCopies};
 
     /// Returns the row group of a build that is still valid. Allocates nothing.
-    pub(crate) fn new(rows: &'a Rows<S>, carried: &'a OffloadCarried<S>) -> FarGroup<'a, S>
+    pub fn new(rows: &'a Rows<S>, carried: &'a OffloadCarried<S>) -> FarGroup<'a, S>
         requires { AreCopies S.content record { rows = rows.now; build = carried.now } }
         ensures { result ≡ record { rows = rows.now; build = carried.now } }
     {

@@ -15,15 +15,20 @@ use std::marker::Model;
 /// A begun offloaded build: its table and registration, and the tickets and alive flags that it assumes. It borrows nothing, so any
 /// thread can carry it.
 ///
-/// `carry` reads the contents into buffers, and `merge` folds them. Computing an aggregate from far data without fetching its
+/// `carry` reads the contents into buffers, and a table folds them. Computing an aggregate from far data without fetching its
 /// objects is AIFM's offloading (OSDI 2020, section 4.4). There the fold runs beside the far data.
 #[derive(Drop)]
 pub struct OffloadBuild<S: FarTickets> {
-    pub(crate) number: u32,
-    pub(crate) aggregate: u32,
-    pub(crate) registration: u64,
-    pub(crate) group: u32,
-    pub(crate) job: OffloadJob<S>,
+    /// The number of the table.
+    pub number: u32,
+    /// The number of the aggregate.
+    pub aggregate: u32,
+    /// How many aggregates were registered before this one.
+    pub registration: u64,
+    /// The index of the row group.
+    pub group: u32,
+    /// What is to be folded: the specification, a ticket for each column that it needs, and the alive flags of the row group.
+    pub job: OffloadJob<S>,
 }
 
 impl<S: FarTickets> Model for OffloadBuild<S> {
@@ -61,20 +66,6 @@ impl<S: FarTickets> Model for OffloadCarried<S> {
 }
 
 impl<S: FarTickets> OffloadBuild<S> {
-    /// Returns the number of the aggregate. Allocates nothing.
-    pub fn aggregate(&self) -> u32
-        ensures { result ≡ self.now.aggregate }
-    {
-        self.aggregate
-    }
-
-    /// Returns the index of the row group. Allocates nothing.
-    pub fn group(&self) -> u32
-        ensures { result ≡ self.now.group }
-    {
-        self.group
-    }
-
     /// Returns the ticket at an index, among those whose contents the build reads, or `None` past the last. Allocates nothing.
     pub fn ticket(&self, index: usize) -> Option<&S::Ticket>
         ensures { option_copied result ≡ slice_get (tickets_of self.now) index }
@@ -132,6 +123,13 @@ impl<S: FarRead> OffloadBuild<S> {
 }
 
 impl<S: FarTickets> OffloadCarried<S> {
+    /// Returns the build. Allocates nothing.
+    pub fn build(&self) -> &OffloadBuild<S>
+        ensures { result.now ≡ self.now }
+    {
+        &self.build
+    }
+
     /// Returns the ticket at an index, among those whose contents were read, or `None` past the last. Allocates nothing.
     pub fn ticket(&self, index: usize) -> Option<&S::Ticket>
         ensures { option_copied result ≡ slice_get (tickets_of self.now) index }

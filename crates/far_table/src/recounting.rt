@@ -230,7 +230,7 @@ fn gather<S: FarTickets>(
 /// in consecutive pieces, so at the end there is one partial aggregate to merge for each worker.
 ///
 /// Refused with `FarFault` (21) exactly if the meter rises, else with `NoMemory` (1).
-pub(crate) fn recount_rows<R: Threads + Sync, S: FarRead>(
+pub fn recount_rows<R: Threads + Sync, S: FarRead>(
     rt: &R,
     alloc: Global,
     rows: &Rows<S>,
@@ -263,7 +263,7 @@ pub(crate) fn recount_rows<R: Threads + Sync, S: FarRead>(
 /// Does the same as `recount_rows` with one worker, without a runtime: this thread folds all row groups as one piece.
 ///
 /// Refused with `FarFault` (21) exactly if the meter rises, else with `NoMemory` (1).
-pub(crate) fn recount_alone<S: FarRead>(
+pub fn recount_alone<S: FarRead>(
     alloc: Global,
     rows: &Rows<S>,
     store: &S,

@@ -185,7 +185,7 @@ impl<S: FarTickets> TableRows<S> {
 
     /// Returns the new row. Borrows each cell only when the caller reads it. Allocates nothing.
     #[inline(always)]
-    pub(crate) fn new_row_ref(&self) -> NewRowRef<'_>
+    pub fn new_row_ref(&self) -> NewRowRef<'_>
         ensures { result ≡ row_of self.now.held.column_indexes self.now.new_row }
     {
         // For the proof: shows that each index is the index of a column.

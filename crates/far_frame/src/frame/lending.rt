@@ -31,7 +31,7 @@ impl<S: FarTickets> Frame<S> {
         ensures refused { refusal_in result ≡ object_refusal self.old.rows column group }
         ensures err { OnErr result (self.new ≡ self.old) }
     {
-        self.table.touch(column, group)?;
+        self.rows.touch(column, group)?;
         self.prefetcher.saw(column, group);
         Ok(())
     }
@@ -43,7 +43,7 @@ impl<S: FarTickets> Frame<S> {
             → AreAt S.is_of id self.new.rows }
     {
         // If there is no such object, nothing is marked.
-        let _used = self.table.touch(column, group);
+        let _used = self.rows.touch(column, group);
         self.prefetcher.saw(column, group);
     }
 
@@ -129,14 +129,13 @@ impl<S: FarTickets> Frame<S> {
         ensures column { OnOk result (prefetch_refusal self.now.table column ≡ None) }
         ensures refused { IfErr result (MayRefuse (prefetch_refusal self.now.table column) true) }
     {
-        let rows = self.table.rows();
-        if column as usize >= rows.schema().len() {
+        if column as usize >= self.rows.schema().len() {
             return Err(Refusal::NoColumn);
         }
         // For the proof: shows that a table has at most 16,777,216 places.
-        let _limits = rows.limits();
-        let _len = rows.len();
+        let _limits = self.rows.limits();
+        let _len = self.rows.len();
         self.prefetcher
-            .proposals(self.alloc, column, rows.groups() as u32)
+            .proposals(self.alloc, column, self.rows.groups() as u32)
     }
 }

@@ -33,7 +33,7 @@ impl<S: FarTickets> Frame<S> {
         ensures refused { refusal_in result ≡ pin_refusal self.old.rows column group }
         ensures err { OnErr result (self.new ≡ self.old) }
     {
-        self.table.pin(column, group)
+        self.rows.pin(column, group)
     }
 
     /// Removes a pin from the object of a row group of a column. Allocates nothing.
@@ -53,7 +53,7 @@ impl<S: FarTickets> Frame<S> {
         ensures refused { refusal_in result ≡ unpin_refusal self.old.rows column group }
         ensures err { OnErr result (self.new ≡ self.old) }
     {
-        self.table.unpin(column, group)
+        self.rows.unpin(column, group)
     }
 
     /// Checks that an eviction of the object of a row group of a column can begin. Allocates nothing.
@@ -66,10 +66,7 @@ impl<S: FarTickets> Frame<S> {
     pub fn may_evac(&self, column: u32, group: u32) -> Result<(), Refusal>
         ensures refused { refusal_in result ≡ evac_refusal self.now.rows column group }
     {
-        self.table
-            .rows()
-            .held()
-            .group_column(column as usize, group)?;
+        self.rows.held().group_column(column as usize, group)?;
         Ok(())
     }
 
@@ -88,7 +85,7 @@ impl<S: FarTickets> Frame<S> {
         ensures here { IfOk result (IsJobAt S.is_of (S.store_id store.now)) }
         ensures refused { IfErr result (MayRefuse (evac_refusal self.now.rows column group) true) }
     {
-        let rows = self.table.rows().held();
+        let rows = self.rows.held();
         let evac = rows.begin_evac(self.alloc, store, column as usize, group)?;
         Ok(Job {
             name: Some(Name { column, group }),
@@ -103,7 +100,7 @@ impl<S: FarTickets> Frame<S> {
         ensures free { IfSome result
             (λ name. evac_refusal self.now.rows name.column name.group ≡ None) }
     {
-        self.table.rows().held().coldest()
+        self.rows.held().coldest()
     }
 
     /// Begins to evict the coldest object without a pin, of the kind with less space. `None` exactly if neither kind has
@@ -116,7 +113,7 @@ impl<S: FarTickets> Frame<S> {
         ensures here { IfOk result (λ job. IfSome job (IsJobAt S.is_of (S.store_id store.now))) }
         ensures memory { IfErr result (λ e. e ≡ Refusal.NoMemory) }
     {
-        let rows = self.table.rows().held();
+        let rows = self.rows.held();
         let Some(name) = rows.coldest() else {
             return Ok(None);
         };
@@ -140,7 +137,7 @@ impl<S: FarTickets> Frame<S> {
         ensures here { IfOk result (IsJobAt S.is_of (S.store_id store.now)) }
         ensures refused { refusal_in result ≡ fetch_refusal self.now.rows column group }
     {
-        let rows = self.table.rows().held();
+        let rows = self.rows.held();
         let fetch = rows.begin_fetch(store, column as usize, group)?;
         Ok(Job {
             name: Some(Name { column, group }),
@@ -162,7 +159,7 @@ impl<S: FarTickets> Frame<S> {
             → IfOk result (λ ticket. S.is_of ticket.now id) }
         ensures refused { refusal_in result ≡ fetch_refusal self.now.rows column group }
     {
-        self.table.rows().held().away_copy(column as usize, group)
+        self.rows.held().away_copy(column as usize, group)
     }
 
     /// Ends a carried eviction: its object is away. No row, aggregate or answer changes. Allocates nothing.
@@ -182,7 +179,7 @@ impl<S: FarTickets> Frame<S> {
         ensures here { AreAt S.is_of (S.store_id store.now) self.new.rows }
     {
         match &job.work {
-            JobPhase::Carried(carried) => self.table.commit(store, carried),
+            JobPhase::Carried(carried) => self.rows.commit(store, carried),
             JobPhase::Evac(_) => Err(Refusal::StaleJob),
             JobPhase::Fetch(_) => Err(Refusal::StaleJob),
             JobPhase::Fetched(_) => Err(Refusal::StaleJob),
@@ -211,7 +208,7 @@ impl<S: FarTickets> Frame<S> {
         ensures here { AreAt S.is_of (S.store_id store.now) self.new.rows }
     {
         match &job.work {
-            JobPhase::Fetched(fetched) => self.table.install(store, fetched),
+            JobPhase::Fetched(fetched) => self.rows.install(self.alloc, store, fetched),
             JobPhase::Evac(_) => Err(Refusal::StaleJob),
             JobPhase::Carried(_) => Err(Refusal::StaleJob),
             JobPhase::Fetch(_) => Err(Refusal::StaleJob),
@@ -243,6 +240,6 @@ impl<S: FarTickets> Frame<S> {
             (λ e. (e ≡ Refusal.OutOfRange) ⊎ ((e ≡ Refusal.RegionFull) ⊎ (e ≡ Refusal.NoMemory))) }
         ensures err { OnErr result (self.new ≡ self.old) }
     {
-        self.table.compact(kind, segment)
+        self.rows.compact(self.alloc, kind, segment)
     }
 }

@@ -1,24 +1,18 @@
-// Describes a table's objects, space and aggregates.
-ghost use Rattle.std.specs.Prelude.{◌≡◌, Some, false, IfOk, IfErr, option_map};
-ghost use Rattle.far_types.specs.MayRefuse.{MayRefuse};
+// Describes a table's objects and space.
+ghost use Rattle.std.specs.Prelude.{◌≡◌, Some, IfOk, option_map};
 ghost use Rattle.far_scopes.specs.Refusing.{refusal_in};
-ghost use Rattle.far_aggregates.specs.Aggregates.{ask_refusal};
-ghost use Rattle.far_aggregates.specs.Lines.{AnswersKey};
-ghost use Rattle.far_aggregates.specs.PendingCounts.{pending_of};
 ghost use Rattle.far_rows.specs.Jobs.{AreAt};
 ghost use Rattle.far_rows.specs.Moving.{object_at, object_refusal};
-ghost use Rattle.far_table.specs.Watching.{aggregate_at};
 ghost use Rattle.far_frame.specs.Objects.{space_at, space_with, state_of};
 
 use super::Frame;
 use crate::object::{ObjectState, state_in};
 use crate::space::Space;
-use far_aggregates::Line;
 use far_codec::Elem;
 use far_rows::Object;
 use far_scopes::Objects;
 use far_store::FarTickets;
-use far_types::{Key, Kind, Refusal};
+use far_types::{Kind, Refusal};
 
 impl<S: FarTickets> Frame<S> {
     /// Returns the state of the object of a row group of a column. Allocates nothing.
@@ -35,7 +29,7 @@ impl<S: FarTickets> Frame<S> {
             ≡ Some state) }
         ensures refused { refusal_in result ≡ object_refusal self.now.rows column group }
     {
-        let rows = self.table.rows().held();
+        let rows = self.rows.held();
         let state = match rows.object(column as usize, group)? {
             Object::Number(o) => state_in(rows.number_objects(), store, o),
             Object::Text(o) => state_in(rows.text_objects(), store, o),
@@ -43,35 +37,12 @@ impl<S: FarTickets> Frame<S> {
         Ok(state)
     }
 
-    /// Returns how many row groups are pending in an aggregate, and the first of them. `None` if there is no such
-    /// aggregate. Allocates nothing.
-    pub fn pending(&self, a: u32) -> Option<(u32, Option<u32>)>
-        ensures { result ≡ option_map pending_of (aggregate_at self.now.table a) }
-    {
-        self.table.pending(a)
-    }
-
-    /// Returns the line of one key in the answer of an aggregate over the rows as they are, or `None` if the answer has no
-    /// such line. Costs one look-up and makes no other line. Allocates nothing.
-    ///
-    /// Refused with the first of these that applies:
-    ///
-    /// - `NoAggregate` (12): there is no such aggregate.
-    /// - `Building` (15): row groups are pending. The refusal says how many.
-    pub fn line(&self, a: u32, key: &Option<Key>) -> Result<Option<Line>, Refusal>
-        ensures ok { IfOk result
-            (AnswersKey self.now.table.places (aggregate_at self.now.table a) key.now) }
-        ensures err { IfErr result (MayRefuse (ask_refusal (aggregate_at self.now.table a)) false) }
-    {
-        self.table.line(a, key)
-    }
-
     /// Returns the space of the local region of a kind. Allocates nothing.
     pub fn space(&self, kind: Kind) -> Space
         ensures { result ≡ space_at self.now kind }
     {
         let limits = self.limits();
-        let rows = self.table.rows().held();
+        let rows = self.rows.held();
         match kind {
             Kind::Int => space_of(rows.number_objects(), limits.int_segments, limits.int_size),
             Kind::Text => space_of(rows.text_objects(), limits.text_segments, limits.text_size),

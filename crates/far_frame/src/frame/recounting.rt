@@ -4,7 +4,9 @@ ghost use Rattle.far_rows.specs.Jobs.{AreAt};
 ghost use Rattle.far_table.specs.Recounting.{recount_refusal, IsAnswerNow, RecountRefusal};
 
 use super::Frame;
+use far_aggregates::laws::an_aggregate_is_served_by_the_columns_of_its_schema;
 use far_store::{FarRead, Meter};
+use far_table::{recount_alone, recount_rows};
 use far_types::{Answer, Refusal};
 use std::thread::Threads;
 
@@ -39,7 +41,16 @@ impl<S: FarRead> Frame<S> {
         ensures cause { meter.old < meter.new → S.may_fail }
         ensures most { meter.new ≤ meter.old + workers }
     {
-        self.table.recount(rt, store, meter, a, workers)
+        let Some(spec) = self.aggregates.spec(a) else {
+            return Err(Refusal::NoAggregate);
+        };
+        if workers == 0 || workers > 64 {
+            return Err(Refusal::OutOfRange);
+        }
+        an_aggregate_is_served_by_the_columns_of_its_schema();
+        let held = self.rows.held();
+        let size = self.rows.limits().group;
+        recount_rows(rt, self.alloc, held, store, meter, spec, size, workers)
     }
 
     /// Does the same as `recount` with one worker, without threads or a runtime.
@@ -60,6 +71,12 @@ impl<S: FarRead> Frame<S> {
         ensures cause { meter.old < meter.new → S.may_fail }
         ensures most { meter.new ≤ meter.old + 1 }
     {
-        self.table.recount_alone(store, meter, a)
+        let Some(spec) = self.aggregates.spec(a) else {
+            return Err(Refusal::NoAggregate);
+        };
+        an_aggregate_is_served_by_the_columns_of_its_schema();
+        let held = self.rows.held();
+        let size = self.rows.limits().group;
+        recount_alone(self.alloc, held, store, meter, spec, size)
     }
 }

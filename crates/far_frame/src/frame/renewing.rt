@@ -35,11 +35,13 @@ pub fn migrate<S: FarRead, N: FarStore>(
     ensures met { IfErr result (λ e. meter.new ≡ meter.old + faults_of e.0) }
     ensures none { IfOk result (λ new. meter.new ≡ meter.old) }
 {
-    let rows = frame.table.rows().held();
+    let rows = frame.rows.held();
     match rows.renewal(frame.alloc, store, new_store, meter) {
         Ok(renewal) => Ok(Frame {
             alloc: frame.alloc,
-            table: frame.table.renew(renewal),
+            rows: frame.rows.renew(renewal),
+            registrations: frame.registrations,
+            aggregates: frame.aggregates,
             prefetcher: frame.prefetcher,
         }),
         Err(refusal) => Err((refusal, frame)),

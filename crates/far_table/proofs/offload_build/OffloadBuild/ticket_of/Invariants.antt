@@ -1,4 +1,4 @@
-use Rattle.std.proofs.Common.{◌≡◌, ℕ, List, drop, map}
+use Rattle.std.proofs.Common.{◌≡◌, drop, map}
 use Rattle.far_table.specs.Tickets.{ticket_with}
 use Rattle.far_table.proofs.offload_build.OffloadBuild.ticket_of.Given as goal
 
