@@ -183,10 +183,10 @@ pub fn movement_changes_no_row<S: FarTickets>()
 {}
 
 /// No step evicts an object that has a pin: a commit of its eviction is refused. Only `Pin` and `Unpin` change how many
-/// pins an object has. A migration evicts and fetches no object, and each keeps its pins.
+/// pins an object has.
 ///
 /// So from the opening of a table on, every object that has a pin is local, and no lending is refused for it.
-pub fn a_pinned_object_stays<S: FarTickets, N: FarTickets>()
+pub fn a_pinned_object_stays<S: FarTickets>()
     ensures stays { (old : World S.Ticket) → (s : Step) → (given : Reply) → (new : World S.Ticket)
         → IsStep S.content S.number_of old s given new
         → (o : Object) → pins_at old.state.rows o ≢ 0
@@ -214,13 +214,17 @@ pub fn a_pinned_object_stays<S: FarTickets, N: FarTickets>()
         → pins_by old.state.rows carried ≢ 0
         → (new : World S.Ticket)
         → ¬ (IsStep S.content S.number_of old (step.Commit n) reply.Done new) }
-    ensures migrated { (id : List ℕ) → (old : World S.Ticket) → (new : World N.Ticket)
+{}
+
+/// A migration evicts and fetches no object, and each keeps its pins.
+pub fn pins_outlast_a_migration<S: FarTickets, N: FarTickets>()
+    ensures run { (id : List ℕ) → (old : World S.Ticket) → (new : World N.Ticket)
         → ArePinnedHere old.state.rows → IsMigratedTo S.content N.content id old new
         → ArePinnedHere new.state.rows }
-    ensures migrated_pins { (id : List ℕ) → (old : World S.Ticket) → (new : World N.Ticket)
+    ensures pins { (id : List ℕ) → (old : World S.Ticket) → (new : World N.Ticket)
         → IsMigratedTo S.content N.content id old new
         → (o : Object) → pins_at new.state.rows o ≡ pins_at old.state.rows o }
-    ensures migrated_places { (id : List ℕ) → (old : World S.Ticket) → (new : World N.Ticket)
+    ensures places { (id : List ℕ) → (old : World S.Ticket) → (new : World N.Ticket)
         → IsMigratedTo S.content N.content id old new
         → (o : Object) → is_here new.state.rows o ≡ is_here old.state.rows o }
 {}

@@ -1,6 +1,6 @@
 // Moves a table to another far store.
 ghost use Rattle.std.specs.Prelude.{◌≡◌, ◌⊎◌, ◌+◌, ◌<◌, ◌^◌, [], ◌∷◌, IfOk, IfErr};
-ghost use Rattle.far_store.specs.Faults.{faults_of};
+ghost use Rattle.far_store.specs.Faults.{faults_in, outcome};
 ghost use Rattle.far_rows.specs.Jobs.{AreAt};
 ghost use Rattle.far_frame.specs.Jobs.{IsOneOf};
 ghost use Rattle.far_frame.specs.Renewing.{IsMigrated};
@@ -32,8 +32,7 @@ pub fn migrate<S: FarRead, N: FarStore>(
     ensures refused { IfErr result (λ e. IsOneOf (21 ∷ 22 ∷ 1 ∷ []) e.0) }
     ensures cause { IfErr result
         (λ e. e.0 ≡ Refusal.FarFault → S.may_fail ⊎ N.may_fail) }
-    ensures met { IfErr result (λ e. meter.new ≡ meter.old + faults_of e.0) }
-    ensures none { IfOk result (λ new. meter.new ≡ meter.old) }
+    ensures faults { meter.new ≡ meter.old + faults_in (outcome result) }
 {
     let rows = frame.rows.held();
     match rows.renewal(frame.alloc, store, new_store, meter) {

@@ -1,5 +1,4 @@
 use Rattle.far_frame.proofs.PinsRuns.{step-stays, step-pins, run-holds, opened-holds, lent-free}
-use Rattle.far_frame.proofs.PinsRenewal.{migrated-holds, migrated-pins, migrated-here}
 use Rattle.far_frame.proofs.StepsLaws.{pinned-stays}
 use Rattle.far_frame.proofs.laws.a_pinned_object_stays.Goals as goal
 
@@ -14,7 +13,4 @@ returns g c =
       opened = opened-holds g.row.S-Ticket.Denot;
       lent = lent-free content number_of;
       committed = pinned-stays content number_of;
-      migrated = migrated-holds content g.N.FarTickets.content;
-      migrated_pins = migrated-pins content g.N.FarTickets.content;
-      migrated_places = migrated-here content g.N.FarTickets.content;
     }
