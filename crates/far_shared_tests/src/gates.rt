@@ -1,4 +1,4 @@
-// A store whose first put may be held, or whose gets.
+// A store whose puts may be held, or whose gets.
 ghost use Rattle.std.specs.Prelude.{⊤};
 
 use crate::scenes::Gate;
@@ -21,7 +21,8 @@ pub trait Gated {
     fn open(&self);
 }
 
-// A store with one gate: of its first put, or of its gets.
+// A store with one gate: of its puts, or of its gets. A put that is held until a second begins is held by a `GateStore`, for some 60 ms
+// at most. All other calls are held here: they yield the processor in each turn, and so wait longer while other threads are busy.
 #[derive(Drop)]
 pub struct Gates<S> {
     store: GateStore<S>,
@@ -39,7 +40,7 @@ impl<S> Model for Gates<S> {
 impl<S> Gated for Gates<S> {
     fn is_held(&self) -> bool {
         match self.gate {
-            Gate::OfGets => self.is_reached.load(Ordering::SeqCst),
+            Gate::Released | Gate::OfGets => self.is_reached.load(Ordering::SeqCst),
             _ => self.store.held(),
         }
     }
@@ -51,7 +52,7 @@ impl<S> Gated for Gates<S> {
 }
 
 impl<S> Gates<S> {
-    // Waits until gets are not held. Returns whether they are not.
+    // Waits until no call is held. Returns whether none is.
     fn admits(&self) -> bool {
         for _ in 0..TURNS {
             if self.is_open.load(Ordering::SeqCst) {
@@ -100,7 +101,7 @@ impl<S: FarRead> FarRead for Gates<S> {
         ticket: &S::Ticket,
         buffer: &mut Vec<u8>,
     ) -> Result<(), Refusal> {
-        if !self.admits() {
+        if matches!(self.gate, Gate::OfGets) && !self.admits() {
             buffer.clear();
             meter.rise();
             return Err(Refusal::FarFault);
@@ -111,6 +112,10 @@ impl<S: FarRead> FarRead for Gates<S> {
 
 impl<S: FarStore> FarStore for Gates<S> {
     fn put(&self, alloc: Global, meter: &mut Meter, bytes: &[u8]) -> Result<S::Ticket, Refusal> {
+        if matches!(self.gate, Gate::Released) && !self.admits() {
+            meter.rise();
+            return Err(Refusal::FarFault);
+        }
         self.store.put(alloc, meter, bytes)
     }
 }
@@ -121,15 +126,14 @@ pub fn with_gate<S>(store: S, gate: Gate) -> Gates<S> {
         store: with_gate_of_puts(store, gate),
         gate,
         is_reached: AtomicBool::new(false),
-        is_open: AtomicBool::new(!matches!(gate, Gate::OfGets)),
+        is_open: AtomicBool::new(false),
     }
 }
 
-// Returns a store with the gate of its first put over another.
+// Returns a store that holds its first put over another, if it is held until a second begins.
 fn with_gate_of_puts<S>(store: S, gate: Gate) -> GateStore<S> {
     match gate {
-        Gate::Open | Gate::OfGets => open_gate(store),
-        Gate::Released => GateStore::new(store),
+        Gate::Open | Gate::Released | Gate::OfGets => open_gate(store),
         Gate::Paired => GateStore::two(store),
     }
 }

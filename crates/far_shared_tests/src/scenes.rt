@@ -20,7 +20,7 @@ pub enum Table {
 pub enum Gate {
     // No put is held.
     Open,
-    // The first put is held until it is released.
+    // The puts are held until they are released.
     Released,
     // The first put is held until a second begins.
     Paired,
