@@ -33,7 +33,8 @@ module _ {X K : Type 0} (meaning : List ℕ → List X) (content : K → List �
     -- the new state
     pub state : new ≡ after_replace old o items
     -- only this object's list changes
-    pub list : ChangesList (list_of meaning content old) (list_of meaning content new) o (Some items)
+    pub list : ChangesList (list_of meaning content old) (list_of meaning content new) o
+        (Some items)
     -- every other object keeps its word and its record
     pub others : ChangesObject old new o
 

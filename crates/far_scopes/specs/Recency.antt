@@ -36,11 +36,13 @@ is_unused uses o = not (has uses o)
 
 -- The object that is used at index `i` is also used at index `p - 1`, which is `i` or later.
 abbrev pub IsUsedBefore : List ℕ → ℕ → ℕ → Type 0
-IsUsedBefore uses p i = (i < p) × (p ≤ length uses) × (slice_index uses (p - 1) ≡ slice_index uses i)
+IsUsedBefore uses p i =
+    (i < p) × (p ≤ length uses) × (slice_index uses (p - 1) ≡ slice_index uses i)
 
 -- For each object of some uses a list has 1 + the index of the last of them, at the object's number.
 abbrev pub AreNoted : List ℕ → List ℕ → Type 0
-AreNoted uses last = (i : ℕ) → i < length uses → IsUsedBefore uses (slice_index last (slice_index uses i)) i
+AreNoted uses last = (i : ℕ) → i < length uses
+    → IsUsedBefore uses (slice_index last (slice_index uses i)) i
 
 -- Each object for which a list has another number than 0 is in an order of use.
 abbrev pub AreKnown : List ℕ → List ℕ → Type 0

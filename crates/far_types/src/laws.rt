@@ -93,22 +93,34 @@ pub fn extrema_lines_are_by_key()
         (lines_by_key (extrema pairs)) }
 {}
 
-/// Computes the definitions for small tables. A wrong definition fails here.
-pub fn worked_examples()
+/// Computes answers over small tables. A wrong definition fails here, as in the next three laws.
+pub fn worked_answers()
     ensures over_no_rows { OverNoRows }
     ensures totals_by_key { TotalsByKey }
     ensures exact_sum { ExactSum }
     ensures least_and_greatest { LeastAndGreatest }
     ensures filtered { Filtered }
     ensures with_missing { WithMissing }
-    ensures used_up { UsedUp }
-    ensures first_refusal { FirstRefusal }
-    ensures over_length { OverLength }
+{}
+
+/// Computes which tests values pass, and which aggregates are allowed.
+pub fn worked_filters()
     ensures comparisons { Comparisons }
     ensures tests_of_texts { TestsOfTexts }
     ensures allowed_aggregates { AllowedAggregates }
+{}
+
+/// Computes what edits of small tables do, and why they are refused.
+pub fn worked_edits()
     ensures what_edits_do { WhatEditsDo }
     ensures space_for_texts { SpaceForTexts }
     ensures order_of_refusals { OrderOfRefusals }
     ensures row_groups { RowGroups }
+{}
+
+/// Computes which refusal comes first, at the limits too.
+pub fn worked_refusals()
+    ensures used_up { UsedUp }
+    ensures first_refusal { FirstRefusal }
+    ensures over_length { OverLength }
 {}

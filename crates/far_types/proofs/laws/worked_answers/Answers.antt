@@ -1,11 +1,11 @@
-use Rattle.std.proofs.Common.{refl, [], ◌∷◌, None, Some}
+use Rattle.std.proofs.Common.{[], ◌∷◌, None, Some}
 use Rattle.std.specs.Prelude.{pos, negsuc, codes}
 use Rattle.far_types.specs.declared.spec.Fold.TheVariants as fold
 use Rattle.far_types.specs.declared.filter.Op.TheVariants as op
 use Rattle.far_types.specs.declared.filter.Test.TheVariants as test
 use Rattle.far_types.specs.Examples.{of_column, row, a, b, some_missing}
 use Rattle.far_types.proofs.AnswersComputation.{answer_over-computed}
-use Rattle.far_types.proofs.laws.worked_examples.Goals as goal
+use Rattle.far_types.proofs.laws.worked_answers.Goals as goal
 
 pub returns : goal.returns
 returns c = record {
@@ -26,14 +26,4 @@ returns c = record {
     answer_over-computed (of_column fold.Totals (Some 1) []) some_missing,
     answer_over-computed (of_column fold.Totals None (test.Int 0 op.Ne (pos 9) ∷ [])) some_missing,
   );
-  used_up = (refl, refl, refl, refl);
-  first_refusal = (refl, refl, refl, refl, refl);
-  over_length = (refl, refl, refl, refl, refl);
-  comparisons = (refl, refl);
-  tests_of_texts = (refl, refl, refl);
-  allowed_aggregates = (refl, refl, refl, refl, refl, refl, refl, refl, refl);
-  what_edits_do = (refl, refl, refl, refl);
-  space_for_texts = (refl, refl, refl, refl, refl, refl, refl, refl, refl, refl);
-  order_of_refusals = (refl, refl, refl, refl, refl, refl, refl, refl, refl, refl, refl, refl, refl, refl);
-  row_groups = (refl, refl, refl, refl);
 }
