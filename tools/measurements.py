@@ -1,12 +1,10 @@
 """The measurements of scripts: the files that tools/bench writes with --record, and the parts of docs/PERFORMANCE.md, "Scripts", that
 tools/documents makes of them.
 
-A line of docs/measurements/scripts.csv is a workload at a size, 1 or as many times as large as --times says: its units, its milliseconds,
-the growth of these from half as many units, and the most resident memory in MB; of each other program the milliseconds, the ratio of the
-first program's to them, and the memory; the number of runs, and the floor, which is the memory that a program has which does nothing. A
-line of docs/measurements/instructions.csv has the instructions and the misses of a unit, of each program. Both end with the date and the
-processor. The other programs are `plain`, which is plain_script of the Rust crate, and `earlier`, a hand-written program from before it. A
-cell is empty if it was not measured."""
+A line of docs/measurements/scripts.csv is a workload at a size, 1 or as many times as large as --times says, as tools/bench prints it; then
+the number of runs, and the memory of a program that does nothing. A line of docs/measurements/instructions.csv has the instructions and the
+misses of a unit, of each program. Both end with the date and the processor. The other programs are `plain`, which is plain_script of the
+Rust crate, and `earlier`, a hand-written program from before it. A cell is empty if it was not measured."""
 import csv
 import datetime
 import io
