@@ -123,7 +123,7 @@ impl<S: FarTickets> Frame<S> {
         ensures evictable { IfSome result
             (λ found. IsEvictable self.now.rows found.0.column found.0.group found.1) }
     {
-        self.rows.held().coldest_object()
+        self.rows.held().coldest()
     }
 
     /// Begins to evict the coldest object without a pin, of the kind with less space. `None` exactly if neither kind has

@@ -55,10 +55,22 @@ impl<S: FarTickets> Rows<S> {
     {
         match object {
             Object::Number(o) => {
-                begin_evac(alloc, self.number_objects(), store, Want::Object(o), Kind::Int)
+                begin_evac(
+                    alloc,
+                    self.number_objects(),
+                    store,
+                    Want::Object(o),
+                    Kind::Int,
+                )
             }
             Object::Text(o) => {
-                begin_evac(alloc, self.text_objects(), store, Want::Object(o), Kind::Text)
+                begin_evac(
+                    alloc,
+                    self.text_objects(),
+                    store,
+                    Want::Object(o),
+                    Kind::Text,
+                )
             }
         }
     }

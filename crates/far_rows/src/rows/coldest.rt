@@ -1,8 +1,7 @@
 // The eviction victim among the objects of the rows.
-ghost use Rattle.std.specs.Prelude.{◌≡◌, ◌↔◌, None, Some, IfSome, option_map};
+ghost use Rattle.std.specs.Prelude.{◌≡◌, ◌↔◌, None, IfSome, option_map};
 ghost use Rattle.far_scopes.specs.Coldest.{coldest as coldest_in};
-ghost use Rattle.far_rows.specs.Moving.{object_at};
-ghost use Rattle.far_rows.specs.Jobs.{IsEvictable, evac_refusal};
+ghost use Rattle.far_rows.specs.Jobs.{IsEvictable};
 ghost use Rattle.far_rows.specs.Coldest.{coldest, coldest_name, numbers_go_first, pins_at};
 
 use super::Rows;
@@ -11,28 +10,12 @@ use far_store::FarTickets;
 use far_types::Name;
 
 impl<S: FarTickets> Rows<S> {
-    /// Returns the name of the object to evict next, as `coldest_object` does.
-    pub fn coldest(&self) -> Option<Name>
-        ensures coldest { result ≡ coldest self.now }
-        ensures local { IfSome result
-            (λ name. evac_refusal self.now name.column name.group ≡ None) }
-        ensures unpinned { IfSome result
-            (λ name. option_map (pins_at self.now) (object_at self.now name.column name.group)
-            ≡ Some 0) }
-        ensures none { (result ≡ None)
-            ↔ ((coldest_in self.now.number_objects ≡ None)
-            × (coldest_in self.now.text_objects ≡ None)) }
-    {
-        let (name, _) = self.coldest_object()?;
-        Some(name)
-    }
-
     /// Returns the object to evict next, with its name: the coldest object of the kind whose local memory has less space in
     /// proportion to its capacity. If the proportions are equal, that kind is numbers. If that kind has no such object, returns
     /// the coldest object of the second kind. `None` exactly if neither kind has one. Allocates nothing.
     ///
     /// The object is local and has no pin.
-    pub fn coldest_object(&self) -> Option<(Name, Object)>
+    pub fn coldest(&self) -> Option<(Name, Object)>
         ensures coldest { option_map (λ found. found.0) result ≡ coldest self.now }
         ensures evictable { IfSome result
             (λ found. IsEvictable self.now found.0.column found.0.group found.1) }
