@@ -46,12 +46,7 @@ impl<S: FarTickets> TableRows<S> {
     /// - `NoMemory` (1): an allocation fails.
     ///
     /// A refused call changes nothing.
-    pub fn install(
-        &mut self,
-        alloc: Global,
-        store: &S,
-        fetched: &Fetched<S>,
-    ) -> Result<(), Refusal>
+    pub fn install(&mut self, alloc: Global, store: &S, fetched: &Fetched<S>) -> Result<(), Refusal>
         requires here { AreAt S.is_of (S.store_id store.now) self.old.held }
         requires fetched_here { S.is_of fetched.now.job.ticket (S.store_id store.now) }
         ensures installed { OnOk result
