@@ -1,2 +1,1 @@
 pub mod MovementCopies
-pub mod SpellingCommits

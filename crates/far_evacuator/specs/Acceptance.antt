@@ -1,5 +1,5 @@
 -- When the end of a job is accepted.
-use Rattle.std.specs.Prelude.{◌≡◌, ◌↔◌, ◌⊎◌, ℕ, ◌<◌, true, false, List, length, Some, option_map, IsSomeAnd, Result, IsErrOf, IfErr}
+use Rattle.std.specs.Prelude.{◌≡◌, ◌↔◌, ◌⊎◌, ℕ, ◌<◌, true, false, List, length, Some, option_map, IsSomeAnd, Result, IsErrOf, IfErr, OnOk}
 use Rattle.far_types.specs.declared.refusal.Refusal.{Refusal}
 use Rattle.far_types.specs.declared.refusal.Refusal.TheVariants as refusal
 use Rattle.far_pointer.specs.declared.pointer.Pointer.TheVariants.{Remote}
@@ -55,9 +55,12 @@ pub record LeavesRest {X K : Type 0} (meaning : List ℕ → List X) (content : 
   pub clean : AreClean meaning content old → AreClean meaning content new
   pub here : AreHere is_of id new
 
--- when the commit of a carried evacuation is refused: `valid` says that the job's assumptions hold, `held` that its object has a pin
-pub record RefusesCommit {A : Type 0} (result : Result A Refusal)
+-- when the commit of a carried evacuation is accepted, and why it is refused: `valid` says that the job's assumptions hold, `held` that its
+-- object has a pin
+pub record DecidesCommit {A : Type 0} (result : Result A Refusal)
     (valid held : Type 0) : Type 0 where
+  -- accepted only if the assumptions hold
+  pub accepted : OnOk result valid
   -- the assumptions no longer hold
   pub stale : IsErrOf result refusal.StaleJob ↔ (¬ valid)
   -- else the object has a pin
@@ -65,9 +68,12 @@ pub record RefusesCommit {A : Type 0} (result : Result A Refusal)
   -- no other refusal
   pub only : IfErr result (λ e. (e ≡ refusal.StaleJob) ⊎ (e ≡ refusal.Pinned))
 
--- when the install of a carried fetch is refused: `valid` says that the job's assumptions hold, `crowded` that no segment has the space
-pub record RefusesInstall {A : Type 0} (result : Result A Refusal)
+-- when the install of a carried fetch is accepted, and why it is refused: `valid` says that the job's assumptions hold, `crowded` that no
+-- segment has the space
+pub record DecidesInstall {A : Type 0} (result : Result A Refusal)
     (valid crowded : Type 0) : Type 0 where
+  -- accepted only if the assumptions hold
+  pub accepted : OnOk result valid
   -- the assumptions no longer hold
   pub stale : IsErrOf result refusal.StaleJob ↔ (¬ valid)
   -- else no segment has the space

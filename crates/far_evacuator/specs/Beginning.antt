@@ -1,5 +1,6 @@
 -- What a job is when it begins, and when it is refused.
 use Rattle.std.specs.Prelude.{◌≡◌, ℕ, ◌<◌, true, false, List, [], ◌∷◌, length, Option, Some, option_map, is_none}
+use Rattle.far_types.specs.declared.cell.Kind.{Kind}
 use Rattle.far_types.specs.declared.refusal.Refusal.{Refusal}
 use Rattle.far_types.specs.declared.refusal.Refusal.TheVariants as refusal
 use Rattle.far_types.specs.FirstOf.{first_of}
@@ -20,9 +21,10 @@ module _ {X K : Type 0} (spelling : List X → List ℕ) (m : Movement X K) (o :
       × (option_map spelling (list_in m.memory o) ≡ Some bytes)
   IsObjectForm (Clean ticket) = (dirty m o ≡ false) × (ticket_of m o ≡ Some ticket)
 
-  -- an evacuation of object o that begins now
-  pub record IsBegunEvac (job : Evacuation K) : Type 0 where
+  -- an evacuation of object o that begins now, of an object of this kind
+  pub record IsBegunEvac (of : Kind) (job : Evacuation K) : Type 0 where
     pub number : job.number ≡ m.number
+    pub kind : job.kind ≡ of
     pub object : job.object ≡ o
     pub version : job.version ≡ version_of m o
     pub leavings : job.leavings ≡ leavings_of m o
@@ -44,9 +46,10 @@ module _ {X K : Type 0} (m : Movement X K) where
   begin_refusal (Object o) = lend_refusal m o
   begin_refusal Coldest = first_of ((is_none (coldest m), refusal.StaleJob) ∷ [])
 
-  -- a fetch of object o that begins now
-  pub record IsFetch (o : ℕ) (job : Fetch K) : Type 0 where
+  -- a fetch of object o that begins now, of an object of this kind
+  pub record IsFetch (o : ℕ) (of : Kind) (job : Fetch K) : Type 0 where
     pub number : job.number ≡ m.number
+    pub kind : job.kind ≡ of
     pub object : job.object ≡ o
     pub leavings : job.leavings ≡ leavings_of m o
     pub ticket : ticket_of m o ≡ Some job.ticket

@@ -1,11 +1,14 @@
 -- Evacuations and fetches: what these jobs assume and what they own.
 use Rattle.std.specs.Prelude.{◌≡◌, ℕ, List, Option, None, Some}
+use Rattle.far_types.specs.declared.cell.Kind.{Kind}
 use Rattle.far_evacuator.specs.declared.evacuation.EvacForm.{EvacForm}
 use Rattle.far_evacuator.specs.declared.evacuation.EvacForm.TheVariants.{Dirty, Clean}
 
--- an evacuation that was begun: the frame's number, the object, its counts of writes and evictions then, and its far form or ticket
+-- an evacuation that was begun: the frame's number, the kind of its object and the object's number, its counts of writes and evictions
+-- then, and its far form or ticket
 pub record Evacuation (K : Type 0) : Type 0 where
   pub number : ℕ
+  pub kind : Kind
   pub object : ℕ
   pub version : ℕ
   pub leavings : ℕ
@@ -16,9 +19,10 @@ pub record CarriedEvacuation (K : Type 0) : Type 0 where
   pub job : Evacuation K
   pub ticket : K
 
--- a fetch that was begun: the frame's number, the object, its count of evictions then, and its ticket
+-- a fetch that was begun: the frame's number, the kind of its object and the object's number, its count of evictions then, and its ticket
 pub record Fetch (K : Type 0) : Type 0 where
   pub number : ℕ
+  pub kind : Kind
   pub object : ℕ
   pub leavings : ℕ
   pub ticket : K
@@ -27,12 +31,6 @@ pub record Fetch (K : Type 0) : Type 0 where
 pub record CarriedFetch (K : Type 0) : Type 0 where
   pub job : Fetch K
   pub bytes : List ℕ
-
--- the bytes to be put, if there are any, spell some list
-abbrev pub IsSpelledForm : {X K : Type 0} → (List X → List ℕ → Type 0)
-    → EvacForm K → Type 0
-IsSpelledForm {X} spelled (Dirty bytes) = (list : List X) × spelled list bytes
-IsSpelledForm spelled (Clean ticket) = Unit {0}
 
 module _ {K : Type 0} where
   -- the job puts a far form, because its object was dirty
@@ -59,12 +57,25 @@ module _ {K : Type 0} where
   IsFormOf is_of id (Dirty bytes) = Unit {0}
   IsFormOf is_of id (Clean own) = is_of own id
 
--- the job was carried: its far form is in the store with this id
-pub record IsCarriedAt {K : Type 0} (content : K → List ℕ) (is_of : K → List ℕ → Type 0)
-    (id : List ℕ) (job : Evacuation K) (carried : CarriedEvacuation K) : Type 0 where
-  -- the same job
-  pub same_job : carried.job ≡ job
-  -- the ticket is of the job's far form
-  pub ticket : IsFormTicket content job.form carried.ticket
-  -- the ticket is of this store
-  pub here : is_of carried.ticket id
+module _ {K : Type 0} (content : K → List ℕ) where
+  -- an evacuation after its carry: the far store has its form
+  pub record IsCarriedEvac (job : Evacuation K) (carried : CarriedEvacuation K) : Type 0 where
+    -- the same job
+    pub same_job : carried.job ≡ job
+    -- the ticket is of the job's far form
+    pub ticket : IsFormTicket content job.form carried.ticket
+
+  -- an evacuation after its carry, to the store with this id
+  pub record IsCarriedEvacAt (is_of : K → List ℕ → Type 0) (id : List ℕ) (job : Evacuation K)
+      (carried : CarriedEvacuation K) : Type 0 where
+    -- the store has the job's far form
+    pub form : IsCarriedEvac job carried
+    -- its ticket is of this store
+    pub here : is_of carried.ticket id
+
+  -- a fetch after its carry: it has the content of its ticket
+  pub record IsCarriedFetch (job : Fetch K) (fetched : CarriedFetch K) : Type 0 where
+    -- the same job
+    pub same_job : fetched.job ≡ job
+    -- the bytes are the content
+    pub bytes : fetched.bytes ≡ content job.ticket

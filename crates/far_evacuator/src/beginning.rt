@@ -15,9 +15,8 @@ use far_codec::Elem;
 use far_pointer::Pointer;
 use far_scopes::Objects;
 use far_store::FarTickets;
-use far_types::Refusal;
+use far_types::{Kind, Refusal};
 use std::alloc::Global;
-use std::marker::PhantomData;
 
 /// Which object an evacuation takes.
 #[derive(Clone, Copy, Debug, PartialEq, Eq)]
@@ -31,6 +30,8 @@ pub enum Want {
 
 /// Begins to evict an object: encodes it if it is dirty, and copies its ticket if it is clean. Changes no object.
 ///
+/// The job keeps `kind`, by which a caller with objects of two kinds finds these objects again at the job's end.
+///
 /// Refused with:
 /// - `StaleJob` (20) exactly if `want` is `Coldest` and no object can be evicted;
 /// - `Absent` (16), which names the object, exactly if `want` names an object that is away;
@@ -40,13 +41,14 @@ pub fn begin_evac<T: Elem, S: FarTickets>(
     objects: &Objects<T, S>,
     store: &S,
     want: Want,
-) -> Result<EvacJob<T, S>, Refusal>
+    kind: Kind,
+) -> Result<EvacJob<S>, Refusal>
     requires within { IsWanted objects.now want }
     requires here { AreHere S.is_of (S.store_id store.now) objects.now }
     requires spelled { IfSome (wanted_object objects.now want)
         (λ o. IfSome (list_in objects.now.memory o) T.has_spelling) }
     ensures begun { IfOk result (λ job. IsSomeAnd (wanted_object objects.now want)
-        (λ o. IsBegunEvac T.spelling objects.now o job)) }
+        (λ o. IsBegunEvac T.spelling objects.now o kind job)) }
     ensures here { IfOk result (λ job. IsFormOf S.is_of (S.store_id store.now) job.form) }
     ensures free { OnOk result (begin_refusal objects.now want ≡ None) }
     ensures refused { IfErr result (λ e. (begin_refusal objects.now want ≡ Some e)
@@ -64,11 +66,11 @@ pub fn begin_evac<T: Elem, S: FarTickets>(
     };
     Ok(EvacJob {
         number,
+        kind,
         object,
         version: objects.version(object),
         leavings: objects.leavings(object),
         form,
-        kind: PhantomData,
     })
 }
 
@@ -92,17 +94,18 @@ fn chosen<T: Elem, S: FarTickets>(objects: &Objects<T, S>, want: Want) -> Result
     }
 }
 
-/// Begins to fetch an object. Allocates nothing.
+/// Begins to fetch an object. The job keeps `kind`, as an evacuation does. Allocates nothing.
 ///
 /// Refused with `StaleJob` (20) exactly if the object is local.
 pub fn begin_fetch<T: Elem, S: FarTickets>(
     objects: &Objects<T, S>,
     store: &S,
     o: u32,
+    kind: Kind,
 ) -> Result<FetchJob<S>, Refusal>
     requires within { o < length objects.now.records }
     requires here { AreHere S.is_of (S.store_id store.now) objects.now }
-    ensures begun { IfOk result (λ job. IsFetch objects.now o job) }
+    ensures begun { IfOk result (λ job. IsFetch objects.now o kind job) }
     ensures here { IfOk result (λ job. S.is_of job.ticket (S.store_id store.now)) }
     ensures refused { refusal_in result ≡ fetch_refusal objects.now o }
 {
@@ -111,6 +114,7 @@ pub fn begin_fetch<T: Elem, S: FarTickets>(
     };
     Ok(FetchJob {
         number: objects.number(),
+        kind,
         object: o,
         leavings: objects.leavings(o),
         ticket: again_of(objects, store, o),

@@ -1,10 +1,10 @@
 // The ends of evacuations.
-ghost use Rattle.std.specs.Prelude.{◌≡◌, ◌≢◌, ◌<◌, ◌↔◌, length, IsTrue, OnOk, OnErr, IsSomeAnd};
+ghost use Rattle.std.specs.Prelude.{◌≡◌, ◌≢◌, ◌<◌, ◌↔◌, length, IsTrue, OnOk, OnErr, IfSome, IsSomeAnd};
 ghost use Rattle.far_codec.specs.Spelling.{IsSpelled};
 ghost use Rattle.far_scopes.specs.Memory.{list_in};
 ghost use Rattle.far_scopes.specs.Movement.{pins_of, AreClean, AreHere, AreTracked};
 ghost use Rattle.far_scopes.specs.Effects.{after_leave};
-ghost use Rattle.far_evacuator.specs.Acceptance.{IsCommittable, IsStill, LeavesRest, RefusesCommit};
+ghost use Rattle.far_evacuator.specs.Acceptance.{IsCommittable, IsStill, LeavesRest, DecidesCommit};
 
 use crate::evacuation::{Carried, EvacForm};
 use crate::tickets::is_under;
@@ -15,6 +15,9 @@ use far_types::Refusal;
 
 /// Ends a carried evacuation: evicts the object. The caller keeps the carried evacuation, but a second commit of it is refused. Allocates
 /// nothing.
+///
+/// The job does not say of which element type its object is. So the caller shows that the list of the object has a spelling, as at the
+/// beginning.
 ///
 /// A refused commit changes nothing. Refused with:
 /// - `StaleJob` (20) exactly if the job's assumptions no longer hold (`IsCommittable`);
@@ -28,15 +31,15 @@ use far_types::Refusal;
 pub fn commit<T: Elem, S: FarTickets>(
     objects: &mut Objects<T, S>,
     store: &S,
-    carried: &Carried<T, S>,
+    carried: &Carried<S>,
 ) -> Result<(), Refusal>
     requires here { AreHere S.is_of (S.store_id store.now) objects.old }
     requires carried_here { S.is_of carried.now.ticket (S.store_id store.now) }
     requires clean { AreClean T.meaning S.content objects.old }
+    requires spelled { IfSome (list_in objects.old.memory carried.now.job.object) T.has_spelling }
     ensures committed { OnOk result
         (objects.new ≡ after_leave objects.old carried.now.job.object carried.now.ticket) }
-    ensures accepted { OnOk result (IsCommittable S.number_of T.spelling objects.old carried.now) }
-    ensures refused { RefusesCommit result
+    ensures decided { DecidesCommit result
         (IsCommittable S.number_of T.spelling objects.old carried.now)
         (pins_of objects.old carried.now.job.object ≢ 0) }
     ensures rest { LeavesRest T.meaning S.content S.is_of (S.store_id store.now) objects.old
@@ -59,11 +62,12 @@ pub fn commit<T: Elem, S: FarTickets>(
 fn is_committable<T: Elem, S: FarTickets>(
     objects: &Objects<T, S>,
     store: &S,
-    carried: &Carried<T, S>,
+    carried: &Carried<S>,
 ) -> bool
     requires here { AreHere S.is_of (S.store_id store.now) objects.now }
     requires carried_here { S.is_of carried.now.ticket (S.store_id store.now) }
     requires clean { AreClean T.meaning S.content objects.now }
+    requires spelled { IfSome (list_in objects.now.memory carried.now.job.object) T.has_spelling }
     ensures exact { IsTrue result ↔ IsCommittable S.number_of T.spelling objects.now carried.now }
     ensures within { IsTrue result → carried.now.job.object < length objects.now.records }
     ensures copied { IsTrue result
@@ -89,7 +93,7 @@ fn is_committable<T: Elem, S: FarTickets>(
 fn is_still<T: Elem, S: FarTickets>(
     objects: &Objects<T, S>,
     store: &S,
-    carried: &Carried<T, S>,
+    carried: &Carried<S>,
     list: &[T],
 ) -> bool
     requires within { carried.now.job.object < length objects.now.records }
@@ -99,6 +103,7 @@ fn is_still<T: Elem, S: FarTickets>(
     requires tracked { AreTracked T.meaning S.content
         (IsSpelled T.in_range T.has_spelling T.spelling) objects.now }
     requires lent { list_in objects.now.memory carried.now.job.object ≡ Some list.now }
+    requires spelled { T.has_spelling list.now }
     ensures exact { IsTrue result
         ↔ IsStill S.number_of T.spelling objects.now carried.now.job.object carried.now.ticket
         carried.now.job.form }

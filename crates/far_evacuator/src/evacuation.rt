@@ -1,15 +1,13 @@
 // Evacuations: the jobs that evict objects.
 ghost use Rattle.std.specs.Prelude.{◌≡◌, ◌+◌, ◌<◌, ◌^◌, [], ◌∷◌, IfOk, IfErr, IsErr, option_map};
 ghost use Rattle.far_store.specs.Faults.{faults_in, outcome, FailsOnlyIf, RefusedBy};
-ghost use Rattle.far_codec.specs.Spelling.{IsSpelled};
-ghost use Rattle.far_evacuator.specs.Jobs.{IsCarriedAt, IsFormTicket, IsFormOf, IsSpelledForm, IsDirtyForm, put_ticket};
+ghost use Rattle.far_evacuator.specs.Jobs.{IsCarriedEvacAt, IsFormTicket, IsFormOf, IsDirtyForm, put_ticket};
 
 use crate::far_form::FarForm;
-use far_codec::Elem;
 use far_store::{FarStore, FarTickets, Meter};
-use far_types::Refusal;
+use far_types::{Kind, Refusal};
 use std::alloc::Global;
-use std::marker::{Model, PhantomData};
+use std::marker::Model;
 
 /// The far form of an evacuation's object, or its ticket if the far store already has the form.
 #[derive(Drop)]
@@ -20,48 +18,45 @@ pub enum EvacForm<K> {
     Clean(K),
 }
 
-/// An evacuation that was begun: the frame's number, the object, its counts of writes (`version`) and evictions (`leavings`) at that time,
-/// and its far form. It borrows nothing, so any thread can carry it.
+/// An evacuation that was begun: the frame's number, the kind of its object and the object's number, its counts of writes (`version`) and
+/// evictions (`leavings`) at that time, and its far form. It borrows nothing, so any thread can carry it.
 ///
 /// A refused carry returns the job, so that it can be carried again.
 ///
 /// Not writing an object again while its far copy is valid is AIFM's idea (OSDI 2020, section 5). The phases are this project's own.
 #[derive(Drop)]
-pub struct EvacJob<T: Elem, S: FarTickets> {
+pub struct EvacJob<S: FarTickets> {
     pub(crate) number: u32,
+    pub(crate) kind: Kind,
     pub(crate) object: u32,
     pub(crate) version: u64,
     pub(crate) leavings: u64,
     pub(crate) form: EvacForm<S::Ticket>,
-    pub(crate) kind: PhantomData<T>,
 }
 
-impl<T: Elem, S: FarTickets> Model for EvacJob<T, S> {
-    ghost use Rattle.far_codec.specs.Spelling.{IsSpelled};
-    ghost use Rattle.far_evacuator.specs.Jobs.{Evacuation, IsSpelledForm};
+impl<S: FarTickets> Model for EvacJob<S> {
+    ghost use Rattle.far_evacuator.specs.Jobs.{Evacuation};
 
     ghost Value = { Evacuation S.Ticket };
 
     ghost view = { λ job. record {
       number = job.number;
+      kind = job.kind;
       object = job.object;
       version = job.version;
       leavings = job.leavings;
       form = job.form;
     } };
-
-    ghost invariant = { λ job. IsSpelledForm (IsSpelled T.in_range T.has_spelling T.spelling)
-        job.form };
 }
 
 /// An evacuation that was carried: the job, and the ticket of its far form in the far store.
 #[derive(Drop)]
-pub struct Carried<T: Elem, S: FarTickets> {
-    pub(crate) job: EvacJob<T, S>,
+pub struct Carried<S: FarTickets> {
+    pub(crate) job: EvacJob<S>,
     pub(crate) ticket: S::Ticket,
 }
 
-impl<T: Elem, S: FarTickets> Model for Carried<T, S> {
+impl<S: FarTickets> Model for Carried<S> {
     ghost use Rattle.far_evacuator.specs.Jobs.{CarriedEvacuation, IsFormTicket};
 
     ghost Value = { CarriedEvacuation S.Ticket };
@@ -71,7 +66,7 @@ impl<T: Elem, S: FarTickets> Model for Carried<T, S> {
     ghost invariant = { λ carried. IsFormTicket S.content carried.job.form carried.ticket };
 }
 
-impl<T: Elem, S: FarStore> EvacJob<T, S> {
+impl<S: FarStore> EvacJob<S> {
     /// Puts the job's far form into the store. A job on a clean object does not call the store, and is never refused.
     ///
     /// A refused carry also returns the job, unchanged. Refused with:
@@ -83,11 +78,11 @@ impl<T: Elem, S: FarStore> EvacJob<T, S> {
         alloc: Global,
         store: &S,
         meter: &mut Meter,
-    ) -> Result<Carried<T, S>, (Refusal, EvacJob<T, S>)>
+    ) -> Result<Carried<S>, (Refusal, EvacJob<S>)>
         requires few { meter.old < 2 ^ 63 }
         requires here { IsFormOf S.is_of (S.store_id store.now) self.form }
         ensures carried { IfOk result
-            (IsCarriedAt S.content S.is_of (S.store_id store.now) self) }
+            (IsCarriedEvacAt S.content S.is_of (S.store_id store.now) self) }
         ensures back { IfErr result (λ refused. refused.1 ≡ self) }
         ensures dirty { IsErr result → IsDirtyForm self.form }
         ensures faults { meter.new ≡ meter.old + faults_in (outcome result) }
@@ -118,7 +113,21 @@ impl<T: Elem, S: FarStore> EvacJob<T, S> {
     }
 }
 
-impl<T: Elem, S: FarTickets> Carried<T, S> {
+impl<S: FarTickets> Carried<S> {
+    /// Returns the kind that the job was begun with. Allocates nothing.
+    pub fn kind(&self) -> Kind
+        ensures { result ≡ self.now.job.kind }
+    {
+        self.job.kind
+    }
+
+    /// Returns the number of the object that the job evicts. Allocates nothing.
+    pub fn object(&self) -> u32
+        ensures { result ≡ self.now.job.object }
+    {
+        self.job.object
+    }
+
     /// Returns the ticket's number and the bytes of the far form that the job put. Returns `None` exactly if the job was begun on a clean
     /// object, whose far form the store already had. Allocates nothing.
     pub fn outgoing(&self, store: &S) -> Option<(u64, &[u8])>

@@ -1,17 +1,19 @@
 // Fetches: the jobs that bring objects back.
 ghost use Rattle.std.specs.Prelude.{◌≡◌, ◌+◌, ◌<◌, ◌^◌, [], ◌∷◌, IfOk, IfErr};
 ghost use Rattle.far_store.specs.Faults.{faults_in, outcome, FailsOnlyIf, RefusedBy};
+ghost use Rattle.far_evacuator.specs.Jobs.{IsCarriedFetch};
 
 use far_store::{FarRead, FarTickets, Meter};
-use far_types::Refusal;
+use far_types::{Kind, Refusal};
 use std::alloc::Global;
 use std::marker::Model;
 
-/// A fetch that was begun: the frame's number, the object, its count of evictions at that time (`leavings`), and its ticket. It borrows
-/// nothing, so any thread can carry it.
+/// A fetch that was begun: the frame's number, the kind of its object and the object's number, its count of evictions at that time
+/// (`leavings`), and its ticket. It borrows nothing, so any thread can carry it.
 #[derive(Drop)]
 pub struct FetchJob<S: FarTickets> {
     pub(crate) number: u32,
+    pub(crate) kind: Kind,
     pub(crate) object: u32,
     pub(crate) leavings: u64,
     pub(crate) ticket: S::Ticket,
@@ -24,6 +26,7 @@ impl<S: FarTickets> Model for FetchJob<S> {
 
     ghost view = { λ job. record {
       number = job.number;
+      kind = job.kind;
       object = job.object;
       leavings = job.leavings;
       ticket = job.ticket;
@@ -58,6 +61,13 @@ impl<S: FarTickets> FetchJob<S> {
 }
 
 impl<S: FarTickets> Fetched<S> {
+    /// Returns the kind that the job was begun with. Allocates nothing.
+    pub fn kind(&self) -> Kind
+        ensures { result ≡ self.now.job.kind }
+    {
+        self.job.kind
+    }
+
     /// Returns the ticket of the content that the job read. Allocates nothing.
     pub fn ticket(&self) -> &S::Ticket
         ensures { result.now ≡ self.now.job.ticket }
@@ -80,8 +90,7 @@ impl<S: FarRead> FetchJob<S> {
     ) -> Result<Fetched<S>, (Refusal, FetchJob<S>)>
         requires few { meter.old < 2 ^ 63 }
         requires here { S.is_of self.ticket (S.store_id store.now) }
-        ensures job { IfOk result (λ fetched. fetched.job ≡ self) }
-        ensures bytes { IfOk result (λ fetched. fetched.bytes ≡ S.content self.ticket) }
+        ensures carried { IfOk result (IsCarriedFetch S.content self) }
         ensures back { IfErr result (λ refused. refused.1 ≡ self) }
         ensures faults { meter.new ≡ meter.old + faults_in (outcome result) }
         ensures cause { FailsOnlyIf S.may_fail (outcome result) }

@@ -4,7 +4,7 @@ ghost use Rattle.far_log.specs.RegionState.{fits_in};
 ghost use Rattle.far_codec.specs.Spelling.{IsSpelled};
 ghost use Rattle.far_scopes.specs.Movement.{list_of, ticket_of, AreHere};
 ghost use Rattle.far_scopes.specs.Effects.{after_arrive};
-ghost use Rattle.far_evacuator.specs.Acceptance.{IsInstallable, LeavesRest, RefusesInstall};
+ghost use Rattle.far_evacuator.specs.Acceptance.{IsInstallable, LeavesRest, DecidesInstall};
 
 use crate::fetching::Fetched;
 use crate::tickets::is_under;
@@ -35,9 +35,7 @@ pub fn install<T: Elem, S: FarTickets>(
     ensures installed { OnOk result (IsSomeAnd
         (list_of T.meaning S.content objects.old fetched.now.job.object)
         (λ list. objects.new ≡ after_arrive objects.old fetched.now.job.object list)) }
-    ensures accepted { OnOk result (IsInstallable S.number_of
-        (IsSpelled T.in_range T.has_spelling T.spelling) objects.old fetched.now) }
-    ensures refused { RefusesInstall result
+    ensures decided { DecidesInstall result
         (IsInstallable S.number_of (IsSpelled T.in_range T.has_spelling T.spelling) objects.old
         fetched.now)
         (IsSomeAnd (list_of T.meaning S.content objects.old fetched.now.job.object)

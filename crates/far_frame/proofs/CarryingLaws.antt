@@ -5,7 +5,6 @@ use Rattle.std.specs.List.{All, find}
 use Rattle.std.specs.Option.{option_copied}
 use Rattle.std.proofs.lemmas.Option.{none-some}
 use Rattle.std.proofs.lemmas.List.Elements.{All-cons, All-head, All-map, All-nil, All-tail}
-use Rattle.far_rows.specs.Jobs.{of_either}
 use Rattle.far_frame.specs.declared.job.JobPhase.TheVariants as work
 use Rattle.far_frame.specs.Jobs.{JobRecord, WorkOf, IsJobAt, IsWorkAt}
 use Rattle.far_frame.specs.Carrying.{tickets_of_work, wanted_of}
@@ -38,8 +37,8 @@ module _ {K : Type 0} (is_of : K → List ℕ → Type 0) (id : List ℕ) where
   tickets-here : (w : WorkOf K) → IsWorkAt is_of id w → All IsHere (tickets_of_work w)
   tickets-here (work.Evac evac) here = All-nil IsHere
   tickets-here (work.Carried carried) here = All-nil IsHere
-  tickets-here (work.Fetch fetch) here = All-cons IsHere (of_either fetch).ticket [] here (All-nil IsHere)
-  tickets-here (work.Fetched fetched) here = All-cons IsHere (of_either fetched).job.ticket [] here (All-nil IsHere)
+  tickets-here (work.Fetch fetch) here = All-cons IsHere fetch.ticket [] here (All-nil IsHere)
+  tickets-here (work.Fetched fetched) here = All-cons IsHere fetched.job.ticket [] here (All-nil IsHere)
   tickets-here (work.Offload build) here = All-map IsHere (λ ticket. ticket.1) build.job.tickets here
   tickets-here (work.Offloaded build) here = All-map IsHere (λ ticket. ticket.1) build.job.tickets here
 

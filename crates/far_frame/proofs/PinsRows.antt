@@ -14,7 +14,6 @@ use Rattle.far_texts.specs.Texts.{Texts, lists_of, object_at as text_at}
 use Rattle.far_texts.specs.Effects.{group_with, set_in as text_set_in}
 use Rattle.far_columns.specs.Numbers.{number_lists}
 use Rattle.far_texts.specs.Together.{all_begin, next_forms}
-use Rattle.far_rows.specs.declared.job.ByKind.TheVariants.{Numbers, Texts as ByTexts}
 use Rattle.far_rows.specs.declared.column_index.ColumnIndex.{ColumnIndex}
 use Rattle.far_rows.specs.declared.column_index.ColumnIndex.TheVariants as column_index
 use Rattle.far_rows.specs.declared.new_cell.NewCell.{NewCell}
@@ -23,6 +22,7 @@ use Rattle.far_rows.specs.declared.object.Object.{Object}
 use Rattle.far_rows.specs.declared.object.Object.TheVariants as object
 use Rattle.far_rows.specs.Rows.{Rows, TextsMoved}
 use Rattle.far_rows.specs.Coldest.{pins_at}
+use Rattle.far_rows.specs.Jobs.{IsAfterArrive, after_leave_in, pins_in}
 use Rattle.far_rows.specs.ColumnIndexes.{kind_of}
 use Rattle.far_rows.specs.Setting.{set_in, kind_in}
 use Rattle.far_rows.specs.Moving.{object_at, after_touch, after_pin, after_unpin}
@@ -127,15 +127,25 @@ module _ {K : Type 0} where
     texts = keeps-compacted old.text_objects new.text_objects segment h.0 (λ p. ap (λ (r : Rows K). pins_of r.text_objects p) h.1);
   }
 
+  leave-rows : (r : Rows K) (of : Kind) (o : ℕ) (ticket : K) → pins_in r of o ≡ 0 → KeepsRows r (after_leave_in r of o ticket)
+  leave-rows r kind.Int o ticket free = record { numbers = keeps-after_leave r.number_objects o ticket free; texts = keeps-same r.text_objects }
+  leave-rows r kind.Text o ticket free = record { numbers = keeps-same r.number_objects; texts = keeps-after_leave r.text_objects o ticket free }
+
+  arrive-rows : (content : K → List ℕ) (r now : Rows K) (of : Kind) (o : ℕ) → IsAfterArrive content r of o now → KeepsRows r now
+  arrive-rows content r now kind.Int o is = back (number_lists content r.number_objects o) is where
+    back : (found : Option (List (Option ℤ))) → IsSomeAnd found (λ list. now ≡ record r { number_objects = after_arrive r.number_objects o list }) → KeepsRows r now
+    back None k = absurd k
+    back (Some list) k = rows-are r _ now k (record { numbers = keeps-after_arrive r.number_objects o list; texts = keeps-same r.text_objects })
+  arrive-rows content r now kind.Text o is = back (lists_of content r.text_objects o) is where
+    back : (found : Option (List ℕ)) → IsSomeAnd found (λ list. now ≡ record r { text_objects = after_arrive r.text_objects o list }) → KeepsRows r now
+    back None k = absurd k
+    back (Some list) k = rows-are r _ now k (record { numbers = keeps-same r.number_objects; texts = keeps-after_arrive r.text_objects o list })
+
   -- the ends of jobs keep pins
   module _ (number_of : K → ℕ) (old new : State K) where
     pub commits-rows : (w : WorkOf K) → Commits number_of old w new → KeepsRows old.rows new.rows
-    commits-rows (work.Carried (Numbers carried)) h =
-        let o = carried.job.object in
-        rows-are old.rows _ new.rows h.changed.rows.away (record { numbers = keeps-after_leave old.rows.number_objects o carried.ticket h.changed.rows.free; texts = keeps-same old.rows.text_objects })
-    commits-rows (work.Carried (ByTexts carried)) h =
-        let o = carried.job.object in
-        rows-are old.rows _ new.rows h.changed.rows.away (record { numbers = keeps-same old.rows.number_objects; texts = keeps-after_leave old.rows.text_objects o carried.ticket h.changed.rows.free })
+    commits-rows (work.Carried carried) h =
+        rows-are old.rows _ new.rows h.changed.rows.away (leave-rows old.rows carried.job.kind carried.job.object carried.ticket h.changed.rows.free)
     commits-rows (work.Evac evac) h = absurd h
     commits-rows (work.Fetch fetch) h = absurd h
     commits-rows (work.Fetched fetched) h = absurd h
@@ -144,14 +154,7 @@ module _ {K : Type 0} where
 
     module _ (content : K → List ℕ) where
       pub installs-rows : (w : WorkOf K) → Installs number_of old content w new → KeepsRows old.rows new.rows
-      installs-rows (work.Fetched (Numbers fetched)) h = back (number_lists content old.rows.number_objects fetched.job.object) h.changed.rows.back where
-        back : (found : Option (List (Option ℤ))) → IsSomeAnd found (λ list. new.rows ≡ record old.rows { number_objects = after_arrive old.rows.number_objects fetched.job.object list }) → KeepsRows old.rows new.rows
-        back None k = absurd k
-        back (Some list) k = rows-are old.rows _ new.rows k (record { numbers = keeps-after_arrive old.rows.number_objects fetched.job.object list; texts = keeps-same old.rows.text_objects })
-      installs-rows (work.Fetched (ByTexts fetched)) h = back (lists_of content old.rows.text_objects fetched.job.object) h.changed.rows.back where
-        back : (found : Option (List ℕ)) → IsSomeAnd found (λ list. new.rows ≡ record old.rows { text_objects = after_arrive old.rows.text_objects fetched.job.object list }) → KeepsRows old.rows new.rows
-        back None k = absurd k
-        back (Some list) k = rows-are old.rows _ new.rows k (record { numbers = keeps-same old.rows.number_objects; texts = keeps-after_arrive old.rows.text_objects fetched.job.object list })
+      installs-rows (work.Fetched fetched) h = arrive-rows content old.rows new.rows fetched.job.kind fetched.job.object h.changed.rows.back
       installs-rows (work.Evac evac) h = absurd h
       installs-rows (work.Carried carried) h = absurd h
       installs-rows (work.Fetch fetch) h = absurd h

@@ -21,7 +21,6 @@ use Rattle.far_frame.specs.declared.step.Reply.{Reply}
 use Rattle.far_frame.specs.declared.step.Reply.TheVariants as reply
 use Rattle.far_frame.specs.Runs.{is_refused, is_movement, rows_after, plain_rows}
 use Rattle.far_evacuator.specs.Jobs.{CarriedEvacuation}
-use Rattle.far_rows.specs.declared.job.ByKind.{ByKind}
 use Rattle.far_rows.specs.Jobs.{evac_refusal, fetch_refusal, pins_by}
 use Rattle.far_frame.specs.Effects.{Replies, Accepts, Refuses, Changes}
 use Rattle.far_frame.specs.Lending.{IsLent, flags_of, pieces_in}
@@ -189,7 +188,7 @@ module _ {K : Type 0} (content : K → List ℕ) (number_of : K → ℕ) where
   commits-table old (work.Offload build) new h = absurd h
   commits-table old (work.Offloaded build) new h = absurd h
 
-  pub pinned-stays : (old : World K) (n : ℕ) (job : JobRecord K) (carried : ByKind (CarriedEvacuation K) (CarriedEvacuation K)) → job_at old.jobs n ≡ Some job → job.work ≡ work.Carried carried → pins_by old.state.rows carried ≢ 0 → (new : World K) → ¬ (IsStep content number_of old (step.Commit n) reply.Done new)
+  pub pinned-stays : (old : World K) (n : ℕ) (job : JobRecord K) (carried : CarriedEvacuation K) → job_at old.jobs n ≡ Some job → job.work ≡ work.Carried carried → pins_by old.state.rows carried ≢ 0 → (new : World K) → ¬ (IsStep content number_of old (step.Commit n) reply.Done new)
   pinned-stays old n job carried is phase pins new k =
       let found : IsSomeAnd (Some job) (λ j. Commits number_of old.state j.work new.state) = subst (λ (o : Option (JobRecord K)). IsSomeAnd o (λ j. Commits number_of old.state j.work new.state)) is k.ended in
       pins (subst (λ (w : WorkOf K). Commits number_of old.state w new.state) phase found).changed.rows.free

@@ -3,6 +3,8 @@ use Rattle.std.proofs.Common.{◌≡◌, ◌≢◌, ◌<◌, ℕ, zero, suc, ◌
 use Rattle.std.specs.Prelude.{slice_get, slice_set}
 use Rattle.std.specs.Option.{option_map_or}
 use Rattle.std.proofs.lemmas.Option.{slice_get_within}
+use Rattle.far_types.specs.declared.cell.Kind.{Kind}
+use Rattle.far_types.specs.declared.cell.Kind.TheVariants as kind
 use Rattle.far_types.specs.declared.refusal.Refusal.TheVariants as refusal
 use Rattle.far_types.specs.FirstOf.{first_of}
 use Rattle.far_types.specs.Table.{Registered, is_pending}
@@ -14,11 +16,12 @@ use Rattle.far_scopes.specs.Placing.{spot}
 use Rattle.far_scopes.specs.Effects.{with_record, after_leave, after_arrive}
 use Rattle.far_scopes.proofs.MovementFrames.{object_record-with_other}
 use Rattle.far_columns.specs.Numbers.{number_lists}
+use Rattle.far_evacuator.specs.Jobs.{CarriedEvacuation, CarriedFetch}
 use Rattle.far_texts.specs.Texts.{lists_of}
-use Rattle.far_rows.specs.declared.job.ByKind.TheVariants.{Numbers, Texts as ByTexts}
 use Rattle.far_rows.specs.declared.object.Object.{Object}
 use Rattle.far_rows.specs.declared.object.Object.TheVariants as object
 use Rattle.far_rows.specs.Coldest.{pins_at}
+use Rattle.far_rows.specs.Jobs.{IsAfterArrive, IsEvacAcceptedIn, IsFetchAcceptedIn, after_leave_in, pins_in}
 use Rattle.far_rows.specs.Moving.{object_at, after_pin, after_unpin, IsInUse}
 use Rattle.far_rows.specs.Rows.{Rows}
 use Rattle.far_table.specs.Offloading.{HoldsStill}
@@ -218,10 +221,13 @@ module _ {K : Type 0} where
           others (object.Text p) other = other-word r.text_objects.memory.words o p Remote (λ same. other (ap (λ n. object.Text n) same))
           others (object.Number p) other = refl
 
+    kind-leaves : (number_of : K → ℕ) (of : Kind) (carried : CarriedEvacuation K) → IsEvacAcceptedIn number_of r of carried → pins_in r of carried.job.object ≡ 0 → new.rows ≡ after_leave_in r of carried.job.object carried.ticket → Leaves
+    kind-leaves number_of kind.Int carried accepted free away = number-leaves carried.job.object carried.ticket accepted.local free away
+    kind-leaves number_of kind.Text carried accepted free away = text-leaves carried.job.object carried.ticket accepted.local free away
+
     -- an accepted commit evicts the chunk
     pub leaves : (number_of : K → ℕ) (w : WorkOf K) → Commits number_of old w new → Leaves
-    leaves number_of (work.Carried (Numbers carried)) h = number-leaves carried.job.object carried.ticket h.changed.rows.accepted.local h.changed.rows.free h.changed.rows.away
-    leaves number_of (work.Carried (ByTexts carried)) h = text-leaves carried.job.object carried.ticket h.changed.rows.accepted.local h.changed.rows.free h.changed.rows.away
+    leaves number_of (work.Carried carried) h = kind-leaves number_of carried.job.kind carried h.changed.rows.accepted h.changed.rows.free h.changed.rows.away
     leaves number_of (work.Evac evac) h = absurd h
     leaves number_of (work.Fetch fetch) h = absurd h
     leaves number_of (work.Fetched fetched) h = absurd h
@@ -256,16 +262,19 @@ module _ {K : Type 0} where
           others (object.Text p) other = other-word r.text_objects.memory.words o p (Local (spot r.text_objects.memory.state (length list)) false true true) (λ same. other (ap (λ n. object.Text n) same))
           others (object.Number p) other = refl
 
-    -- an accepted install fetches the chunk
-    pub arrives : (number_of : K → ℕ) (w : WorkOf K) → Installs number_of old content w new → Arrives
-    arrives number_of (work.Fetched (Numbers fetched)) h = back (number_lists content r.number_objects fetched.job.object) h.changed.rows.back where
+    kind-arrives : (number_of : K → ℕ) (of : Kind) (fetched : CarriedFetch K) → IsFetchAcceptedIn number_of r of fetched → IsAfterArrive content r of fetched.job.object new.rows → Arrives
+    kind-arrives number_of kind.Int fetched accepted is = back (number_lists content r.number_objects fetched.job.object) is where
       back : (found : Option (List (Option ℤ))) → IsSomeAnd found (λ list. new.rows ≡ record r { number_objects = after_arrive r.number_objects fetched.job.object list }) → Arrives
       back None k = absurd k
-      back (Some list) k = number-arrives fetched.job.object list h.changed.rows.accepted.away k
-    arrives number_of (work.Fetched (ByTexts fetched)) h = back (lists_of content r.text_objects fetched.job.object) h.changed.rows.back where
+      back (Some list) k = number-arrives fetched.job.object list accepted.away k
+    kind-arrives number_of kind.Text fetched accepted is = back (lists_of content r.text_objects fetched.job.object) is where
       back : (found : Option (List ℕ)) → IsSomeAnd found (λ list. new.rows ≡ record r { text_objects = after_arrive r.text_objects fetched.job.object list }) → Arrives
       back None k = absurd k
-      back (Some list) k = text-arrives fetched.job.object list h.changed.rows.accepted.away k
+      back (Some list) k = text-arrives fetched.job.object list accepted.away k
+
+    -- an accepted install fetches the chunk
+    pub arrives : (number_of : K → ℕ) (w : WorkOf K) → Installs number_of old content w new → Arrives
+    arrives number_of (work.Fetched fetched) h = kind-arrives number_of fetched.job.kind fetched h.changed.rows.accepted h.changed.rows.back
     arrives number_of (work.Evac evac) h = absurd h
     arrives number_of (work.Carried carried) h = absurd h
     arrives number_of (work.Fetch fetch) h = absurd h

@@ -5,11 +5,10 @@ use Rattle.far_types.specs.declared.name.Name.{Name}
 use Rattle.far_types.specs.declared.refusal.Refusal.{Refusal}
 use Rattle.far_types.specs.declared.refusal.Refusal.TheVariants as refusal
 use Rattle.far_types.specs.Refusals.{number_of as refusal_number}
-use Rattle.far_evacuator.specs.Jobs.{Evacuation, CarriedEvacuation, Fetch, CarriedFetch, IsDirtyForm, IsFormOf}
-use Rattle.far_rows.specs.declared.job.ByKind.{ByKind}
+use Rattle.far_evacuator.specs.Jobs.{Evacuation, CarriedEvacuation, Fetch, CarriedFetch, IsCarriedEvac, IsCarriedFetch, IsDirtyForm, IsFormOf}
 use Rattle.far_rows.specs.Rows.{Rows}
 use Rattle.far_rows.specs.Coldest.{coldest}
-use Rattle.far_rows.specs.Jobs.{of_either, IsCarriedEvac, IsCarriedFetch, IsEvacBegun, IsFetchBegun, IsEvacAccepted, IsFetchAccepted, evac_refusal, fetch_refusal, pins_by, HasNoSpace}
+use Rattle.far_rows.specs.Jobs.{IsEvacBegun, IsFetchBegun, IsEvacAccepted, IsFetchAccepted, evac_refusal, fetch_refusal, pins_by, HasNoSpace}
 use Rattle.far_table.specs.Offloading.{Build, AreTicketsOf, IsMergeable, IsMerged, IsOffloadBegun, offload_refusal}
 use Rattle.far_table.specs.Watching.{aggregate_at}
 use Rattle.far_frame.specs.State.{State, Alters, live}
@@ -21,9 +20,8 @@ use Rattle.far_frame.specs.declared.job.JobPhase.TheVariants as work
 
 -- the work of a job, by kind and phase
 abbrev pub WorkOf : Type 0 → Type 0
-WorkOf K = JobPhase (ByKind (Evacuation K) (Evacuation K))
-    (ByKind (CarriedEvacuation K) (CarriedEvacuation K)) (ByKind (Fetch K) (Fetch K))
-    (ByKind (CarriedFetch K) (CarriedFetch K)) (Build K) (Build K)
+WorkOf K =
+    JobPhase (Evacuation K) (CarriedEvacuation K) (Fetch K) (CarriedFetch K) (Build K) (Build K)
 
 -- a job: the column and the row group of its object, if it moves one, and its work
 pub record JobRecord (K : Type 0) : Type 0 where
@@ -57,10 +55,10 @@ module _ {K : Type 0} where
   module _ (is_of : K → List ℕ → Type 0) (id : List ℕ) where
     -- the tickets in a work are of the store with this id
     abbrev pub IsWorkAt : WorkOf K → Type 0
-    IsWorkAt (work.Evac evac) = IsFormOf is_of id (of_either evac).form
-    IsWorkAt (work.Carried carried) = is_of (of_either carried).ticket id
-    IsWorkAt (work.Fetch fetch) = is_of (of_either fetch).ticket id
-    IsWorkAt (work.Fetched fetched) = is_of (of_either fetched).job.ticket id
+    IsWorkAt (work.Evac evac) = IsFormOf is_of id evac.form
+    IsWorkAt (work.Carried carried) = is_of carried.ticket id
+    IsWorkAt (work.Fetch fetch) = is_of fetch.ticket id
+    IsWorkAt (work.Fetched fetched) = is_of fetched.job.ticket id
     IsWorkAt (work.Offload build) = AreTicketsOf is_of id build.job.tickets
     IsWorkAt (work.Offloaded build) = AreTicketsOf is_of id build.job.tickets
 
@@ -84,7 +82,7 @@ module _ {K : Type 0} where
 
   -- why carrying a work is refused
   abbrev pub WorkRefusal : WorkOf K → Refusal → Type 0
-  WorkRefusal (work.Evac evac) given = IsDirtyForm (of_either evac).form
+  WorkRefusal (work.Evac evac) given = IsDirtyForm evac.form
       × IsOneOf (21 ∷ 22 ∷ 1 ∷ []) given
   WorkRefusal (work.Fetch fetch) given = IsOneOf (21 ∷ 1 ∷ []) given
   WorkRefusal (work.Carried carried) given = given ≡ refusal.StaleJob

@@ -4,7 +4,7 @@ ghost use Rattle.far_store.specs.Faults.{faults_in, outcome, FailsOnlyIf};
 ghost use Rattle.far_frame.specs.Jobs.{IsWorkAt, IsWorkCarried, WorkRefusal, IsJobAt, IsCarried, CarryRefusal, is_offload, job_kind};
 ghost use Rattle.far_frame.specs.Carrying.{is_carried, outgoing_of, tickets_of_work, wanted_of};
 
-use far_rows::{RowsCarried, RowsEvac, RowsFetch, RowsFetched};
+use far_evacuator::{Carried, EvacJob, FetchJob, Fetched};
 use far_store::{FarStore, FarTickets, Meter};
 use far_table::{OffloadBuild, OffloadCarried};
 use far_types::{Name, Refusal};
@@ -41,10 +41,10 @@ pub enum JobPhase<E, C, F, D, B, M> {
 
 /// The work of a job of a table.
 type JobWork<S> = JobPhase<
-    RowsEvac<S>,
-    RowsCarried<S>,
-    RowsFetch<S>,
-    RowsFetched<S>,
+    EvacJob<S>,
+    Carried<S>,
+    FetchJob<S>,
+    Fetched<S>,
     OffloadBuild<S>,
     OffloadCarried<S>,
 >;

@@ -14,7 +14,6 @@ ghost use Rattle.far_types.specs.MayRefuse.{MayRefuse};
 ghost use Rattle.far_types.specs.Bounds.{AreLimits};
 ghost use Rattle.far_types.specs.Table.{Registered, Table, left, answer_now, column as column_of, part};
 ghost use Rattle.far_evacuator.specs.Jobs.{CarriedEvacuation};
-ghost use Rattle.far_rows.specs.declared.job.ByKind.{ByKind};
 ghost use Rattle.far_rows.specs.declared.object.Object.{Object};
 ghost use Rattle.far_rows.specs.Coldest.{pins_at};
 ghost use Rattle.far_rows.specs.Jobs.{pins_by};
@@ -208,7 +207,7 @@ pub fn a_pinned_object_stays<S: FarTickets>()
         (reply.Refused (refusal.Absent c g)) new
         → IfSome (object_at old.state.rows c g) (λ o. pins_at old.state.rows o ≡ 0) }
     ensures committed { (old : World S.Ticket) → (n : ℕ) → (job : JobRecord S.Ticket)
-        → (carried : ByKind (CarriedEvacuation S.Ticket) (CarriedEvacuation S.Ticket))
+        → (carried : CarriedEvacuation S.Ticket)
         → job_at old.jobs n ≡ Some job
         → job.work ≡ work.Carried carried
         → pins_by old.state.rows carried ≢ 0

@@ -42,4 +42,3 @@ pub mod RowsCells
 pub mod LendingNumbers
 pub mod LendingTexts
 pub mod RowsGroups
-pub mod ColdestLaws

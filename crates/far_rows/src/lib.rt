@@ -2,7 +2,6 @@
 //! The rows of a table, in columns whose objects may be away.
 
 mod column_index;
-mod job;
 mod lent_column;
 mod new_cell;
 mod new_row;
@@ -14,7 +13,6 @@ mod row_ref;
 mod rows;
 
 pub use column_index::ColumnIndex;
-pub use job::{ByKind, RowsCarried, RowsEvac, RowsFetch, RowsFetched};
 pub use lent_column::LentColumn;
 pub use new_cell::NewCell;
 pub use new_row::NewRow;

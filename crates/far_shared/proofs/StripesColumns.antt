@@ -17,12 +17,9 @@ use Rattle.far_columns.specs.Vector.{Vector}
 use Rattle.far_columns.specs.Effects.{is_full, next_group, next_name, objects_after_push, after_write_range}
 use Rattle.far_columns.specs.NumbersTogether.{NumberColumns, objects_after_push_all}
 use Rattle.far_columns.specs.Numbers.{Numbers, number_lists}
-use Rattle.far_evacuator.specs.Jobs.{CarriedEvacuation, CarriedFetch}
 use Rattle.far_texts.specs.Effects.{set_in as text_set_in}
 use Rattle.far_texts.specs.Texts.{Texts, lists_of}
 use Rattle.far_texts.specs.Together.{all_begin, after_create_all}
-use Rattle.far_rows.specs.declared.job.ByKind.{ByKind}
-use Rattle.far_rows.specs.declared.job.ByKind.TheVariants as by_kind
 use Rattle.far_rows.specs.declared.new_cell.NewCell.{NewCell}
 use Rattle.far_rows.specs.declared.new_cell.NewCell.TheVariants as new_cell
 use Rattle.far_rows.specs.declared.column_index.ColumnIndex.{ColumnIndex}
@@ -31,7 +28,7 @@ use Rattle.far_rows.specs.ColumnIndexes.{kind_of, column_indexes_from}
 use Rattle.far_rows.specs.Rows.{Rows, TextsMoved}
 use Rattle.far_rows.specs.Setting.{set_in}
 use Rattle.far_rows.specs.Opening.{empty_rows}
-use Rattle.far_rows.specs.Jobs.{IsAfterInstall, after_commit}
+use Rattle.far_rows.specs.Jobs.{IsAfterArrive, after_leave_in}
 use Rattle.far_table.specs.Live.{Moves}
 use Rattle.far_table.specs.State.{LiveState}
 use Rattle.far_frame.specs.declared.job.JobPhase.TheVariants as work_of
@@ -121,24 +118,24 @@ module _ {K : Type 0} where
   edit-columns content old (edit.Set p c cell) new h = found-set content old new (slice_get old.column_indexes c) _ p h.0 h.2 h.3.moved
   edit-columns content old (edit.Remove p) new h = subst (KeepsColumns old) (sym h) (record { column_indexes = refl; numbers = refl; texts = refl })
 
-  commit-columns : (old : Rows K) (carried : ByKind (CarriedEvacuation K) (CarriedEvacuation K)) → KeepsColumns old (after_commit old carried)
-  commit-columns old (by_kind.Numbers carried) = record { column_indexes = refl; numbers = refl; texts = refl }
-  commit-columns old (by_kind.Texts carried) = record { column_indexes = refl; numbers = refl; texts = refl }
+  commit-columns : (old : Rows K) (of : Kind) (o : ℕ) (ticket : K) → KeepsColumns old (after_leave_in old of o ticket)
+  commit-columns old kind.Int o ticket = record { column_indexes = refl; numbers = refl; texts = refl }
+  commit-columns old kind.Text o ticket = record { column_indexes = refl; numbers = refl; texts = refl }
 
   found-arrived : {A : Type 0} (o : Option A) (old new : Rows K) (f : A → Rows K) → ((x : A) → KeepsColumns old (f x)) → IsSomeAnd o (λ x. new ≡ f x) → KeepsColumns old new
   found-arrived None old new f keeps h = absurd h
   found-arrived (Some x) old new f keeps h = subst (KeepsColumns old) (sym h) (keeps x)
 
-  install-columns : (content : K → List ℕ) (old new : Rows K) (fetched : ByKind (CarriedFetch K) (CarriedFetch K)) → IsAfterInstall content old fetched new → KeepsColumns old new
-  install-columns content old new (by_kind.Numbers fetched) h =
-      found-arrived (number_lists content old.number_objects fetched.job.object) old new (λ list. record old { number_objects = after_arrive old.number_objects fetched.job.object list }) (λ list. record { column_indexes = refl; numbers = refl; texts = refl }) h
-  install-columns content old new (by_kind.Texts fetched) h =
-      found-arrived (lists_of content old.text_objects fetched.job.object) old new (λ list. record old { text_objects = after_arrive old.text_objects fetched.job.object list }) (λ list. record { column_indexes = refl; numbers = refl; texts = refl }) h
+  install-columns : (content : K → List ℕ) (old new : Rows K) (of : Kind) (o : ℕ) → IsAfterArrive content old of o new → KeepsColumns old new
+  install-columns content old new kind.Int o h =
+      found-arrived (number_lists content old.number_objects o) old new (λ list. record old { number_objects = after_arrive old.number_objects o list }) (λ list. record { column_indexes = refl; numbers = refl; texts = refl }) h
+  install-columns content old new kind.Text o h =
+      found-arrived (lists_of content old.text_objects o) old new (λ list. record old { text_objects = after_arrive old.text_objects o list }) (λ list. record { column_indexes = refl; numbers = refl; texts = refl }) h
 
   -- an accepted job keeps the columns
   pub commits-columns : (number_of : K → ℕ) (old new : State K) (w : WorkOf K) → Commits number_of old w new → KeepsColumns old.rows new.rows
   commits-columns number_of old new (work_of.Evac evac) h = absurd h
-  commits-columns number_of old new (work_of.Carried carried) h = subst (KeepsColumns old.rows) (sym h.changed.rows.away) (commit-columns old.rows carried)
+  commits-columns number_of old new (work_of.Carried carried) h = subst (KeepsColumns old.rows) (sym h.changed.rows.away) (commit-columns old.rows carried.job.kind carried.job.object carried.ticket)
   commits-columns number_of old new (work_of.Fetch fetch) h = absurd h
   commits-columns number_of old new (work_of.Fetched fetched) h = absurd h
   commits-columns number_of old new (work_of.Offload build) h = absurd h
@@ -148,7 +145,7 @@ module _ {K : Type 0} where
   installs-columns number_of content old new (work_of.Evac evac) h = absurd h
   installs-columns number_of content old new (work_of.Carried carried) h = absurd h
   installs-columns number_of content old new (work_of.Fetch fetch) h = absurd h
-  installs-columns number_of content old new (work_of.Fetched fetched) h = install-columns content old.rows new.rows fetched h.changed.rows.back
+  installs-columns number_of content old new (work_of.Fetched fetched) h = install-columns content old.rows new.rows fetched.job.kind fetched.job.object h.changed.rows.back
   installs-columns number_of content old new (work_of.Offload build) h = absurd h
   installs-columns number_of content old new (work_of.Offloaded build) h = absurd h
 

@@ -17,8 +17,6 @@ use Rattle.far_evacuator.specs.Jobs.{CarriedEvacuation, CarriedFetch}
 use Rattle.far_texts.specs.Texts.{Texts, lists_of}
 use Rattle.far_columns.specs.Numbers.{number_lists}
 use Rattle.far_scopes.proofs.Outcomes.{by-outcome}
-use Rattle.far_rows.specs.declared.job.ByKind.{ByKind}
-use Rattle.far_rows.specs.declared.job.ByKind.TheVariants.{Numbers, Texts as OfTexts}
 use Rattle.far_rows.specs.declared.object.Object.{Object}
 use Rattle.far_rows.specs.declared.object.Object.TheVariants as object
 use Rattle.far_rows.specs.declared.column_index.ColumnIndex.{ColumnIndex}
@@ -26,7 +24,7 @@ use Rattle.far_rows.specs.ColumnIndexes.{Values, kind_of, row_of}
 use Rattle.far_rows.specs.Rows.{Rows, all_cells}
 use Rattle.far_rows.specs.Places.{places_in, places_of}
 use Rattle.far_rows.specs.Moving.{object_at, after_pin, after_unpin, after_touch}
-use Rattle.far_rows.specs.Jobs.{IsEvacAccepted, IsFetchAccepted, IsAfterInstall, HasNoSpace, after_commit, pins_by}
+use Rattle.far_rows.specs.Jobs.{IsEvacAccepted, IsFetchAccepted, IsAfterArrive, IsAfterInstall, HasNoSpace, after_leave_in, after_commit, pins_by}
 use Rattle.far_aggregates.specs.Accumulators.{PlacesFit}
 use Rattle.far_table.specs.TableRows.{TableRows, AreWritten, AreTableRows, rows_in}
 use Rattle.far_table.specs.Moving.{AreMoved, IsPinned, IsUnpinned, IsTouched, IsCommitted, IsInstalled, IsCompactedOf}
@@ -99,9 +97,9 @@ module _ {K : Type 0} where
     after_touch-one (object.Number o) = number-still (after_touch_in r.number_objects o) record { max_writes = refl; versions = λ p. refl }
     after_touch-one (object.Text o) = text-still (after_touch_in r.text_objects o) record { max_writes = refl; versions = λ p. refl }
 
-    sent-away : (carried : ByKind (CarriedEvacuation K) (CarriedEvacuation K)) → AreStill r (after_commit r carried)
-    sent-away (Numbers carried) = number-still (after_leave r.number_objects carried.job.object carried.ticket) (after_leave-unwritten r.number_objects carried.job.object carried.ticket)
-    sent-away (OfTexts carried) = text-still (after_leave r.text_objects carried.job.object carried.ticket) (after_leave-unwritten r.text_objects carried.job.object carried.ticket)
+    sent-away : (of : Kind) (o : ℕ) (ticket : K) → AreStill r (after_leave_in r of o ticket)
+    sent-away kind.Int o ticket = number-still (after_leave r.number_objects o ticket) (after_leave-unwritten r.number_objects o ticket)
+    sent-away kind.Text o ticket = text-still (after_leave r.text_objects o ticket) (after_leave-unwritten r.text_objects o ticket)
 
     module _ (now : Rows K) where
       one-still : {A : Type 0} (change : A → Rows K) → ((some : A) → AreStill r (change some)) → (found : Option A) → IsSomeAnd found (λ some. now ≡ change some) → AreStill r now
@@ -117,15 +115,15 @@ module _ {K : Type 0} where
       pub touched-still : (column group : ℕ) → IsTouched column group r now → AreStill r now
       touched-still column group is = one-still (after_touch r) after_touch-one (object_at r column group) is
 
-      pub committed-still : (number_of : K → ℕ) (carried : ByKind (CarriedEvacuation K) (CarriedEvacuation K)) → IsCommitted number_of carried r now → AreStill r now
-      committed-still number_of carried is = subst (AreStill r) (sym is.away) (sent-away carried)
+      pub committed-still : (number_of : K → ℕ) (carried : CarriedEvacuation K) → IsCommitted number_of carried r now → AreStill r now
+      committed-still number_of carried is = subst (AreStill r) (sym is.away) (sent-away carried.job.kind carried.job.object carried.ticket)
 
-      arrived-still : (content : K → List ℕ) (fetched : ByKind (CarriedFetch K) (CarriedFetch K)) → IsAfterInstall content r fetched now → AreStill r now
-      arrived-still content (Numbers fetched) is = one-still (λ (list : List (Option ℤ)). record r { number_objects = after_arrive r.number_objects fetched.job.object list }) (λ list. number-still (after_arrive r.number_objects fetched.job.object list) record { max_writes = refl; versions = λ p. refl }) (number_lists content r.number_objects fetched.job.object) is
-      arrived-still content (OfTexts fetched) is = one-still (λ (list : List ℕ). record r { text_objects = after_arrive r.text_objects fetched.job.object list }) (λ list. text-still (after_arrive r.text_objects fetched.job.object list) record { max_writes = refl; versions = λ p. refl }) (lists_of content r.text_objects fetched.job.object) is
+      arrived-still : (content : K → List ℕ) (of : Kind) (o : ℕ) → IsAfterArrive content r of o now → AreStill r now
+      arrived-still content kind.Int o is = one-still (λ (list : List (Option ℤ)). record r { number_objects = after_arrive r.number_objects o list }) (λ list. number-still (after_arrive r.number_objects o list) record { max_writes = refl; versions = λ p. refl }) (number_lists content r.number_objects o) is
+      arrived-still content kind.Text o is = one-still (λ (list : List ℕ). record r { text_objects = after_arrive r.text_objects o list }) (λ list. text-still (after_arrive r.text_objects o list) record { max_writes = refl; versions = λ p. refl }) (lists_of content r.text_objects o) is
 
-      pub installed-still : (content : K → List ℕ) (number_of : K → ℕ) (fetched : ByKind (CarriedFetch K) (CarriedFetch K)) → IsInstalled content number_of fetched r now → AreStill r now
-      installed-still content number_of fetched is = arrived-still content fetched is.back
+      pub installed-still : (content : K → List ℕ) (number_of : K → ℕ) (fetched : CarriedFetch K) → IsInstalled content number_of fetched r now → AreStill r now
+      installed-still content number_of fetched is = arrived-still content fetched.job.kind fetched.job.object is.back
 
       pub compacted-still : (of : Kind) (segment : ℕ) → IsCompactedOf of segment r now → AreStill r now
       compacted-still kind.Int segment is = subst (AreStill r) (sym is.1) (number-still (record r.number_objects { memory = now.number_objects.memory }) record { max_writes = refl; versions = λ p. refl })
@@ -142,12 +140,12 @@ not-refused : {A : Type 0} (done : A) (e : Refusal) → IsErrOf (Ok done) e → 
 not-refused done e h = cc
 
 module _ {K A : Type 0} (number_of : K → ℕ) (old now : Rows K) where
-  pub committed-both : (r : Result A Refusal) (carried : ByKind (CarriedEvacuation K) (CarriedEvacuation K)) → OnOk r (IsEvacAccepted number_of old carried) → OnOk r (now ≡ after_commit old carried)
+  pub committed-both : (r : Result A Refusal) (carried : CarriedEvacuation K) → OnOk r (IsEvacAccepted number_of old carried) → OnOk r (now ≡ after_commit old carried)
       → (IsErrOf r refusal.Pinned ↔ (IsEvacAccepted number_of old carried × (pins_by old carried ≢ 0))) → OnOk r (IsCommitted number_of carried old now)
   committed-both (Ok done) carried accepted away after_pin = record { accepted = accepted; free = no-pin (pins_by old carried) (λ some. not-refused done refusal.Pinned (after_pin.1 (accepted, some))); away = away }
   committed-both (Err given) carried accepted away after_pin = accepted
 
-  pub installed-both : (r : Result A Refusal) (content : K → List ℕ) (fetched : ByKind (CarriedFetch K) (CarriedFetch K)) → OnOk r (IsFetchAccepted number_of old fetched) → OnOk r (IsAfterInstall content old fetched now)
+  pub installed-both : (r : Result A Refusal) (content : K → List ℕ) (fetched : CarriedFetch K) → OnOk r (IsFetchAccepted number_of old fetched) → OnOk r (IsAfterInstall content old fetched now)
       → (IsErrOf r refusal.RegionFull ↔ (IsFetchAccepted number_of old fetched × HasNoSpace content old fetched)) → OnOk r (IsInstalled content number_of fetched old now)
   installed-both (Ok done) content fetched accepted back full = record { accepted = accepted; space = λ none. not-refused done refusal.RegionFull (full.1 (accepted, none)); back = back }
   installed-both (Err given) content fetched accepted back full = accepted

@@ -5,7 +5,6 @@ use Rattle.far_types.specs.declared.cell.Kind.TheVariants as kind
 use Rattle.far_log.specs.Effects.{HasNoEmptyOther}
 use Rattle.far_scopes.specs.Compaction.{IsCompacted}
 use Rattle.far_evacuator.specs.Jobs.{CarriedEvacuation, CarriedFetch}
-use Rattle.far_rows.specs.declared.job.ByKind.{ByKind}
 use Rattle.far_rows.specs.Rows.{Rows}
 use Rattle.far_rows.specs.Moving.{object_at, after_pin, after_unpin, after_touch}
 use Rattle.far_rows.specs.Jobs.{IsEvacAccepted, IsFetchAccepted, IsAfterInstall, HasNoSpace, after_commit, pins_by}
@@ -30,15 +29,14 @@ module _ {K : Type 0} where
 
   -- a carried evacuation is accepted: its object has no pin, and is evicted
   pub record IsCommitted (number_of : K → ℕ)
-      (carried : ByKind (CarriedEvacuation K) (CarriedEvacuation K))
-      (old new : Rows K) : Type 0 where
+      (carried : CarriedEvacuation K) (old new : Rows K) : Type 0 where
     pub accepted : IsEvacAccepted number_of old carried
     pub free : pins_by old carried ≡ 0
     pub away : new ≡ after_commit old carried
 
   -- a carried fetch is accepted: its object fits, and is local again
   pub record IsInstalled (content : K → List ℕ) (number_of : K → ℕ)
-      (fetched : ByKind (CarriedFetch K) (CarriedFetch K)) (old new : Rows K) : Type 0 where
+      (fetched : CarriedFetch K) (old new : Rows K) : Type 0 where
     pub accepted : IsFetchAccepted number_of old fetched
     pub space : ¬ (HasNoSpace content old fetched)
     pub back : IsAfterInstall content old fetched new

@@ -1,17 +1,18 @@
 // Pins, evicts, fetches and compacts objects of a table.
-ghost use Rattle.std.specs.Prelude.{◌≡◌, ◌<◌, ◌≤◌, ◌↔◌, ◌⊎◌, ℕ, List, true, OnOk, OnErr, IfOk, IfErr, IfSome, IsErrOf, None};
+ghost use Rattle.std.specs.Prelude.{◌≡◌, ◌<◌, ◌≤◌, ◌↔◌, ◌⊎◌, ℕ, List, true, OnOk, OnErr, IfOk, IfErr, IfSome, IsErrOf, option_map};
 ghost use Rattle.far_types.specs.MayRefuse.{MayRefuse};
 ghost use Rattle.far_scopes.specs.Refusing.{refusal_in};
 ghost use Rattle.far_rows.specs.Coldest.{coldest};
 ghost use Rattle.far_rows.specs.Copies.{copy_of};
 ghost use Rattle.far_rows.specs.Moving.{pin_refusal, unpin_refusal};
-ghost use Rattle.far_rows.specs.Jobs.{AreAt, evac_refusal, fetch_refusal};
+ghost use Rattle.far_rows.specs.Jobs.{AreAt, IsEvictable, evac_refusal, fetch_refusal};
 ghost use Rattle.far_table.specs.Moving.{IsMoved, IsPinned, IsUnpinned, IsCompactedOf, segments_of, HasNoOther};
 ghost use Rattle.far_frame.specs.State.{Alters};
 ghost use Rattle.far_frame.specs.Jobs.{IsJobAt, IsEvacJob, IsFetchJob, IsColdestJob, Commits, CommitRefusal, Installs, InstallRefusal};
 
 use super::Frame;
 use crate::job::{Job, JobPhase};
+use far_rows::Object;
 use far_store::FarTickets;
 use far_types::{Kind, Name, Refusal};
 
@@ -66,8 +67,16 @@ impl<S: FarTickets> Frame<S> {
     pub fn may_evac(&self, column: u32, group: u32) -> Result<(), Refusal>
         ensures refused { refusal_in result ≡ evac_refusal self.now.rows column group }
     {
-        self.rows.held().group_column(column as usize, group)?;
+        self.evictable(column, group)?;
         Ok(())
+    }
+
+    /// Returns the object of a row group of a column, if an eviction of it can begin. Refused as `may_evac` is.
+    pub(crate) fn evictable(&self, column: u32, group: u32) -> Result<Object, Refusal>
+        ensures evictable { IfOk result (IsEvictable self.now.rows column group) }
+        ensures refused { refusal_in result ≡ evac_refusal self.now.rows column group }
+    {
+        self.rows.held().evictable(column as usize, group)
     }
 
     /// Begins to evict the object of a row group of a column. The job holds the object's far form or, if the object is
@@ -85,20 +94,34 @@ impl<S: FarTickets> Frame<S> {
         ensures here { IfOk result (IsJobAt S.is_of (S.store_id store.now)) }
         ensures refused { IfErr result (MayRefuse (evac_refusal self.now.rows column group) true) }
     {
-        let rows = self.rows.held();
-        let evac = rows.begin_evac(self.alloc, store, column as usize, group)?;
+        let object = self.evictable(column, group)?;
+        self.evac_job(store, Name { column, group }, object)
+    }
+
+    /// Begins to evict an object, which `evictable` or `coldest` returned, of the row group and the column in its name. The job
+    /// holds the object's far form or, if the object is clean, its ticket. Changes nothing.
+    ///
+    /// Refused only with `NoMemory` (1).
+    pub(crate) fn evac_job(&self, store: &S, name: Name, object: Object) -> Result<Job<S>, Refusal>
+        requires here { AreAt S.is_of (S.store_id store.now) self.now.rows }
+        requires evictable { IsEvictable self.now.rows name.column name.group object }
+        ensures begun { IfOk result (IsEvacJob self.now.rows name.column name.group) }
+        ensures here { IfOk result (IsJobAt S.is_of (S.store_id store.now)) }
+        ensures memory { IfErr result (λ e. e ≡ Refusal.NoMemory) }
+    {
+        let evac = self.rows.held().begin_evac(self.alloc, store, object)?;
         Ok(Job {
-            name: Some(Name { column, group }),
+            name: Some(name),
             work: JobPhase::Evac(evac),
         })
     }
 
-    /// Returns the eviction victim: the coldest object without a pin, of the kind with less space. `None` if neither kind
-    /// has one. Allocates nothing.
-    pub(crate) fn coldest(&self) -> Option<Name>
-        ensures coldest { result ≡ coldest self.now.rows }
-        ensures free { IfSome result
-            (λ name. evac_refusal self.now.rows name.column name.group ≡ None) }
+    /// Returns the eviction victim and its name: the coldest object without a pin, of the kind with less space. `None` if
+    /// neither kind has one. Allocates nothing.
+    pub(crate) fn coldest(&self) -> Option<(Name, Object)>
+        ensures coldest { option_map (λ found. found.0) result ≡ coldest self.now.rows }
+        ensures evictable { IfSome result
+            (λ found. IsEvictable self.now.rows found.0.column found.0.group found.1) }
     {
         self.rows.held().coldest()
     }
@@ -113,15 +136,10 @@ impl<S: FarTickets> Frame<S> {
         ensures here { IfOk result (λ job. IfSome job (IsJobAt S.is_of (S.store_id store.now))) }
         ensures memory { IfErr result (λ e. e ≡ Refusal.NoMemory) }
     {
-        let rows = self.rows.held();
-        let Some(name) = rows.coldest() else {
+        let Some((name, object)) = self.coldest() else {
             return Ok(None);
         };
-        let evac = rows.begin_evac(self.alloc, store, name.column as usize, name.group)?;
-        Ok(Some(Job {
-            name: Some(name),
-            work: JobPhase::Evac(evac),
-        }))
+        Ok(Some(self.evac_job(store, name, object)?))
     }
 
     /// Begins to fetch the object of a row group of a column. Changes and allocates nothing.

@@ -83,6 +83,18 @@ impl<S: FarTickets> Frame<S> {
             true) }
     {
         self.may_offload(a, group)?;
+        self.offload_job(store, a, group)
+    }
+
+    /// Begins an offloaded build that `may_offload` allows, as `begin_offload` does. Refused only with `NoMemory` (1).
+    pub(crate) fn offload_job(&self, store: &S, a: u32, group: u32) -> Result<Job<S>, Refusal>
+        requires here { AreAt S.is_of (S.store_id store.now) self.now.rows }
+        requires free { offload_refusal (live self.now) (aggregate_at self.now.table a) group
+            ≡ None }
+        ensures begun { IfOk result (IsOffloadJob self.now a group) }
+        ensures here { IfOk result (IsJobAt S.is_of (S.store_id store.now)) }
+        ensures memory { IfErr result (λ e. e ≡ Refusal.NoMemory) }
+    {
         let held = self.rows.held();
         // For the proof: shows `AreRows`, which bounds the number of flags.
         let _len = held.len();

@@ -77,11 +77,11 @@ impl<S: FarStore> World<S> {
         ensures refused { IfErr result (λ e. IsNotBegun None self.old e self.new) }
         ensures some { OnErr result (IsSome (coldest self.old.state.rows)) }
     {
-        let Some(name) = self.frame.coldest() else {
+        let Some((name, object)) = self.frame.coldest() else {
             return Ok(None);
         };
         self.may_begin()?;
-        let job = self.frame.begin_evac(&self.store, name.column, name.group)?;
+        let job = self.frame.evac_job(&self.store, name, object)?;
         Ok(Some(self.add(job)?))
     }
 

@@ -19,7 +19,7 @@ use crate::job::Job;
 use crate::step::{Reply, Step};
 use crate::waiting::Waiting;
 use far_store::{FarStore, FarTickets};
-use far_types::Refusal;
+use far_types::{Name, Refusal};
 
 impl<S: FarStore> World<S> {
     /// Checks that one more job may begin. Refused with `EditsUsedUp` (24) exactly if as many jobs were begun as edits are
@@ -45,9 +45,10 @@ impl<S: FarStore> World<S> {
             (MayRefuse
             (option_or (evac_refusal self.now.state.rows column group) (used_up self.now)) true) }
     {
-        self.frame.may_evac(column, group)?;
+        let object = self.frame.evictable(column, group)?;
         self.may_begin()?;
-        self.frame.begin_evac(&self.store, column, group)
+        self.frame
+            .evac_job(&self.store, Name { column, group }, object)
     }
 
     /// Begins a fetch, if a job may begin.
@@ -78,7 +79,7 @@ impl<S: FarStore> World<S> {
     {
         self.frame.may_offload(a, group)?;
         self.may_begin()?;
-        self.frame.begin_offload(&self.store, a, group)
+        self.frame.offload_job(&self.store, a, group)
     }
 
     /// Adds a job that was begun, and returns its number. Refused only with `NoMemory` (1). A refused call changes nothing.

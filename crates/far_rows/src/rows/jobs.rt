@@ -1,14 +1,13 @@
 // Ends jobs on the objects of the rows.
 ghost use Rattle.std.specs.Prelude.{◌≡◌, ◌≢◌, OnOk, OnErr};
-ghost use Rattle.far_evacuator.specs.Acceptance.{RefusesCommit, RefusesInstall};
+ghost use Rattle.far_evacuator.specs.Acceptance.{DecidesCommit, DecidesInstall};
 ghost use Rattle.far_rows.specs.Rows.{all_cells};
-ghost use Rattle.far_rows.specs.Jobs.{of_either, AreAt, IsEvacAccepted, IsFetchAccepted, pins_by, after_commit, HasNoSpace, IsAfterInstall};
+ghost use Rattle.far_rows.specs.Jobs.{AreAt, IsEvacAccepted, IsFetchAccepted, pins_by, after_commit, HasNoSpace, IsAfterInstall};
 
 use super::Rows;
-use crate::job::{ByKind, RowsCarried, RowsFetched};
-use far_evacuator::{commit, install};
+use far_evacuator::{Carried, Fetched, commit, install};
 use far_store::FarTickets;
-use far_types::Refusal;
+use far_types::{Kind, Refusal};
 use std::alloc::Global;
 
 impl<S: FarTickets> Rows<S> {
@@ -22,20 +21,22 @@ impl<S: FarTickets> Rows<S> {
     /// - `Pinned` (19): the object has a pin.
     ///
     /// A refused call changes nothing.
-    pub fn commit(&mut self, store: &S, carried: &RowsCarried<S>) -> Result<(), Refusal>
+    pub fn commit(&mut self, store: &S, carried: &Carried<S>) -> Result<(), Refusal>
         requires here { AreAt S.is_of (S.store_id store.now) self.old }
-        requires carried_here { S.is_of (of_either carried.now).ticket (S.store_id store.now) }
+        requires carried_here { S.is_of carried.now.ticket (S.store_id store.now) }
         ensures committed { OnOk result (self.new ≡ after_commit self.old carried.now) }
-        ensures accepted { OnOk result (IsEvacAccepted S.number_of self.old carried.now) }
         ensures cells { all_cells S.content self.new ≡ all_cells S.content self.old }
         ensures here { AreAt S.is_of (S.store_id store.now) self.new }
-        ensures refused { RefusesCommit result (IsEvacAccepted S.number_of self.old carried.now)
+        ensures decided { DecidesCommit result (IsEvacAccepted S.number_of self.old carried.now)
             (pins_by self.old carried.now ≢ 0) }
         ensures err { OnErr result (self.new ≡ self.old) }
     {
-        match &carried.carried {
-            ByKind::Numbers(carried) => commit(&mut self.number_objects, store, carried),
-            ByKind::Texts(carried) => commit(&mut self.text_objects, store, carried),
+        // For the proof: shows that the list of each local object has a far form.
+        let _numbers = self.number_objects();
+        let _texts = self.text_objects();
+        match carried.kind() {
+            Kind::Int => commit(&mut self.number_objects, store, carried),
+            Kind::Text => commit(&mut self.text_objects, store, carried),
         }
     }
 
@@ -50,26 +51,20 @@ impl<S: FarTickets> Rows<S> {
     /// - `NoMemory` (1): an allocation fails.
     ///
     /// A refused call changes nothing.
-    pub fn install(
-        &mut self,
-        alloc: Global,
-        store: &S,
-        fetched: &RowsFetched<S>,
-    ) -> Result<(), Refusal>
+    pub fn install(&mut self, alloc: Global, store: &S, fetched: &Fetched<S>) -> Result<(), Refusal>
         requires here { AreAt S.is_of (S.store_id store.now) self.old }
-        requires fetched_here { S.is_of (of_either fetched.now).job.ticket (S.store_id store.now) }
+        requires fetched_here { S.is_of fetched.now.job.ticket (S.store_id store.now) }
         ensures installed { OnOk result (IsAfterInstall S.content self.old fetched.now self.new) }
-        ensures accepted { OnOk result (IsFetchAccepted S.number_of self.old fetched.now) }
         ensures cells { all_cells S.content self.new ≡ all_cells S.content self.old }
         ensures here { AreAt S.is_of (S.store_id store.now) self.new }
-        ensures refused { RefusesInstall result
+        ensures decided { DecidesInstall result
             (IsFetchAccepted S.number_of self.old fetched.now)
             (HasNoSpace S.content self.old fetched.now) }
         ensures err { OnErr result (self.new ≡ self.old) }
     {
-        match &fetched.fetched {
-            ByKind::Numbers(fetched) => install(alloc, &mut self.number_objects, store, fetched),
-            ByKind::Texts(fetched) => install(alloc, &mut self.text_objects, store, fetched),
+        match fetched.kind() {
+            Kind::Int => install(alloc, &mut self.number_objects, store, fetched),
+            Kind::Text => install(alloc, &mut self.text_objects, store, fetched),
         }
     }
 }

@@ -20,8 +20,8 @@ use std::marker::Model;
 pub struct Fixture<'a, T: Element, S: FarStore> {
     store: &'a S,
     objects: Objects<T, S>,
-    evac: Option<EvacJob<T, S>>,
-    carried: Option<Carried<T, S>>,
+    evac: Option<EvacJob<S>>,
+    carried: Option<Carried<S>>,
     fetch: Option<FetchJob<S>>,
     fetched: Option<Fetched<S>>,
 }

@@ -31,7 +31,7 @@ pub enum Look {
 pub fn is_so<S: FarTickets>(rows: &Rows<S>, look: &Look) -> bool {
     match look {
         Look::Values(place, values) => has_values(rows, *place, values),
-        Look::Coldest(name) => rows.coldest() == *name,
+        Look::Coldest(name) => rows.coldest().map(|found| found.0) == *name,
         Look::Copy(column, group, due) => rows.copy(*column, *group).is_some() == *due,
         Look::AreNamed(numbers, texts) => {
             numbers_named(rows) == *numbers && texts_named(rows) == *texts

@@ -2,11 +2,11 @@
 ghost use Rattle.std.specs.Prelude.{◌≡◌, ◌≢◌, ◌↔◌, ◌⊎◌, ◌<◌, ◌≤◌, ℕ, List, OnOk, OnErr, IfErr, IsErrOf};
 ghost use Rattle.far_scopes.specs.Refusing.{refusal_in};
 ghost use Rattle.far_rows.specs.Moving.{object_refusal, pin_refusal, unpin_refusal};
-ghost use Rattle.far_rows.specs.Jobs.{of_either, AreAt, IsEvacAccepted, IsFetchAccepted, pins_by, HasNoSpace};
+ghost use Rattle.far_rows.specs.Jobs.{AreAt, IsEvacAccepted, IsFetchAccepted, pins_by, HasNoSpace};
 ghost use Rattle.far_table.specs.Moving.{AreMoved, IsPinned, IsUnpinned, IsTouched, IsCommitted, IsInstalled, IsCompactedOf, segments_of, HasNoOther};
 
 use super::TableRows;
-use far_rows::{RowsCarried, RowsFetched};
+use far_evacuator::{Carried, Fetched};
 use far_store::FarTickets;
 use far_types::{Kind, Refusal};
 use std::alloc::Global;
@@ -20,9 +20,9 @@ impl<S: FarTickets> TableRows<S> {
     /// - `Pinned` (19): the object has a pin.
     ///
     /// A refused call changes nothing.
-    pub fn commit(&mut self, store: &S, carried: &RowsCarried<S>) -> Result<(), Refusal>
+    pub fn commit(&mut self, store: &S, carried: &Carried<S>) -> Result<(), Refusal>
         requires here { AreAt S.is_of (S.store_id store.now) self.old.held }
-        requires carried_here { S.is_of (of_either carried.now).ticket (S.store_id store.now) }
+        requires carried_here { S.is_of carried.now.ticket (S.store_id store.now) }
         ensures committed { OnOk result
             (AreMoved (IsCommitted S.number_of carried.now) self.old self.new) }
         ensures here { AreAt S.is_of (S.store_id store.now) self.new.held }
@@ -46,14 +46,9 @@ impl<S: FarTickets> TableRows<S> {
     /// - `NoMemory` (1): an allocation fails.
     ///
     /// A refused call changes nothing.
-    pub fn install(
-        &mut self,
-        alloc: Global,
-        store: &S,
-        fetched: &RowsFetched<S>,
-    ) -> Result<(), Refusal>
+    pub fn install(&mut self, alloc: Global, store: &S, fetched: &Fetched<S>) -> Result<(), Refusal>
         requires here { AreAt S.is_of (S.store_id store.now) self.old.held }
-        requires fetched_here { S.is_of (of_either fetched.now).job.ticket (S.store_id store.now) }
+        requires fetched_here { S.is_of fetched.now.job.ticket (S.store_id store.now) }
         ensures installed { OnOk result
             (AreMoved (IsInstalled S.content S.number_of fetched.now) self.old self.new) }
         ensures here { AreAt S.is_of (S.store_id store.now) self.new.held }

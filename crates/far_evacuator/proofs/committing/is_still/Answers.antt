@@ -1,20 +1,19 @@
 use Rattle.std.proofs.Common.{false, sym, ap, subst, ◌∙◌}
 use Rattle.std.specs.Option.{option_map_or}
 use Rattle.far_pointer.specs.Layout.{is_dirty}
-use Rattle.far_codec.specs.Spelling.{IsSpelled}
-use Rattle.far_evacuator.specs.Jobs.{IsSpelledForm, IsFormTicket}
-use Rattle.far_evacuator.proofs.SpellingCommits.{spelled-here}
+use Rattle.far_evacuator.specs.Jobs.{IsFormTicket}
 use Rattle.far_evacuator.proofs.MovementCopies.{clean-spelled}
 use Rattle.far_evacuator.proofs.committing.is_still.Goals as goal
 
 pub returns-in-Dirty-clause-copied : goal.returns-in-Dirty-clause-copied
 returns-in-Dirty-clause-copied g c =
-    let spelled = subst (IsSpelledForm (IsSpelled g.T.Elem.in_range g.T.Elem.has_spelling g.T.Elem.spelling)) c.in-Dirty.is c.job.invariant in
     let carried = rw (← c.job.view_is) at c.carried.invariant in
     let content = subst (λ form. IsFormTicket g.S.FarTickets.content form c.carried.inside.ticket) c.in-Dirty.is carried in
-    rw (← c.carried.view_is) (λ found. rw content (spelled-here g.T.Elem.in_range g.T.Elem.has_spelling g.T.Elem.spelling
-    (g.met.T.Elem g.world.𝓛 g.world.𝓜 g.world.𝓡 ((λ s x. x), (λ x. x), (λ x. x), λ x. x)).one_list
-    c.in-Dirty.form spelled c.args.list.now (c.spells.ensures.range found) (sym (c.deref.ensures.value ∙ c.form.view_is) ∙ c.spells.ensures.exact.0 found)))
+    rw (← c.carried.view_is) (λ found. rw content (record {
+      range = c.spells.ensures.range found;
+      has = c.requires.spelled;
+      is = sym (c.deref.ensures.value ∙ c.form.view_is) ∙ c.spells.ensures.exact.0 found;
+    }))
 
 pub returns-then-not-dirty-clause-copied : goal.returns-then-not-dirty-clause-copied
 returns-then-not-dirty-clause-copied g c =

@@ -7,7 +7,7 @@ invariant_of-self g c =
     let inside = c.self.inside in
     let e = c.commit.ensures in
     moved-invariant g.S.FarTickets.content inside.schema inside.limits inside.rows inside.new_row inside.edits c.args.self.now c.self.view_is c.commit.result c.commit.new.self (IsCommitted g.S.FarTickets.number_of c.args.carried.now)
-    (committed-both g.S.FarTickets.number_of inside.rows c.commit.new.self c.commit.result c.args.carried.now e.accepted e.committed e.refused.pinned)
+    (committed-both g.S.FarTickets.number_of inside.rows c.commit.new.self c.commit.result c.args.carried.now e.decided.accepted e.committed e.decided.pinned)
     e.err e.cells (committed-still inside.rows c.commit.new.self g.S.FarTickets.number_of c.args.carried.now) c.self.invariant
 
 pub returns-clause-committed : goal.returns-clause-committed
@@ -15,5 +15,5 @@ returns-clause-committed g c =
     let inside = c.self.inside in
     let e = c.commit.ensures in
     moved-rows g.S.FarTickets.content inside.schema inside.limits inside.rows inside.new_row inside.edits c.args.self.now c.self.view_is c.commit.result c.commit.new.self (IsCommitted g.S.FarTickets.number_of c.args.carried.now)
-    (committed-both g.S.FarTickets.number_of inside.rows c.commit.new.self c.commit.result c.args.carried.now e.accepted e.committed e.refused.pinned)
+    (committed-both g.S.FarTickets.number_of inside.rows c.commit.new.self c.commit.result c.args.carried.now e.decided.accepted e.committed e.decided.pinned)
     e.err e.cells (committed-still inside.rows c.commit.new.self g.S.FarTickets.number_of c.args.carried.now)

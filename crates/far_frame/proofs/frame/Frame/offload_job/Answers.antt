@@ -12,7 +12,7 @@ use Rattle.far_table.specs.Offloading.{Build, IsBuildOf, IsOffloadBegun, offload
 use Rattle.far_table.specs.Watching.{aggregate_at}
 use Rattle.far_table.proofs.WatchingScans.{an-aggregate}
 use Rattle.far_frame.specs.State.{State, live}
-use Rattle.far_frame.proofs.frame.Frame.begin_offload.Goals as goal
+use Rattle.far_frame.proofs.frame.Frame.offload_job.Goals as goal
 
 pub returns-clause-begun : goal.returns-clause-begun
 returns-clause-begun g c =
