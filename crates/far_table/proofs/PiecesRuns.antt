@@ -18,8 +18,10 @@ use Rattle.far_aggregates.specs.Accumulators.{pairs_here, group_pairs}
 use Rattle.far_aggregates.specs.Recounting.{partial_at, partials_from}
 use Rattle.far_aggregates.proofs.PairsLaws.{pairs-few}
 use Rattle.far_table.specs.declared.piece.Piece.{Piece}
-use Rattle.far_table.specs.Pieces.{begin_of, run_of, IsPiece, all_partials, AreWhole, HaveFewFaults}
+use Rattle.far_table.specs.declared.recounting.WideCut.{WideCut}
+use Rattle.far_table.specs.Pieces.{begin_of, run_of, AreBegun, IsWideCut, IsPiece, AreFolded, all_partials, AreWhole, HaveFewFaults}
 use Rattle.far_table.proofs.PiecesLaws.{AreFrom, all-from, few-faults}
+use Rattle.far_table.proofs.WatchingScans.{begun}
 
 -- ---- sums and products
 
@@ -202,26 +204,32 @@ narrow len size count long small few is short =
       | inr some ↦ let up : long * size ≤ count * size = mul-le-mul_right size (omega (arith, some, short)) in omega (arith, up, most, few, small)
     ]
 
+-- the counted row groups are those that are begun
+pub all-begun : (len size count : ℕ) → 0 < size → count ≡ groups size len → AreBegun size len count
+all-begun len size count some is = record {
+  begun = λ group below. begun group size len some (subst (λ n. group < n) is below);
+  all = all-held len size count some is;
+}
+
 -- ---- pieces that are identified by their numbers
 
-module _ (may_fail : Type 0) (spec : Spec) (wide : ℕ) (places : List Place) (number : ℕ) (pieces : List Piece) (many : length pieces ≡ number)
-    (each : (i : ℕ) (d : Piece) → i < number → IsPiece may_fail spec wide places i (slice_index_or pieces i d)) where
+module _ (may_fail : Type 0) (spec : Spec) (wide : ℕ) (places : List Place) (number : ℕ) (pieces : List Piece) (folded : AreFolded may_fail spec wide places number pieces) where
   in-order : AreFrom may_fail spec wide places 0 pieces
   in-order k d within =
       let at : k ≡ 0 + k = omega arith in
-      subst (λ n. IsPiece may_fail spec wide places n (slice_index_or pieces k d)) at (each k d (omega (arith, within, many)))
+      subst (λ n. IsPiece may_fail spec wide places n (slice_index_or pieces k d)) at (folded.each k d (omega (arith, within, folded.len)))
 
-  pub wide-few : HaveFewFaults may_fail pieces
-  wide-few = few-faults may_fail spec wide places 0 pieces in-order
+  pub folded-few : HaveFewFaults may_fail pieces
+  folded-few = few-faults may_fail spec wide places 0 pieces in-order
 
-  pub wide-whole : AreWhole pieces → all_partials pieces ≡ partials_from spec wide places 0 number
-  wide-whole whole = all-from may_fail spec wide places 0 pieces in-order whole ∙ ap (partials_from spec wide places 0) many
+  pub folded-whole : AreWhole pieces → all_partials pieces ≡ partials_from spec wide places 0 number
+  folded-whole whole = all-from may_fail spec wide places 0 pieces in-order whole ∙ ap (partials_from spec wide places 0) folded.len
 
 -- the partials of all pieces are the partials of a table with wider row groups
-pub wide-given : (may_fail : Type 0) (spec : Spec) (places : List Place) (size held long wide number len : ℕ) (pieces : List Piece) (partials : List PartialDone) → size ≡ held → wide ≡ long * size → number ≡ groups wide len → length pieces ≡ number
-    → ((i : ℕ) (d : Piece) → i < number → IsPiece may_fail spec (long * held) places i (slice_index_or pieces i d)) → AreWhole pieces → partials ≡ all_partials pieces → partials ≡ partials_from spec wide places 0 (groups wide len)
-wide-given may_fail spec places size held long wide number len pieces partials same wide-is counted many each whole gathered =
+pub folded-given : (may_fail : Type 0) (spec : Spec) (places : List Place) (size len counted : ℕ) (wide : WideCut) (pieces : List Piece) (partials : List PartialDone) → counted ≡ len → IsWideCut size len wide → AreFolded may_fail spec (wide.cut.long * size) places wide.pieces pieces → AreWhole pieces → partials ≡ all_partials pieces
+    → partials ≡ partials_from spec wide.size places 0 (groups wide.size counted)
+folded-given may_fail spec places size len counted wide pieces partials same cut folded whole gathered =
     gathered
-    ∙ wide-whole may_fail spec (long * held) places number pieces many each whole
-    ∙ ap (λ n. partials_from spec n places 0 number) (ap (λ n. long * n) (sym same) ∙ sym wide-is)
-    ∙ ap (partials_from spec wide places 0) counted
+    ∙ folded-whole may_fail spec (wide.cut.long * size) places wide.pieces pieces folded whole
+    ∙ ap (λ n. partials_from spec n places 0 wide.pieces) (sym cut.size)
+    ∙ ap (partials_from spec wide.size places 0) (cut.pieces ∙ ap (groups wide.size) (sym same))

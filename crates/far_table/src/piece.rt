@@ -6,7 +6,7 @@ ghost use Rattle.far_rows.specs.Jobs.{AreAt};
 ghost use Rattle.far_rows.specs.Places.{places_in};
 ghost use Rattle.far_aggregates.specs.Accumulators.{pairs_here};
 ghost use Rattle.far_table.specs.MixedGroups.{MayFold};
-ghost use Rattle.far_table.specs.Pieces.{begin_of, run_of, IsPiece};
+ghost use Rattle.far_table.specs.Pieces.{begin_of, run_of, AreBegun, IsPiece};
 
 use crate::extrema::observe_run;
 use crate::totals::total_run;
@@ -82,9 +82,7 @@ pub(crate) fn fold_piece<S: FarRead>(
     piece: usize,
 ) -> Piece
     requires here { AreAt S.is_of (S.store_id store.now) rows.now }
-    requires begun { (group : ℕ) → group < cut.count
-        → group * rows.now.size < length rows.now.alive }
-    requires all { length rows.now.alive ≤ cut.count * rows.now.size }
+    requires groups { AreBegun rows.now.size (length rows.now.alive) cut.count }
     requires may_fold { MayFold rows.now spec.now }
     requires few { piece < 64 }
     ensures { IsPiece S.may_fail spec.now (cut.long * rows.now.size)

@@ -1,15 +1,15 @@
 // Aggregates that are computed from scratch: pieces of the table are folded separately, on threads, and then merged.
-ghost use Rattle.std.specs.Prelude.{◌≡◌, ◌+◌, ◌*◌, ◌<◌, ◌≤◌, ◌^◌, ◌++◌, ◌∷◌, [], ℕ, length, max, IfOk, IfErr, IsOk, OnOk, slice_index_or, vec_capacity};
+ghost use Rattle.std.specs.Prelude.{◌≡◌, ◌+◌, ◌*◌, ◌<◌, ◌≤◌, ◌^◌, ◌++◌, ◌∷◌, [], ℕ, length, max, IfOk, IfErr, IsOk, OnOk, vec_capacity};
 ghost use Rattle.std.specs.Fn.{FnReturns};
 ghost use Rattle.std.specs.Fork.{GivesEach};
 ghost use Rattle.std.specs.Thread.{IsSync, IsSend};
 ghost use Rattle.far_types.specs.Answers.{answer_over};
-ghost use Rattle.far_types.specs.Table.{groups, rows_of};
+ghost use Rattle.far_types.specs.Table.{rows_of};
 ghost use Rattle.far_rows.specs.Jobs.{AreAt};
 ghost use Rattle.far_rows.specs.Places.{places_in};
 ghost use Rattle.far_table.specs.MixedGroups.{MayFold};
-ghost use Rattle.far_table.specs.Pieces.{IsPiece, all_partials, AreWhole, HaveFewFaults};
-ghost use Rattle.far_table.specs.Recounting.{FoldRefusal};
+ghost use Rattle.far_table.specs.Pieces.{IsPiece, IsWideCut, all_partials, AreBegun, AreFolded, AreWhole, HaveFewFaults};
+ghost use Rattle.far_table.specs.Recounting.{AreWorkers, CountsFaults, FoldRefusal};
 
 use crate::piece::{Cut, Piece, fold_piece};
 use far_aggregates::{answer_of, group_count};
@@ -39,18 +39,14 @@ struct WideCut {
     pieces: usize,
 }
 
-/// Cuts a table of `places` places into at most as many pieces as there are workers.
-fn wide_cut(size: u32, places: usize, workers: u32) -> WideCut
-    requires size { 0 < size }
-    requires small { size ≤ 2 ^ 16 }
-    requires few { places ≤ 2 ^ 24 }
+/// Cuts a table with row groups of `size` places into at most as many pieces as there are workers.
+fn wide_cut<S: FarTickets>(rows: &Rows<S>, size: u32, workers: u32) -> WideCut
+    requires size { size ≡ rows.now.size }
     requires some { 0 < workers }
-    ensures count { result.cut.count ≡ groups size places }
-    ensures size { result.size ≡ result.cut.long * size }
-    ensures some { 0 < result.size }
-    ensures pieces { result.pieces ≡ groups result.size places }
+    ensures cut { IsWideCut rows.now.size (length rows.now.alive) result }
     ensures few { result.pieces ≤ workers }
 {
+    let places = rows.len();
     let count = group_count(size, places) as u32;
     let long = long_for(count, workers);
     let wide = long * size;
@@ -117,33 +113,27 @@ fn fold_pieces<R: Threads + Sync, S: FarRead>(
     rows: &Rows<S>,
     store: &S,
     spec: &Spec,
-    cut: Cut,
-    pieces: usize,
+    wide: WideCut,
 ) -> Result<Vec<Piece>, AllocError>
     requires here { AreAt S.is_of (S.store_id store.now) rows.now }
-    requires begun { (group : ℕ) → group < cut.count
-        → group * rows.now.size < length rows.now.alive }
-    requires all { length rows.now.alive ≤ cut.count * rows.now.size }
+    requires cut { IsWideCut rows.now.size (length rows.now.alive) wide }
+    requires few { wide.pieces ≤ 64 }
     requires may_fold { MayFold rows.now spec.now }
-    requires few { pieces ≤ 64 }
-    ensures len { IfOk result (λ found. length found.items ≡ pieces) }
-    ensures each { IfOk result
-        (λ found. (i : ℕ) (d : Piece)
-        → i < pieces
-        → IsPiece S.may_fail spec.now (cut.long * rows.now.size) (places_in S.content rows.now) i
-        (slice_index_or found.items i d)) }
+    ensures { IfOk result
+        (λ found. AreFolded S.may_fail spec.now (wide.cut.long * rows.now.size)
+        (places_in S.content rows.now) wide.pieces found.items) }
 {
-    let found = Vec::with_capacity(alloc, pieces)?;
+    let cut = wide.cut;
+    let found = Vec::with_capacity(alloc, wide.pieces)?;
     let fold = |i: usize| -> Piece
         requires { AreAt S.is_of (S.store_id store.now) rows.now
-            × ((group : ℕ) → group < cut.count → group * rows.now.size < length rows.now.alive)
-            × (length rows.now.alive ≤ cut.count * rows.now.size)
+            × AreBegun rows.now.size (length rows.now.alive) cut.count
             × MayFold rows.now spec.now
             × (i < 64) }
         ensures { IsPiece S.may_fail spec.entry.now (cut.long * rows.entry.now.size)
             (places_in S.content rows.entry.now) i result }
     { fold_piece(alloc, rows, store, spec, cut, i) };
-    Ok(call_each(rt, pieces, &fold, found))
+    Ok(call_each(rt, wide.pieces, &fold, found))
 }
 
 /// Folds at most 64 pieces in this thread, one after another.
@@ -154,22 +144,17 @@ fn fold_in_turn<S: FarRead>(
     rows: &Rows<S>,
     store: &S,
     spec: &Spec,
-    cut: Cut,
-    pieces: usize,
+    wide: WideCut,
 ) -> Result<Vec<Piece>, AllocError>
     requires here { AreAt S.is_of (S.store_id store.now) rows.now }
-    requires begun { (group : ℕ) → group < cut.count
-        → group * rows.now.size < length rows.now.alive }
-    requires all { length rows.now.alive ≤ cut.count * rows.now.size }
+    requires cut { IsWideCut rows.now.size (length rows.now.alive) wide }
+    requires few { wide.pieces ≤ 64 }
     requires may_fold { MayFold rows.now spec.now }
-    requires few { pieces ≤ 64 }
-    ensures len { IfOk result (λ found. length found.items ≡ pieces) }
-    ensures each { IfOk result
-        (λ found. (i : ℕ) (d : Piece)
-        → i < pieces
-        → IsPiece S.may_fail spec.now (cut.long * rows.now.size) (places_in S.content rows.now) i
-        (slice_index_or found.items i d)) }
+    ensures { IfOk result
+        (λ found. AreFolded S.may_fail spec.now (wide.cut.long * rows.now.size)
+        (places_in S.content rows.now) wide.pieces found.items) }
 {
+    let (cut, pieces) = (wide.cut, wide.pieces);
     let mut found = Vec::with_capacity(alloc, pieces)?;
     for i in 0..pieces {
         found.push(fold_piece(alloc, rows, store, spec, cut, i))?;
@@ -205,10 +190,8 @@ fn gather<S: FarTickets>(
     requires faults_few { HaveFewFaults S.may_fail pieces.items }
     ensures partials { IfOk result (λ partials. partials.items ≡ all_partials pieces.items) }
     ensures whole { OnOk result (AreWhole pieces.items) }
-    ensures none { OnOk result (meter.new ≡ meter.old) }
     ensures refused { IfErr result (FoldRefusal meter.old meter.new) }
-    ensures cause { meter.old < meter.new → S.may_fail }
-    ensures most { meter.new ≤ meter.old + length pieces.items }
+    ensures faults { CountsFaults S.may_fail (length pieces.items) meter.old meter.new result }
 {
     let before = meter.faults();
     let mut partials = Vec::new(alloc);
@@ -224,6 +207,32 @@ fn gather<S: FarTickets>(
         return Err(Refusal::NoMemory);
     }
     Ok(partials)
+}
+
+/// Returns the answer of an aggregate over the rows, from the pieces that they were cut into. Adds the faults of the pieces to the
+/// caller's.
+///
+/// Refused with `FarFault` (21) exactly if the meter rises, else with `NoMemory` (1).
+fn answer_of_pieces<S: FarTickets>(
+    alloc: Global,
+    rows: &Rows<S>,
+    spec: &Spec,
+    wide: WideCut,
+    pieces: Vec<Piece>,
+    meter: &mut Meter,
+) -> Result<Answer, Refusal>
+    requires few { meter.old < 2 ^ 63 }
+    requires cut { IsWideCut rows.now.size (length rows.now.alive) wide }
+    requires pieces_few { wide.pieces ≤ 64 }
+    requires folded { AreFolded S.may_fail spec.now (wide.cut.long * rows.now.size)
+        (places_in S.content rows.now) wide.pieces pieces.items }
+    ensures answer { IfOk result
+        (λ answer. answer ≡ answer_over spec.now (rows_of (places_in S.content rows.now))) }
+    ensures refused { IfErr result (FoldRefusal meter.old meter.new) }
+    ensures faults { CountsFaults S.may_fail wide.pieces meter.old meter.new result }
+{
+    let partials = gather::<S>(alloc, pieces, meter)?;
+    answer_of(alloc, spec, partials, wide.size, rows.len())
 }
 
 /// Returns the answer of an aggregate over the rows, whichever objects are away. At most `workers` threads fold the row groups,
@@ -244,20 +253,15 @@ pub fn recount_rows<R: Threads + Sync, S: FarRead>(
     requires here { AreAt S.is_of (S.store_id store.now) rows.now }
     requires may_fold { MayFold rows.now spec.now }
     requires size { size ≡ rows.now.size }
-    requires some { 0 < workers }
-    requires workers { workers ≤ 64 }
+    requires workers { AreWorkers workers }
     ensures answer { IfOk result
         (λ answer. answer ≡ answer_over spec.now (rows_of (places_in S.content rows.now))) }
-    ensures none { OnOk result (meter.new ≡ meter.old) }
     ensures refused { IfErr result (FoldRefusal meter.old meter.new) }
-    ensures cause { meter.old < meter.new → S.may_fail }
-    ensures most { meter.new ≤ meter.old + workers }
+    ensures faults { CountsFaults S.may_fail workers meter.old meter.new result }
 {
-    let places = rows.len();
-    let wide = wide_cut(size, places, workers);
-    let pieces = fold_pieces(rt, alloc, rows, store, spec, wide.cut, wide.pieces)?;
-    let partials = gather::<S>(alloc, pieces, meter)?;
-    answer_of(alloc, spec, partials, wide.size, places)
+    let wide = wide_cut(rows, size, workers);
+    let pieces = fold_pieces(rt, alloc, rows, store, spec, wide)?;
+    answer_of_pieces(alloc, rows, spec, wide, pieces, meter)
 }
 
 /// Does the same as `recount_rows` with one worker, without a runtime: this thread folds all row groups as one piece.
@@ -277,14 +281,10 @@ pub fn recount_alone<S: FarRead>(
     requires size { size ≡ rows.now.size }
     ensures answer { IfOk result
         (λ answer. answer ≡ answer_over spec.now (rows_of (places_in S.content rows.now))) }
-    ensures none { OnOk result (meter.new ≡ meter.old) }
     ensures refused { IfErr result (FoldRefusal meter.old meter.new) }
-    ensures cause { meter.old < meter.new → S.may_fail }
-    ensures most { meter.new ≤ meter.old + 1 }
+    ensures faults { CountsFaults S.may_fail 1 meter.old meter.new result }
 {
-    let places = rows.len();
-    let wide = wide_cut(size, places, 1);
-    let pieces = fold_in_turn(alloc, rows, store, spec, wide.cut, wide.pieces)?;
-    let partials = gather::<S>(alloc, pieces, meter)?;
-    answer_of(alloc, spec, partials, wide.size, places)
+    let wide = wide_cut(rows, size, 1);
+    let pieces = fold_in_turn(alloc, rows, store, spec, wide)?;
+    answer_of_pieces(alloc, rows, spec, wide, pieces, meter)
 }

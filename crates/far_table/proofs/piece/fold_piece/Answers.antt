@@ -20,7 +20,7 @@ returns g c =
     let long = c.args.cut.long in
     let i = c.args.piece in
     let run : ℕ → ℕ → PartialDone = λ from to. partial_of spec.fold (pairs_here spec (run_of r.size from to places)) in
-    let all : length places ≤ count * r.size = omega (arith, length-places (all_cells content r) r.alive, c.requires.all) in
+    let all : length places ≤ count * r.size = omega (arith, length-places (all_cells content r) r.alive, c.requires.groups.all) in
     record {
       partial = IfOk-weaker c.fold_run-partial.result _ _ (λ done is.
           is
