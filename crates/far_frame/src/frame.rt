@@ -14,6 +14,7 @@ mod lending;
 mod moving;
 mod offloading;
 mod reading;
+mod reading_ahead;
 mod recounting;
 mod renewing;
 mod watching;

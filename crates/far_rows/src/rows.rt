@@ -20,6 +20,7 @@ mod moving;
 mod opening;
 mod pushing;
 mod reading;
+mod reading_ahead;
 mod renewing;
 mod setting;
 

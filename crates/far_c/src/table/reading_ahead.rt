@@ -1,0 +1,46 @@
+// Reads the places of a batch of sets ahead.
+ghost use Rattle.std.specs.Prelude.{◌≡◌, ◌≤◌, length};
+
+use super::Table;
+
+/// How many places are read ahead at once. What is read of them fits into a first cache, and is more than a processor has reads
+/// in flight.
+const BLOCK: usize = 32;
+
+/// A block with fewer places is not read ahead.
+const LEAST: usize = 4;
+
+/// A block whose first and last place are nearer than this is not read ahead: it goes through the table in order, which the
+/// processor foresees.
+const NEAR: u32 = 256;
+
+impl Table {
+    /// If a block of a batch's places begins at an index, reads what sets of a column there need, before they are made
+    /// ([`Frame::read_ahead`](far_frame::Frame::read_ahead)). The table stays as it is.
+    #[inline(always)]
+    pub fn read_ahead(&mut self, column: u32, places: &[u32], index: usize)
+        requires { index ≤ length places.now }
+        ensures { self.new ≡ self.old }
+    {
+        if index % BLOCK == 0 {
+            let end = places.len().min(index.saturating_add(BLOCK));
+            self.read_block(column, &places[index..end]);
+        }
+    }
+
+    // Reads ahead what sets of a column at these places need, unless they are few or near each other.
+    fn read_block(&mut self, column: u32, block: &[u32])
+        ensures { self.new ≡ self.old }
+    {
+        if block.len() < LEAST {
+            return;
+        }
+        let across = block[block.len() - 1].abs_diff(block[0]);
+        if across < NEAR {
+            return;
+        }
+        self.read = self
+            .read
+            .wrapping_add(self.world.frame().read_ahead(column, block));
+    }
+}
