@@ -23,8 +23,8 @@ impl Table {
         ensures { self.new ≡ self.old }
     {
         if index % BLOCK == 0 {
-            let end = places.len().min(index.saturating_add(BLOCK));
-            self.read_block(column, &places[index..end]);
+            let rest = &places[index..];
+            self.read_block(column, &rest[..rest.len().min(BLOCK)]);
         }
     }
 
