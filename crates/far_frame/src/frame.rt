@@ -26,6 +26,7 @@ use far_prefetcher::Prefetcher;
 use far_store::FarTickets;
 use far_table::TableRows;
 use far_types::{Cell, Limits, Refusal, Row, Schema};
+pub use reading_ahead::READ_AHEAD;
 pub use renewing::migrate;
 use std::alloc::Global;
 use std::marker::Model;

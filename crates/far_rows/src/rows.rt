@@ -20,7 +20,6 @@ mod moving;
 mod opening;
 mod pushing;
 mod reading;
-mod reading_ahead;
 mod renewing;
 mod setting;
 

@@ -2,10 +2,7 @@
 ghost use Rattle.std.specs.Prelude.{◌≡◌, ◌≤◌, length};
 
 use super::Table;
-
-/// How many places are read ahead at once. What is read of them fits into a first cache, and is more than a processor has reads
-/// in flight.
-const BLOCK: usize = 32;
+use far_frame::READ_AHEAD;
 
 /// A block with fewer places is not read ahead.
 const LEAST: usize = 4;
@@ -22,9 +19,9 @@ impl Table {
         requires { index ≤ length places.now }
         ensures { self.new ≡ self.old }
     {
-        if index % BLOCK == 0 {
+        if index % READ_AHEAD == 0 {
             let rest = &places[index..];
-            self.read_block(column, &rest[..rest.len().min(BLOCK)]);
+            self.read_block(column, &rest[..rest.len().min(READ_AHEAD)]);
         }
     }
 
