@@ -285,6 +285,45 @@ static void many_cells(void) {
     CHECK(blocks == 0);
 }
 
+/* Cells of places far apart, which are read ahead: also of a place that is not there, and of a row group that is away. */
+static void far_cells(void) {
+    enum { ROWS = 1000, CELLS = 100, GROUP = 16 };
+    fc_table table = {NULL};
+    fc_limits limits = LIMITS;
+    int64_t numbers[CELLS];
+    uint32_t places[CELLS], by_name, total;
+    size_t set = 99, first = 0;
+    const fc_column ints = {.numbers = numbers, .numbers_len = CELLS, .kind = FC_INT};
+    limits.edits = 5000;
+    limits.group = GROUP;
+    limits.places = 1024;
+    limits.int_size = 512;
+    limits.text_size = 4096;
+    OK(fc_open(&table, KINDS, 2, &limits, 1000));
+    OK(fc_watch(&table, &BY_NAME, &by_name));
+    OK(fc_watch(&table, &TOTAL, &total));
+    for (int i = 0; i < ROWS; i++) OK(insert(&table, i % 3 ? "" : "bread", 0));
+    for (int i = 0; i < CELLS; i++) {
+        places[i] = (uint32_t)(i * 389 % ROWS);
+        numbers[i] = i;
+    }
+    OK(fc_set_column(&table, 1, places, CELLS, &ints, &set));
+    CHECK(set == CELLS && is_total(&table, total, ROWS, CELLS * (CELLS - 1) / 2));
+    for (int i = 0; i < CELLS; i++) CHECK(has_number(&table, places[i], &numbers[i]));
+    evict(&table, 1, places[50] / GROUP);
+    while (places[first] / GROUP != places[50] / GROUP) first++;
+    CODE(fc_set_column(&table, 1, places, CELLS, &ints, &set), FC_ABSENT);
+    CHECK(set == first);
+    places[first] = places[0];
+    places[first + 1] = UINT32_MAX;
+    CODE(fc_set_column(&table, 1, places, CELLS, &ints, &set), FC_NO_ROW);
+    CHECK(set == first + 1 && is_total(&table, total, ROWS, CELLS * (CELLS - 1) / 2 + (int64_t)first));
+    CODE(fc_set_column(&table, 2, places, CELLS, &ints, &set), FC_NO_COLUMN);
+    CODE(fc_set_column(&table, 0, places, CELLS, &ints, &set), FC_WRONG_KIND);
+    OK(fc_close(&table));
+    CHECK(blocks == 0);
+}
+
 static bool is_found(fc_table *table, fc_cell key, size_t at) {
     size_t index = 99;
     return fc_find(table, &key, &index) == FC_OK && index == at;
@@ -974,6 +1013,7 @@ int main(void) {
     refused_rows();
     short_masks();
     many_cells();
+    far_cells();
     finding();
     one_key();
     many_lines();

@@ -68,6 +68,7 @@ fn set_cells(
     ensures read { AreFirstRead (λ index. IsReadIn index values.now) set.new }
 {
     for index in 0..places.len() {
+        table.read_ahead(column, places, index);
         let place = places[index];
         let cell = match values.read(alloc, index) {
             Ok(cell) => cell,

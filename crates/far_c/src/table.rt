@@ -6,6 +6,7 @@ ghost use Rattle.far_frame.specs.Steps.{IsStep};
 ghost use Rattle.far_c.specs.Contents.{content, number_of};
 
 mod carrying;
+mod reading_ahead;
 
 use crate::code::{BAD_ARGUMENT, NO_UTF8, OK};
 use crate::sorted_answer::SortedAnswer;
@@ -27,6 +28,8 @@ pub struct Table {
     world: World<HostStore>,
     answer: Option<SortedAnswer>,
     refusal: Option<Refusal>,
+    // What `read_ahead` read, which is kept so that the compiler does not leave it out. Contracts do not see it.
+    read: u64,
 }
 
 impl Model for Table {
@@ -64,6 +67,7 @@ impl Table {
                 world,
                 answer: None,
                 refusal: None,
+                read: 0,
             }),
             Err((refusal, _, _)) => Err(refusal),
         }

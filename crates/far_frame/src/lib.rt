@@ -13,7 +13,7 @@ pub mod view;
 mod waiting;
 pub mod world;
 
-pub use frame::{Frame, migrate};
+pub use frame::{Frame, READ_AHEAD, migrate};
 pub use job::{Job, JobKind};
 pub use object::ObjectState;
 pub use piece::{IntPiece, TextPiece};
