@@ -11,6 +11,7 @@ mod LiveMoved
 mod GroupsAtHand
 mod GroupsRetract
 mod OffloadingMerge
+mod RecountingLaws
 mod WaitingLaws
 mod WorldsLaws
 mod CarryingLaws
