@@ -7,6 +7,7 @@ mod PinsRuns
 mod PinsRenewal
 mod ViewsLaws
 mod LiveEdits
+mod CellChanges
 mod LiveMoved
 mod GroupsAtHand
 mod GroupsRetract
