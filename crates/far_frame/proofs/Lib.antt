@@ -7,10 +7,12 @@ mod PinsRuns
 mod PinsRenewal
 mod ViewsLaws
 mod LiveEdits
+mod CellChanges
 mod LiveMoved
 mod GroupsAtHand
 mod GroupsRetract
 mod OffloadingMerge
+mod RecountingLaws
 mod WaitingLaws
 mod WorldsLaws
 mod CarryingLaws

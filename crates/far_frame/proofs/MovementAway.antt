@@ -11,7 +11,7 @@ use Rattle.far_log.specs.RegionState.{RegionState, Part, segment_of}
 use Rattle.far_scopes.specs.declared.object_record.ObjectRecord.{ObjectRecord}
 use Rattle.far_scopes.specs.declared.replacement.Replacement.{Replacement}
 use Rattle.far_scopes.specs.Memory.{Memory}
-use Rattle.far_scopes.specs.Movement.{Movement, pins_of, word_of}
+use Rattle.far_scopes.specs.Movement.{Movement, is_local, pins_of, word_of}
 use Rattle.far_scopes.specs.Compaction.{moved_word, hot_first, offset_after, IsCompacted}
 use Rattle.far_scopes.specs.Effects.{with_record, after_create, after_write, after_replace, with_lens, after_write_all, after_replace_all, after_touch}
 use Rattle.far_scopes.specs.Placing.{spot, with_new}
@@ -23,7 +23,7 @@ use Rattle.far_columns.specs.NumbersTogether.{NumberColumns, objects_after_push_
 use Rattle.far_texts.specs.Texts.{Texts}
 use Rattle.far_texts.specs.Together.{after_create_all}
 use Rattle.far_frame.specs.TableViews.{is_remote}
-use Rattle.far_frame.proofs.MovementPins.{reads-same, says_pins, with_changed, pins-more, pins-lens}
+use Rattle.far_frame.proofs.MovementPins.{reads-same, says_local, says_pins, with_changed, local-after_mark, local-after_heat, local-moved, local-more, local-map, moved-local, pins-more, pins-lens}
 
 -- whether a word exists and is remote
 abbrev pub says_away : Option Pointer → Bool
@@ -72,27 +72,30 @@ moved-away (r ∷ rs) region words p =
     ∙ moved-away rs (with_new region r.list.items) words p
 
 module _ {X K : Type 0} where
-  -- each object keeps its pins, and is away exactly if it was away before
+  -- each object keeps its pins, is away exactly if it was away before, and is local if it was local
   pub record KeepsAway (old new : Movement X K) : Type 0 where
     pub pins : (o : ℕ) → pins_of new o ≡ pins_of old o
     pub away : (o : ℕ) → says_away (word_of new o) ≡ says_away (word_of old o)
+    pub here : (o : ℕ) → is_local old o ≡ true → is_local new o ≡ true
 
   pub keeps-same : (m : Movement X K) → KeepsAway m m
-  keeps-same m = record { pins = λ o. refl; away = λ o. refl }
+  keeps-same m = record { pins = λ o. refl; away = λ o. refl; here = λ o here. here }
 
   pub keeps-then : (a b c : Movement X K) → KeepsAway a b → KeepsAway b c → KeepsAway a c
-  keeps-then a b c h k = record { pins = λ o. k.pins o ∙ h.pins o; away = λ o. k.away o ∙ h.away o }
+  keeps-then a b c h k = record { pins = λ o. k.pins o ∙ h.pins o; away = λ o. k.away o ∙ h.away o; here = λ o here. k.here o (h.here o here) }
 
   keeps-after_write : (m : Movement X K) (o : ℕ) → KeepsAway m (after_write m o)
   keeps-after_write m o = record {
     pins = λ p. reads-same (λ (object_record : ObjectRecord K). record object_record { version = object_record.version + 1 }) says_pins (λ e. refl) m.records o p;
     away = λ p. reads-same (λ (word : Pointer). with_hot (with_dirty word) true) says_away away-after_mark m.memory.words o p;
+    here = λ p here. reads-same (λ (word : Pointer). with_hot (with_dirty word) true) says_local local-after_mark m.memory.words o p ∙ here;
   }
 
   pub keeps-after_touch : (m : Movement X K) (o : ℕ) → KeepsAway m (after_touch m o)
   keeps-after_touch m o = record {
     pins = λ p. refl;
     away = λ p. reads-same (λ (word : Pointer). with_hot word true) says_away away-after_heat m.memory.words o p;
+    here = λ p here. reads-same (λ (word : Pointer). with_hot word true) says_local local-after_heat m.memory.words o p ∙ here;
   }
 
   pub keeps-after_replace : (m : Movement X K) (o : ℕ) (list : List X) → KeepsAway m (after_replace m o list)
@@ -104,6 +107,11 @@ module _ {X K : Type 0} where
         let to = spot m.memory.state (length list) in
         reads-same (λ (word : Pointer). with_hot (with_dirty word) true) says_away away-after_mark (with_changed (λ (word : Pointer). with_at word to) m.memory.words o) o p
         ∙ reads-same (λ (word : Pointer). with_at word to) says_away (away-moved to) m.memory.words o p;
+    here = λ p here.
+        let to = spot m.memory.state (length list) in
+        reads-same (λ (word : Pointer). with_hot (with_dirty word) true) says_local local-after_mark (with_changed (λ (word : Pointer). with_at word to) m.memory.words o) o p
+        ∙ reads-same (λ (word : Pointer). with_at word to) says_local (local-moved to) m.memory.words o p
+        ∙ here;
   }
 
   keeps-after_write_all : (rs : List (Replacement X)) (m : Movement X K) → KeepsAway m (after_write_all m rs)
@@ -113,12 +121,17 @@ module _ {X K : Type 0} where
   pub keeps-after_replace_all : (m : Movement X K) (rs : List (Replacement X)) → KeepsAway m (after_replace_all m rs)
   keeps-after_replace_all m rs =
       let mid : Movement X K = record m { memory = replaced_all_in m.memory rs; records = with_lens m.records rs } in
-      keeps-then m mid (after_write_all mid rs) (record { pins = λ p. pins-lens rs m.records p; away = λ p. moved-away rs m.memory.state m.memory.words p }) (keeps-after_write_all rs mid)
+      keeps-then m mid (after_write_all mid rs) (record {
+        pins = λ p. pins-lens rs m.records p;
+        away = λ p. moved-away rs m.memory.state m.memory.words p;
+        here = λ p here. moved-local rs m.memory.state m.memory.words p ∙ here;
+      }) (keeps-after_write_all rs mid)
 
   keeps-after_create : (m : Movement X K) (name : Name) (list : List X) → KeepsAway m (after_create m name list)
   keeps-after_create m name list = record {
     pins = λ p. pins-more m.records name (length list) p;
     away = λ p. away-more m.memory.words (spot m.memory.state (length list)) true true false p;
+    here = λ p here. local-more m.memory.words (Local (spot m.memory.state (length list)) true true false) p here;
   }
 
   pub keeps-compacted : (m new : Movement X K) (segment : ℕ) → IsCompacted m.memory new.memory segment → ((p : ℕ) → pins_of new p ≡ pins_of m p) → KeepsAway m new
@@ -127,12 +140,16 @@ module _ {X K : Type 0} where
     away = λ p.
         ap (λ (memory : Memory X). says_away (slice_get memory.words p)) is.memory
         ∙ away-map (segment_of m.memory.state segment).parts (hot_first m.memory segment) segment is.to m.memory.words p;
+    here = λ p here.
+        ap (λ (memory : Memory X). says_local (slice_get memory.words p)) is.memory
+        ∙ local-map (segment_of m.memory.state segment).parts (hot_first m.memory segment) segment is.to m.memory.words p
+        ∙ here;
   }
 
   keeps-range : (m : Movement X K) (v : Vector X) (i : ℕ) (range : List X) → KeepsAway m (after_write_range m v i range)
   keeps-range m v i range =
       let o = object_at v i in
-      keeps-then m (after_write m o) (after_write_range m v i range) (keeps-after_write m o) (record { pins = λ p. refl; away = λ p. refl })
+      keeps-then m (after_write m o) (after_write_range m v i range) (keeps-after_write m o) (record { pins = λ p. refl; away = λ p. refl; here = λ p here. here })
 
   pub keeps-pushed : (m : Movement X K) (v : Vector X) (x : X) → KeepsAway m (objects_after_push m v x)
   keeps-pushed m v x = by (is_full v) where

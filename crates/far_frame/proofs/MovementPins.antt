@@ -49,20 +49,20 @@ module _ {X : Type 0} (change : X → X) where
 abbrev pub says_local : Option Pointer → Bool
 says_local word = is_some (option_and_then at_of word)
 
-local-after_mark : (word : Pointer) → says_local (Some (with_hot (with_dirty word) true)) ≡ says_local (Some word)
+pub local-after_mark : (word : Pointer) → says_local (Some (with_hot (with_dirty word) true)) ≡ says_local (Some word)
 local-after_mark (Local at dirty hot far) = refl
 local-after_mark Remote = refl
 
-local-after_heat : (word : Pointer) → says_local (Some (with_hot word true)) ≡ says_local (Some word)
+pub local-after_heat : (word : Pointer) → says_local (Some (with_hot word true)) ≡ says_local (Some word)
 local-after_heat (Local at dirty hot far) = refl
 local-after_heat Remote = refl
 
-local-moved : (to : At) (word : Pointer) → says_local (Some (with_at word to)) ≡ says_local (Some word)
+pub local-moved : (to : At) (word : Pointer) → says_local (Some (with_at word to)) ≡ says_local (Some word)
 local-moved to (Local at dirty hot far) = refl
 local-moved to Remote = refl
 
 -- adding a word, or making one local, keeps local objects local
-local-more : (words : List Pointer) (word : Pointer) (p : ℕ) → says_local (slice_get words p) ≡ true → says_local (slice_get (words ++ word ∷ []) p) ≡ true
+pub local-more : (words : List Pointer) (word : Pointer) (p : ℕ) → says_local (slice_get words p) ≡ true → says_local (slice_get (words ++ word ∷ []) p) ≡ true
 local-more [] word p here = false-true here
 local-more (w ∷ words) word zero here = here
 local-more (w ∷ words) word (suc p) here = local-more words word p here
@@ -92,13 +92,13 @@ module _ {X : Type 0} (parts : List (Part X)) (order : List ℕ) (from to : ℕ)
   local-word (Local at dirty hot far) = local-either (at.segment == from) at dirty hot far
   local-word Remote = refl
 
-  local-map : (words : List Pointer) (p : ℕ) → says_local (slice_get (map (moved_word parts order from to) words) p) ≡ says_local (slice_get words p)
+  pub local-map : (words : List Pointer) (p : ℕ) → says_local (slice_get (map (moved_word parts order from to) words) p) ≡ says_local (slice_get words p)
   local-map [] p = refl
   local-map (w ∷ words) zero = local-word w
   local-map (w ∷ words) (suc p) = local-map words p
 
 -- replacing lists keeps local objects local
-moved-local : {X : Type 0} (rs : List (Replacement X)) (region : RegionState X) (words : List Pointer) (p : ℕ) → says_local (slice_get (moved_all region words rs) p) ≡ says_local (slice_get words p)
+pub moved-local : {X : Type 0} (rs : List (Replacement X)) (region : RegionState X) (words : List Pointer) (p : ℕ) → says_local (slice_get (moved_all region words rs) p) ≡ says_local (slice_get words p)
 moved-local [] region words p = refl
 moved-local (r ∷ rs) region words p =
     let to = spot region (length r.list.items) in
@@ -142,51 +142,6 @@ module _ {X K : Type 0} where
   pub keeps-same : (m : Movement X K) → KeepsPinned m m
   keeps-same m = record { pins = λ o. refl; here = λ o some here. here }
 
-  pub keeps-then : (a b c : Movement X K) → KeepsPinned a b → KeepsPinned b c → KeepsPinned a c
-  keeps-then a b c h k = record { pins = λ o. k.pins o ∙ h.pins o; here = λ o some here. k.here o (λ none. some (sym (h.pins o) ∙ none)) (h.here o some here) }
-
-  keeps-after_write : (m : Movement X K) (o : ℕ) → KeepsPinned m (after_write m o)
-  keeps-after_write m o = record {
-    pins = λ p. reads-same (λ (object_record : ObjectRecord K). record object_record { version = object_record.version + 1 }) says_pins (λ e. refl) m.records o p;
-    here = λ p some here. reads-same (λ (word : Pointer). with_hot (with_dirty word) true) says_local local-after_mark m.memory.words o p ∙ here;
-  }
-
-  pub keeps-after_touch : (m : Movement X K) (o : ℕ) → KeepsPinned m (after_touch m o)
-  keeps-after_touch m o = record {
-    pins = λ p. refl;
-    here = λ p some here. reads-same (λ (word : Pointer). with_hot word true) says_local local-after_heat m.memory.words o p ∙ here;
-  }
-
-  keeps-after_overwrite : (m : Movement X K) (o i : ℕ) (ws : List X) → KeepsPinned m (after_overwrite m o i ws)
-  keeps-after_overwrite m o i ws = record { pins = λ p. refl; here = λ p some here. here }
-
-  pub keeps-after_replace : (m : Movement X K) (o : ℕ) (list : List X) → KeepsPinned m (after_replace m o list)
-  keeps-after_replace m o list = record {
-    pins = λ p.
-        reads-same (λ (object_record : ObjectRecord K). record object_record { version = object_record.version + 1 }) says_pins (λ e. refl) (with_record m.records o (λ object_record. record object_record { len = length list })) o p
-        ∙ reads-same (λ (object_record : ObjectRecord K). record object_record { len = length list }) says_pins (λ e. refl) m.records o p;
-    here = λ p some here.
-        let to = spot m.memory.state (length list) in
-        reads-same (λ (word : Pointer). with_hot (with_dirty word) true) says_local local-after_mark (with_changed (λ (word : Pointer). with_at word to) m.memory.words o) o p
-        ∙ reads-same (λ (word : Pointer). with_at word to) says_local (local-moved to) m.memory.words o p
-        ∙ here;
-  }
-
-  keeps-after_write_all : (rs : List (Replacement X)) (m : Movement X K) → KeepsPinned m (after_write_all m rs)
-  keeps-after_write_all [] m = keeps-same m
-  keeps-after_write_all (r ∷ rs) m = keeps-then m (after_write m r.object) (after_write_all (after_write m r.object) rs) (keeps-after_write m r.object) (keeps-after_write_all rs (after_write m r.object))
-
-  pub keeps-after_replace_all : (m : Movement X K) (rs : List (Replacement X)) → KeepsPinned m (after_replace_all m rs)
-  keeps-after_replace_all m rs =
-      let mid : Movement X K = record m { memory = replaced_all_in m.memory rs; records = with_lens m.records rs } in
-      keeps-then m mid (after_write_all mid rs) (record { pins = λ p. pins-lens rs m.records p; here = λ p some here. moved-local rs m.memory.state m.memory.words p ∙ here }) (keeps-after_write_all rs mid)
-
-  keeps-after_create : (m : Movement X K) (name : Name) (list : List X) → KeepsPinned m (after_create m name list)
-  keeps-after_create m name list = record {
-    pins = λ p. pins-more m.records name (length list) p;
-    here = λ p some here. local-more m.memory.words (Local (spot m.memory.state (length list)) true true false) p here;
-  }
-
   pub keeps-after_arrive : (m : Movement X K) (o : ℕ) (list : List X) → KeepsPinned m (after_arrive m o list)
   keeps-after_arrive m o list = record { pins = λ p. refl; here = λ p some here. local-arriving m.memory.words o (spot m.memory.state (length list)) false true true p here }
 
@@ -197,48 +152,9 @@ module _ {X K : Type 0} where
     here = λ p some here. local-gone m.memory.words o p (λ same. some (subst (λ (q : ℕ). pins_of m q ≡ 0) (sym same) free)) here;
   }
 
-  pub keeps-compacted : (m new : Movement X K) (segment : ℕ) → IsCompacted m.memory new.memory segment → ((p : ℕ) → pins_of new p ≡ pins_of m p) → KeepsPinned m new
-  keeps-compacted m new segment is pins = record {
-    pins = pins;
-    here = λ p some here.
-        ap (λ (memory : Memory X). says_local (slice_get memory.words p)) is.memory
-        ∙ local-map (segment_of m.memory.state segment).parts (hot_first m.memory segment) segment is.to m.memory.words p
-        ∙ here;
-  }
-
-  keeps-range : (m : Movement X K) (v : Vector X) (i : ℕ) (range : List X) → KeepsPinned m (after_write_range m v i range)
-  keeps-range m v i range =
-      let o = object_at v i in
-      keeps-then m (after_write m o) (after_write_range m v i range) (keeps-after_write m o) (record { pins = λ p. refl; here = λ p some here. here })
-
-  pub keeps-pushed : (m : Movement X K) (v : Vector X) (x : X) → KeepsPinned m (objects_after_push m v x)
-  keeps-pushed m v x = by (is_full v) where
-    by : (b : Bool) → KeepsPinned m (if b then after_create m (next_name v) (next_group v x) else after_write_range m v v.len (x ∷ []))
-    by true = keeps-after_create m (next_name v) (next_group v x)
-    by false = keeps-range m v v.len (x ∷ [])
-
-  pub keeps-set : (m : Movement X K) (v : Vector X) (i : ℕ) (x : X) → KeepsPinned m (after_write_range m v i (x ∷ []))
-  keeps-set m v i x = keeps-range m v i (x ∷ [])
-
   -- pinning and unpinning leave which objects are local
   pub after_pin-here : (m : Movement X K) (o p : ℕ) → is_local (after_pin m o) p ≡ is_local m p
   after_pin-here m o p = refl
 
   pub unpinned-some : (m : Movement X K) (o p : ℕ) → pins_of (after_unpin m o) p ≢ 0 → pins_of m p ≢ 0
   unpinned-some m o p some none = some (pins-less m.records o p none)
-
-module _ {K : Type 0} where
-  pub keeps-all_pushed : (columns : NumberColumns) (m : Movement (Option ℤ) K) (numbers : Numbers) → KeepsPinned m (objects_after_push_all m columns numbers)
-  keeps-all_pushed [] m numbers = keeps-same m
-  keeps-all_pushed (c ∷ columns) m [] = keeps-same m
-  keeps-all_pushed (c ∷ columns) m (number ∷ numbers) =
-      let mid = objects_after_push m c number in
-      keeps-then m mid (objects_after_push_all mid columns numbers) (keeps-pushed m c number) (keeps-all_pushed columns mid numbers)
-
-  pub keeps-after_create_all : (columns : List Texts) (m : Movement ℕ K) (forms : List (ℕ × List ℕ)) → KeepsPinned m (after_create_all m columns forms)
-  keeps-after_create_all [] m forms = keeps-same m
-  keeps-after_create_all (c ∷ columns) m [] = keeps-same m
-  keeps-after_create_all (c ∷ columns) m (form ∷ forms) =
-      let name : Name = record { column = c.column; group = length c.objects } in
-      let mid = after_create m name form.1 in
-      keeps-then m mid (after_create_all mid columns forms) (keeps-after_create m name form.1) (keeps-after_create_all columns mid forms)

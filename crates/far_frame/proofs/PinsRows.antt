@@ -35,7 +35,8 @@ use Rattle.far_frame.specs.Lending.{after_touch_all}
 use Rattle.far_frame.specs.Jobs.{WorkOf, Commits, Installs, Merges}
 use Rattle.far_frame.specs.Pins.{is_here}
 use Rattle.far_scopes.specs.Effects.{after_arrive}
-use Rattle.far_frame.proofs.MovementPins.{KeepsPinned, keeps-same, keeps-then, keeps-after_touch, keeps-after_replace, keeps-after_replace_all, keeps-after_arrive, keeps-after_leave, keeps-compacted, keeps-set, keeps-all_pushed, keeps-after_create_all}
+use Rattle.far_frame.proofs.MovementPins.{KeepsPinned, keeps-same, keeps-after_arrive, keeps-after_leave}
+use Rattle.far_frame.proofs.RowsAway.{KeepsAwayRows}
 
 pub not-on : {A : Type 0} → false ≡ true → A
 not-on h = absurd (let on : true ≡ false = sym h in cc)
@@ -66,65 +67,11 @@ module _ {K : Type 0} where
   rows-pins old new k (object.Number o) = k.numbers.pins o
   rows-pins old new k (object.Text o) = k.texts.pins o
 
-  -- an edit keeps pins
-  module _ (content : K → List ℕ) (r : Rows K) where
-    rows-column_index : (s : ColumnIndex) (place : ℕ) (value : NewCell) → KeepsRows r (set_in content r s place value)
-    rows-column_index (column_index.Number i) place (new_cell.Number number) = by (slice_get r.numbers i) where
-      by : (found : Option (Vector (Option ℤ))) → KeepsRows r (record r { number_objects = option_map_or (λ c. after_write_range r.number_objects c place (number ∷ [])) found r.number_objects })
-      by None = rows-same r
-      by (Some c) = record { numbers = keeps-set r.number_objects c place number; texts = keeps-same r.text_objects }
-    rows-column_index (column_index.Text i) place (new_cell.Text text) = by (slice_get r.texts i) where
-      by : (found : Option Texts) → KeepsRows r (record r { text_objects = option_map_or (λ c. text_set_in content r.text_objects c place text) found r.text_objects })
-      by None = rows-same r
-      by (Some c) = record { numbers = keeps-same r.number_objects; texts = keeps-after_replace r.text_objects (text_at c place) (texts_form (group_with (lists_of content r.text_objects) c place text)) }
-    rows-column_index (column_index.Number i) place (new_cell.Text text) = rows-same r
-    rows-column_index (column_index.Text i) place (new_cell.Number number) = rows-same r
-
-    rows-set : (new : Rows K) (place : ℕ) (value : NewCell) (found : Option ColumnIndex) → option_map kind_of found ≡ Some (kind_in value) → IfSome found (λ s. new ≡ set_in content r s place value) → KeepsRows r new
-    rows-set new place value None of moved = no-some (kind_in value) of
-    rows-set new place value (Some s) of moved = rows-are r (set_in content r s place value) new moved (rows-column_index s place value)
-
-    texts-moved : (texts : List (Option (List ℕ))) (now : Movement ℕ K) (b : Bool) → all_begin r.texts ≡ b → TextsMoved content r texts now → KeepsPinned r.text_objects now
-    texts-moved texts now true is moved = subst (KeepsPinned r.text_objects) (sym (moved.begun is)) (keeps-after_create_all r.texts r.text_objects (next_forms (lists_of content r.text_objects) (length r.text_objects.records) r.texts texts))
-    texts-moved texts now false is moved = (let lists = moved.replaced is in subst (KeepsPinned r.text_objects) (sym lists.2) (keeps-after_replace_all r.text_objects lists.0))
-
-    pub rows-edited : (new : Rows K) (e : Edit) → Moves content r e new → KeepsRows r new
-    rows-edited new (edit.Insert row) h = record {
-      numbers = subst (KeepsPinned r.number_objects) (sym h.2.number_objects) (keeps-all_pushed r.numbers r.number_objects h.0.numbers);
-      texts = texts-moved h.0.texts new.text_objects (all_begin r.texts) refl h.2.text_objects;
-    }
-    rows-edited new (edit.Set place column cell) h = rows-set new place h.0 (slice_get r.column_indexes column) h.2 h.3.moved
-    rows-edited new (edit.Remove place) h = record {
-      numbers = subst (KeepsPinned r.number_objects) (sym (ap (λ (t : Rows K). t.number_objects) h)) (keeps-same r.number_objects);
-      texts = subst (KeepsPinned r.text_objects) (sym (ap (λ (t : Rows K). t.text_objects) h)) (keeps-same r.text_objects);
-    }
-
-  -- a lend keeps pins
-  rows-after_touch : (r : Rows K) (o : Object) → KeepsRows r (after_touch r o)
-  rows-after_touch r (object.Number o) = record { numbers = keeps-after_touch r.number_objects o; texts = keeps-same r.text_objects }
-  rows-after_touch r (object.Text o) = record { numbers = keeps-same r.number_objects; texts = keeps-after_touch r.text_objects o }
-
-  rows-then : (a b c : Rows K) → KeepsRows a b → KeepsRows b c → KeepsRows a c
-  rows-then a b c h k = record { numbers = keeps-then a.number_objects b.number_objects c.number_objects h.numbers k.numbers; texts = keeps-then a.text_objects b.text_objects c.text_objects h.texts k.texts }
-
-  pub rows-after_touch_all : (column : ℕ) (lent : List ℕ) (r : Rows K) → KeepsRows r (after_touch_all r column lent)
-  rows-after_touch_all column [] r = rows-same r
-  rows-after_touch_all column (g ∷ lent) r =
-      let mid : Rows K = option_map_or (after_touch r) (object_at r column g) r in
-      rows-then r mid (after_touch_all mid column lent) (one (object_at r column g)) (rows-after_touch_all column lent mid) where
-        one : (found : Option Object) → KeepsRows r (option_map_or (after_touch r) found r)
-        one None = rows-same r
-        one (Some o) = rows-after_touch r o
-
-  -- a compaction keeps pins
-  pub rows-compacted : (k : Kind) (segment : ℕ) (old new : Rows K) → IsCompactedOf k segment old new → KeepsRows old new
-  rows-compacted kind.Int segment old new h = record {
-    numbers = keeps-compacted old.number_objects new.number_objects segment h.0 (λ p. ap (λ (r : Rows K). pins_of r.number_objects p) h.1);
-    texts = subst (KeepsPinned old.text_objects) (sym (ap (λ (r : Rows K). r.text_objects) h.1)) (keeps-same old.text_objects);
-  }
-  rows-compacted kind.Text segment old new h = record {
-    numbers = subst (KeepsPinned old.number_objects) (sym (ap (λ (r : Rows K). r.number_objects) h.1)) (keeps-same old.number_objects);
-    texts = keeps-compacted old.text_objects new.text_objects segment h.0 (λ p. ap (λ (r : Rows K). pins_of r.text_objects p) h.1);
+  -- rows whose objects stay where they are keep pinned objects local
+  pub rows-still : (old new : Rows K) → KeepsAwayRows old new → KeepsRows old new
+  rows-still old new k = record {
+    numbers = record { pins = k.numbers.pins; here = λ o some here. k.numbers.here o here };
+    texts = record { pins = k.texts.pins; here = λ o some here. k.texts.here o here };
   }
 
   leave-rows : (r : Rows K) (of : Kind) (o : ℕ) (ticket : K) → pins_in r of o ≡ 0 → KeepsRows r (after_leave_in r of o ticket)

@@ -27,7 +27,8 @@ use Rattle.far_frame.specs.Pins.{is_pinning, is_here, ArePinnedHere}
 use Rattle.far_frame.specs.Steps.{IsStep, IsRun}
 use Rattle.far_frame.specs.Worlds.{World, IsBegun, IsNotBegun, IsCarry, IsNoCarry}
 use Rattle.far_frame.proofs.PinsRefusals.{absent-cause, due-absent, free-away, after_pin-holds, unpinned-holds}
-use Rattle.far_frame.proofs.PinsRows.{KeepsRows, not-on, rows-here, rows-pins, rows-are, rows-edited, rows-after_touch_all, rows-compacted, commits-rows, installs-rows, merges-rows, moves-after_pin, moves-unpinned, stays}
+use Rattle.far_frame.proofs.RowsAway.{rows-edited, rows-after_touch_all, rows-compacted}
+use Rattle.far_frame.proofs.PinsRows.{KeepsRows, not-on, rows-here, rows-pins, rows-are, rows-still, commits-rows, installs-rows, merges-rows, moves-after_pin, moves-unpinned, stays}
 use Rattle.far_frame.proofs.StepsLaws.{replied, ended-so}
 
 module _ {K : Type 0} (content : K → List ℕ) (number_of : K → ℕ) where
@@ -37,15 +38,15 @@ module _ {K : Type 0} (content : K → List ℕ) (number_of : K → ℕ) where
     unchanged same = stays old new (ap (λ (t : State K). t.rows) same)
 
     accepted-rows : (s : Step) (given : Reply) → is_pinning s ≡ false → Accepts content old s given new → KeepsRows old.rows new.rows
-    accepted-rows (step.Edit e) given is h = rows-edited content old.rows new.rows e h.1.changed.rows
+    accepted-rows (step.Edit e) given is h = rows-still old.rows new.rows (rows-edited content old.rows new.rows e h.1.changed.rows)
     accepted-rows (step.Watch spec) given is h = stays old new (ap (λ (t : LiveState K). t.rows) h.2.changed.state)
     accepted-rows (step.Unwatch a) given is h = stays old new (ap (λ (t : LiveState K). t.rows) h.1.changed.state)
     accepted-rows (step.ScanGroup a g) given is h = stays old new (ap (λ (t : LiveState K). t.rows) h.1.changed.state)
     accepted-rows (step.Ask a) given is h = unchanged h.3
-    accepted-rows (step.Lend column from to) given is h = rows-are old.rows _ new.rows h.used.rows (rows-after_touch_all column (overlapped_groups old.rows.size from to) old.rows)
+    accepted-rows (step.Lend column from to) given is h = rows-are old.rows _ new.rows h.used.rows (rows-still old.rows _ (rows-after_touch_all column (overlapped_groups old.rows.size from to) old.rows))
     accepted-rows (step.Pin column group) given is h = not-on (sym is)
     accepted-rows (step.Unpin column group) given is h = not-on (sym is)
-    accepted-rows (step.Compact k segment) given is h = rows-compacted k segment old.rows new.rows h.1.changed.rows
+    accepted-rows (step.Compact k segment) given is h = rows-still old.rows new.rows (rows-compacted k segment old.rows new.rows h.1.changed.rows)
     accepted-rows (step.Prefetch column) given is h = unchanged h.2
     accepted-rows (step.BeginEvac column group) given is h = absurd h
     accepted-rows (step.BeginFetch column group) given is h = absurd h

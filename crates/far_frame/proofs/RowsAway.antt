@@ -1,7 +1,8 @@
--- Changes of rows that keep the pins of their objects, and which of them are away.
+-- Changes of rows that keep the pins of their objects, and which of them are away and local.
 use Rattle.std.proofs.Common.{◌≡◌, ℕ, Bool, true, false, List, [], ◌∷◌, length, ℤ, Option, None, Some, IfSome, refl, sym, ap, subst}
 use Rattle.std.specs.Prelude.{option_map, slice_get}
 use Rattle.std.specs.Option.{option_map_or}
+use Rattle.std.proofs.lemmas.Option.{none-some}
 use Rattle.far_types.specs.declared.cell.Kind.{Kind}
 use Rattle.far_types.specs.declared.cell.Kind.TheVariants as kind
 use Rattle.far_types.specs.declared.edit.Edit.{Edit}
@@ -29,10 +30,9 @@ use Rattle.far_table.specs.Moving.{IsCompactedOf}
 use Rattle.far_frame.specs.Lending.{after_touch_all}
 use Rattle.far_frame.specs.TableViews.{is_gone}
 use Rattle.far_frame.proofs.MovementAway.{KeepsAway, keeps-same, keeps-then, keeps-after_touch, keeps-compacted, keeps-after_replace, keeps-after_replace_all, keeps-set, keeps-all_pushed, keeps-after_create_all}
-use Rattle.far_frame.proofs.PinsRows.{no-some}
 
 module _ {K : Type 0} where
-  -- the objects of the rows keep their pins, and are away exactly if they were away before
+  -- the objects of the rows keep their pins, are away exactly if they were away before, and are local if they were local
   pub record KeepsAwayRows (old new : Rows K) : Type 0 where
     pub numbers : KeepsAway old.number_objects new.number_objects
     pub texts : KeepsAway old.text_objects new.text_objects
@@ -66,7 +66,7 @@ module _ {K : Type 0} where
     rows-column_index (column_index.Text i) place (new_cell.Number number) = rows-same r
 
     rows-set : (new : Rows K) (place : ℕ) (value : NewCell) (found : Option ColumnIndex) → option_map kind_of found ≡ Some (kind_in value) → IfSome found (λ s. new ≡ set_in content r s place value) → KeepsAwayRows r new
-    rows-set new place value None of moved = no-some (kind_in value) of
+    rows-set new place value None of moved = absurd (none-some (kind_in value) of)
     rows-set new place value (Some s) of moved = rows-are r (set_in content r s place value) new moved (rows-column_index s place value)
 
     texts-moved : (texts : List (Option (List ℕ))) (now : Movement ℕ K) (b : Bool) → all_begin r.texts ≡ b → TextsMoved content r texts now → KeepsAway r.text_objects now

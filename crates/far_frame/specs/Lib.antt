@@ -17,3 +17,4 @@ pub mod PlainEdits
 pub mod TableRefusals
 pub mod TableRuns
 pub mod TableViews
+pub mod Editing

@@ -1,15 +1,13 @@
 // Edits the rows and the aggregates of a table together.
-ghost use Rattle.std.specs.Prelude.{◌≡◌, ◌<◌, ◌/◌, true, None, Some, length, OnOk, OnErr, IfErr};
+ghost use Rattle.std.specs.Prelude.{◌≡◌, ◌<◌, ◌/◌, true, None, Some, length};
 ghost use Rattle.far_types.specs.FirstOf.{first_of};
-ghost use Rattle.far_rows.specs.Effects.{KeepsObjects};
 ghost use Rattle.far_rows.specs.declared.new_cell.NewCell.TheVariants as new;
 ghost use Rattle.far_rows.specs.Refusing.{absents};
-ghost use Rattle.far_rows.specs.Setting.{cell_of};
 ghost use Rattle.far_aggregates.specs.Accumulators.{Keeps, registered_of};
 ghost use Rattle.far_aggregates.specs.Pending.{RetractsAll};
 ghost use Rattle.far_aggregates.specs.Replacing.{keeps_keys};
-ghost use Rattle.far_table.specs.Edits.{MayPut, IsPut};
 ghost use Rattle.far_table.specs.State.{AreChecked};
+ghost use Rattle.far_frame.specs.Editing.{ChangesCell, MayChangeCell};
 
 use far_aggregates::laws::an_aggregate_is_served_by_the_columns_of_its_schema;
 use far_aggregates::{Aggregates, Pending};
@@ -29,15 +27,9 @@ pub(super) fn put_cell<S: FarTickets>(
     place: u32,
     value: &NewCell,
 ) -> Result<(), Refusal>
-    requires put { MayPut S.content rows.old column place value.now }
-    requires kept { Keeps rows.old.limits.group rows.old.places aggregates.old }
-    requires checked { AreChecked rows.old.schema (registered_of aggregates.old) }
-    ensures put { OnOk result (IsPut S.content rows.old rows.new column place value.now) }
-    ensures err { OnErr result (rows.new ≡ rows.old) }
-    ensures kept { Keeps rows.new.limits.group rows.new.places aggregates.new }
-    ensures registered { registered_of aggregates.new ≡ registered_of aggregates.old }
-    ensures objects { KeepsObjects S.is_of rows.old.held rows.new.held }
-    ensures memory { IfErr result (λ e. e ≡ Refusal.NoMemory) }
+    requires may { MayChangeCell S.content rows.old aggregates.old column place value.now }
+    ensures { ChangesCell S.content rows.old aggregates.old column place value.now S.is_of
+        rows.new aggregates.new result }
 {
     // No aggregate needs this column, so there is nothing to update.
     if !aggregates.needs(column) {
@@ -65,17 +57,11 @@ fn replace_number<S: FarTickets>(
     value: &NewCell,
     to: i64,
 ) -> Result<(), Refusal>
-    requires put { MayPut S.content rows.old column place value.now }
+    requires may { MayChangeCell S.content rows.old aggregates.old column place value.now }
     requires number { value.now ≡ new.Number (Some to) }
-    requires kept { Keeps rows.old.limits.group rows.old.places aggregates.old }
-    requires checked { AreChecked rows.old.schema (registered_of aggregates.old) }
     requires keys { keeps_keys column aggregates.old ≡ true }
-    ensures put { OnOk result (IsPut S.content rows.old rows.new column place value.now) }
-    ensures err { OnErr result (rows.new ≡ rows.old) }
-    ensures kept { Keeps rows.new.limits.group rows.new.places aggregates.new }
-    ensures registered { registered_of aggregates.new ≡ registered_of aggregates.old }
-    ensures objects { KeepsObjects S.is_of rows.old.held rows.new.held }
-    ensures memory { IfErr result (λ e. e ≡ Refusal.NoMemory) }
+    ensures { ChangesCell S.content rows.old aggregates.old column place value.now S.is_of
+        rows.new aggregates.new result }
 {
     let size = rows.limits().group;
     // For the proof: shows `AreTableRows`, which bounds the number of places and the numbers in them.
@@ -110,15 +96,9 @@ fn change_row<S: FarTickets>(
     place: u32,
     value: &NewCell,
 ) -> Result<(), Refusal>
-    requires put { MayPut S.content rows.old column place value.now }
-    requires kept { Keeps rows.old.limits.group rows.old.places aggregates.old }
-    requires checked { AreChecked rows.old.schema (registered_of aggregates.old) }
-    ensures put { OnOk result (IsPut S.content rows.old rows.new column place value.now) }
-    ensures err { OnErr result (rows.new ≡ rows.old) }
-    ensures kept { Keeps rows.new.limits.group rows.new.places aggregates.new }
-    ensures registered { registered_of aggregates.new ≡ registered_of aggregates.old }
-    ensures objects { KeepsObjects S.is_of rows.old.held rows.new.held }
-    ensures memory { IfErr result (λ e. e ≡ Refusal.NoMemory) }
+    requires may { MayChangeCell S.content rows.old aggregates.old column place value.now }
+    ensures { ChangesCell S.content rows.old aggregates.old column place value.now S.is_of
+        rows.new aggregates.new result }
 {
     let size = rows.limits().group;
     // For the proof: show the bound of the number of places, and that their rows have all columns.

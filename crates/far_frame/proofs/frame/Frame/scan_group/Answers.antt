@@ -1,17 +1,15 @@
 use Rattle.std.proofs.Common.{◌*◌, ◌<◌, ℕ, length, refl, sym, ap, subst, ◌∙◌, arith}
 use Rattle.far_types.specs.declared.limits.Limits.{Limits}
-use Rattle.far_types.specs.declared.spec.Spec.{Spec}
-use Rattle.far_types.specs.Bounds.{spec_refusal}
 use Rattle.far_types.specs.Table.{in_group}
 use Rattle.far_rows.specs.Rows.{all_cells}
 use Rattle.far_aggregates.specs.Aggregates.{aggregate_in}
 use Rattle.far_aggregates.specs.Accumulators.{Keeps, registered_of}
 use Rattle.far_aggregates.specs.Lending.{IsServed, EntryIsServed}
 use Rattle.far_table.specs.Groups.{GroupRows, has_column, places_here}
-use Rattle.far_table.specs.State.{IsChecked}
 use Rattle.far_frame.proofs.LiveEdits.{keeps-fit}
-use Rattle.far_table.proofs.WatchingScans.{begun, scan-served, an-aggregate, checked-at, scanned-checked}
+use Rattle.far_table.proofs.WatchingScans.{begun, scan-served, an-aggregate, scanned-checked}
 use Rattle.far_frame.proofs.GroupsRetract.{places-here}
+use Rattle.far_frame.proofs.RecountingLaws.{spec-right}
 use Rattle.far_table.proofs.WatchingColumns.{begun-at}
 use Rattle.far_table.proofs.Places.{length-places}
 use Rattle.far_frame.proofs.frame.Frame.scan_group.Goals as goal
@@ -27,8 +25,7 @@ scan_at-requires-clause-served g c =
     let first : c.args.group * t.limits.group < length t.places = begun c.args.group t.limits.group (length t.places) (omega (arith, c.limits.ensures.bounds.group_low)) (subst (λ (n : ℕ). c.args.group < n) c.groups.ensures counted) in
     let long = sym (ap length c.held-held.ensures.places ∙ length-places (all_cells content t.held) t.held.alive) in
     let inside = begun-at c.args.group t.held t.held refl t.limits.group (length t.places) c.held-held.ensures.size long first in
-    let checked = subst (IsChecked t.schema) found.is (checked-at t.schema (registered_of registry) c.args.a c.self.invariant.checked) in
-    let right = ap (λ (s : Spec). spec_refusal t.schema s) (sym found.same) ∙ checked in
+    let right = spec-right t registry c.args.a spec c.in-Some.ensures c.self.invariant.checked in
     let served = scan-served content t.held c.held-held.ensures.rows c.args.group inside c.an_aggregate_is_served_by_the_columns_of_its_schema.ensures t.schema c.held-held.ensures.kinds spec right c.in_ok-may_scan.ensures in
     let lent : GroupRows g.row.S-Ticket.Denot = record { rows = t.held; group = c.args.group } in
     subst (λ (group : GroupRows g.row.S-Ticket.Denot). EntryIsServed (has_column group) (aggregate_in registry c.args.a)) (sym c.group.ensures)
