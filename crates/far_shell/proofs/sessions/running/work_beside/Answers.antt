@@ -11,8 +11,8 @@ as-before : (D : Type 0) (has_pass : Bool) → Quiet (if_kept {D = D} has_pass u
 as-before D true = λ x w. tt
 as-before D false = λ x w. tt
 
-pub join-evacuated-requires : goal.join-evacuated-requires
-join-evacuated-requires g c =
+pub join-evictions-requires : goal.join-evictions-requires
+join-evictions-requires g c =
     let all = shared_sync (param 0 g.row.N) (param 1 g.row.B) (param 2 g.row.S) (param 4 g.row.S-Ticket) g.B.CellsTag g.N.PlanTag g.B.TableTag g.S.FarTickets c.type_bounds.send-S-Ticket c.type_bounds.sync-S-Ticket in
     let word : IsSync (UInt w32) = search sendable in
     λ k. (
