@@ -14,11 +14,11 @@ mod running;
 mod tries;
 mod worked;
 
+pub use ending::Differing;
+pub use evacuating::Evictions;
 use far_sessions::PlanTag;
 use far_shared::{Made, Plan, TableTag};
 use far_store::{AgentStore, FarStore};
-pub use ending::Differing;
-pub use evacuating::Evictions;
 pub use outcome::{Outcome, Stop};
 use planning::plan_for;
 use running::run_shared;

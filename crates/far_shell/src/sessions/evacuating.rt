@@ -67,12 +67,13 @@ impl Evictions {
         let gone = shared.evacuate_once(rt, self.tries % 4, store, &mut meter);
         self.tries += 1;
         match gone {
-            Ok(Some(_)) => self.evicted += 1,
-            Ok(None) => {}
-            Err(Refusal::NoMemory) => return Err(Stop::Memory),
-            Err(_) => {}
+            Ok(Some(_)) => {
+                self.evicted += 1;
+                Ok(())
+            }
+            Err(Refusal::NoMemory) => Err(Stop::Memory),
+            _ => Ok(()),
         }
-        Ok(())
     }
 }
 

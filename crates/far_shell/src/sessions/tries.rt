@@ -103,8 +103,7 @@ impl RefusedTry {
     ghost use Rattle.far_shared.specs.UnderLock.{IsUnder};
     ghost use Rattle.far_shell.specs.Working.{IsTried, StopsAfter, remedy_of};
 
-    /// Clears the way for the next try: fetches the object that is away, or evicts one if space is short. If this is
-    /// refused in turn, for another reason than memory, the next try may still succeed.
+    /// Clears the way for the next try, and returns that.
     ///
     /// Ends with:
     ///
@@ -132,20 +131,41 @@ impl RefusedTry {
         if tries == MOST_TRIES {
             return Err(Stop::Turns(GaveUp { tries, refusal }));
         }
-        let mut meter = Meter::new();
-        match refusal {
-            Refusal::Absent { column, group } => stop_at_no_memory(shared.fetch(
-                rt, stripe, column, group, store, &mut meter,
-            ))?,
-            Refusal::RegionFull => {
-                stop_at_no_memory(shared.evacuate_once(rt, stripe, store, &mut meter))?
-            }
-            Refusal::NoMemory => return Err(Stop::Memory),
-            _ => return Err(Stop::Turns(GaveUp { tries, refusal })),
-        }
+        Self::clear_way(rt, shared, store, stripe, tries, refusal)?;
         Ok(NextTry {
             stripe,
             refused: tries,
         })
+    }
+
+    /// Does what may let an edit succeed that a stripe refused: fetches the object that is away, or evicts one if space is
+    /// short. If this is refused in turn, for another reason than memory, the next try may still succeed.
+    ///
+    /// Ends as `clear`, but for the number of tries.
+    fn clear_way<N: PlanTag, B: TableTag, S: FarStore, R: Wait>(
+        rt: &R,
+        shared: &Shared<N, B, S>,
+        store: &S,
+        stripe: u32,
+        tries: u32,
+        refusal: Refusal,
+    ) -> Result<(), Stop>
+        requires store { S.store_id store.now ≡ B.store }
+        ensures cleared { OnOk result (IsSomeAnd (remedy_of stripe refusal)
+            (IsTried S.number_of S.content (IsUnder N.plan S.is_of B.store)
+            (length N.plan.schema))) }
+        ensures stopped { IfErr result (StopsAfter tries refusal) }
+    {
+        let mut meter = Meter::new();
+        match refusal {
+            Refusal::Absent { column, group } => stop_at_no_memory(shared.fetch(
+                rt, stripe, column, group, store, &mut meter,
+            )),
+            Refusal::RegionFull => {
+                stop_at_no_memory(shared.evacuate_once(rt, stripe, store, &mut meter))
+            }
+            Refusal::NoMemory => Err(Stop::Memory),
+            _ => Err(Stop::Turns(GaveUp { tries, refusal })),
+        }
     }
 }
