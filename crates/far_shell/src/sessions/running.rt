@@ -1,5 +1,5 @@
 // Runs sessions on threads beside a background worker.
-ghost use Rattle.std.specs.Prelude.{◌≡◌, ◌⊎◌, ◌×◌, IfErr, IfOk, IsErrOf, IsOk, IsOkAnd};
+ghost use Rattle.std.specs.Prelude.{◌≡◌, ◌⊎◌, IfErr, IfOk, IsErrOf, IsOk, IsOkAnd};
 ghost use Rattle.far_sessions.specs.Known.{newcomers};
 ghost use Rattle.far_shell.specs.Runs.{IsRun};
 ghost use Rattle.far_shell.specs.Working.{AreLeft, AreWorked, HasHomes, IsWorked};

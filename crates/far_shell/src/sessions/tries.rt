@@ -56,7 +56,7 @@ pub(crate) struct RefusedTry {
 }
 
 impl NextTry {
-    ghost use Rattle.std.specs.Prelude.{◌≡◌, ◌<◌, ◌+◌, ◌×◌, IfErr, OnErr, OnOk};
+    ghost use Rattle.std.specs.Prelude.{◌≡◌, ◌<◌, ◌+◌, IfErr, OnErr, OnOk};
     ghost use Rattle.far_sessions.specs.Known.{at};
     ghost use Rattle.far_shared.specs.Editing.{IsDueUnder};
     ghost use Rattle.far_shared.specs.UnderLock.{IsUnder};
@@ -99,7 +99,7 @@ impl NextTry {
 }
 
 impl RefusedTry {
-    ghost use Rattle.std.specs.Prelude.{◌≡◌, ◌×◌, length, IfErr, IfOk, IsSomeAnd, OnOk};
+    ghost use Rattle.std.specs.Prelude.{◌≡◌, length, IfErr, IfOk, IsSomeAnd, OnOk};
     ghost use Rattle.far_shared.specs.UnderLock.{IsUnder};
     ghost use Rattle.far_shell.specs.Working.{IsTried, StopsAfter, remedy_of};
 

@@ -4,7 +4,10 @@ use denote.Param.Send.{IsSync, Quiet, sendable}
 use denote.Plain.{UInt}
 use mir.Syntax.{of_param, w32}
 use Rattle.std.proofs.Common.{Bool, true, false, rules}
+use Rattle.std.proofs.Crossing.{crosses}
 use Rattle.far_shared.proofs.CrossingLaws.{shared_sync}
+use Rattle.far_shell.proofs.sessions.evacuating.Evictions.TheSendSync as evictions
+use Rattle.far_shell.proofs.sessions.outcome.Stop.TheSendSync as stop
 use Rattle.far_shell.proofs.sessions.running.work_beside.Goals as goal
 
 as-before : (D : Type 0) (has_pass : Bool) → Quiet (if_kept {D = D} has_pass unchanged unseen)
@@ -29,5 +32,5 @@ join-evictions-requires g c =
         );
         leaving = λ e. as-before _ (e (of_param 1));
       },
-      search (sendable, rules),
+      search (sendable, crosses, rules, evictions.the_send, stop.the_send) depth 40,
     )
