@@ -105,6 +105,7 @@ module _ (p : Planned) (n : ℕ) (sessions : List Known) (t0 t1 t2 t3 : Table) (
       let answered = answer-by-histories o.answer returned in record {
         gauges = all-one o.gauges.items p.sessions (all_of n) gauged.returned each;
         answer = record { zeroth = c0.log; first = c1.log; second = c2.log; third = c3.log; histories = (h0, h1, h2, h3); is = answered };
+        tried = left.tried;
         total = answered ∙ total-is p n c0.log c1.log c2.log c3.log homes.few homes.gauge h0 h1 h2 h3;
       }
 

@@ -1,6 +1,5 @@
 -- Scripts of sessions on threads.
-use Rattle.std.proofs.Common.{◌≡◌, ◌+◌, ◌<◌, ◌≤◌, ℕ, ◌⊎◌, inl, inr, Bool, IsTrue, List, [], ◌++◌, length, drop, get_or, Option, Some, append_assoc, append-nil, ◌∙◌, refl, sym, ap, subst}
-use Rattle.std.specs.Io.KnownBytes.{Appends}
+use Rattle.std.proofs.Common.{◌≡◌, ◌+◌, ◌<◌, ◌≤◌, ℕ, ◌⊎◌, inl, inr, List, [], ◌++◌, length, drop, get_or, Option, Some, append_assoc, append-nil, ◌∙◌, refl, sym, ap, subst}
 use Rattle.std.proofs.lemmas.List.{drop_more}
 use Rattle.std.specs.declared.io.traits.Read.{Ghosts}
 use Rattle.far_sessions.specs.declared.reading.Reading.{Reading}
@@ -16,7 +15,7 @@ use Rattle.far_script.proofs.FlowStops.{coming, spent-rest, starts}
 use Rattle.far_shell.specs.declared.sessions.outcome.Outcome.{Outcome}
 use Rattle.far_shell.specs.Runs.{IsOutcome}
 use Rattle.far_shell.specs.Scripts.{Begins}
-use Rattle.far_shell.specs.Sessions.{CutOutcome, IsThreads, IsOutcomeText, gauges_text, session_line, outcome_text}
+use Rattle.far_shell.specs.Sessions.{IsThreads, IsOutcomeText, gauges_text, session_line, outcome_text}
 use Rattle.far_shell.proofs.BreaksLaws.{Breaking}
 use Rattle.far_commands.proofs.ListingsFields.{drop-past}
 use Rattle.far_shell.proofs.ScriptsLaws.{begins-then, either}
@@ -36,21 +35,10 @@ gauges-end readings i page whole past e = sym (append-nil page) ∙ sym (ap (λ 
 pub outcome-of : (sessions edits : ℕ) (o : Outcome) (page : List ℕ) → IsOutcome sessions edits o → page ≡ outcome_text o → IsOutcomeText sessions edits page
 outcome-of sessions edits o page is said = said ∙ (λ i. gauges_text 0 (is.gauges i) ++ answer_text (is.total i))
 
--- the sessions were stopped, and nothing is written
-pub cut-stopped : (may_fail : Bool) (why : ShellFault) (sessions edits : ℕ) → (why ≡ fault.Memory) ⊎ (why ≡ fault.Turns) → CutOutcome may_fail why sessions edits []
-cut-stopped may_fail why sessions edits (inl memory) = rw memory refl
-cut-stopped may_fail why sessions edits (inr turns) = rw turns refl
-
 -- the sessions were not stopped by a failed write
 pub stopped-unwritten : (why : ShellFault) (P : Type 0) → (why ≡ fault.Memory) ⊎ (why ≡ fault.Turns) → why ≡ fault.Output → P
 stopped-unwritten why P (inl memory) = rw memory (λ e. absurd (cc e))
 stopped-unwritten why P (inr turns) = rw turns (λ e. absurd (cc e))
-
--- a write failed
-pub cut-unwritten : (may_fail : Bool) (old new : Option (List ℕ)) (sessions edits : ℕ) (text page left : List ℕ) → IsTrue may_fail → IsOutcomeText sessions edits text → page ≡ text → Prints old page [] new left
-    → (sent : List ℕ) × CutOutcome may_fail fault.Output sessions edits sent × Appends old new sent
-cut-unwritten may_fail old new sessions edits text page left cause printed is p =
-    (p.0, (cause, (left, subst (λ (z : List ℕ). IsOutcomeText sessions edits z) (sym is ∙ sym (append-nil page) ∙ p.2) printed)), p.1)
 
 -- a script is answered in weaker terms
 pub answered-then : (bytes text : List ℕ) (A P Q : Type 0) → (P → Q) → (A × P) ⊎ IsThreads bytes P text → (A × Q) ⊎ IsThreads bytes Q text

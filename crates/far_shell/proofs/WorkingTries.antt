@@ -1,13 +1,12 @@
--- Works that were tried.
-use Rattle.std.proofs.Common.{◌≡◌, ◌≢◌, ℕ, ◌+◌, ◌<◌, List, Option, Result, Ok, Err, IfErr, IfOk, OnOk, inl, inr, sym, subst, arith}
-use mathlib.Core.Logic.{dite}
-use native.Mathlib.Decide.{ℕ_discrete}
+-- Works and evictions that were tried.
+use Rattle.std.proofs.Common.{◌≡◌, ◌≢◌, ℕ, ◌+◌, ◌%◌, ◌<◌, List, Option, Result, Ok, Err, IfErr, IfOk, OnOk, inl, inr, sym, subst, add-one, arith}
 use Rattle.far_types.specs.declared.name.Name.{Name}
 use Rattle.far_types.specs.declared.refusal.Refusal.{Refusal}
 use Rattle.far_types.specs.declared.refusal.Refusal.TheVariants as refusal
 use Rattle.far_shared.specs.Stripes.{StripeState}
 use Rattle.far_shared.specs.UnderLock.{Evacuates, EvacuationFails, FetchFails, Fetches}
 use Rattle.far_shared.specs.declared.work.Work.TheVariants as work
+use Rattle.far_shell.specs.Evicting.{AreTried, IsCounted}
 use Rattle.far_shell.specs.Working.{IsTried}
 
 module _ {K : Type 0} (number_of : K → ℕ) (content : K → List ℕ) (allows : ℕ → StripeState K → Type 0) (columns : ℕ) where
@@ -25,6 +24,8 @@ module _ {K : Type 0} (number_of : K → ℕ) (content : K → List ℕ) (allows
   fetch-tried stripe name (Ok u) done why other = inl done
   fetch-tried stripe name (Err e) done why other = inr (e, other, λ wide low. why (omega (arith, wide)) low)
 
--- what holds below n and at n holds below n + 1
-pub one-more : (P : ℕ → Type 0) (n : ℕ) → ((k : ℕ) → k < n → P k) → P n → (k : ℕ) → k < n + 1 → P k
-one-more P n all here k lt = dite (ℕ_discrete k n) (λ e. subst P (sym e) here) (λ ne. all k (omega (arith, ne)))
+module _ {K : Type 0} (number_of : K → ℕ) (content : K → List ℕ) (allows : ℕ → StripeState K → Type 0) where
+  -- one more eviction was tried, on the next stripe
+  pub one-more : (tries before after : ℕ) → AreTried number_of content allows tries before → IsCounted number_of content allows (tries % 4) before after
+      → AreTried number_of content allows (tries + 1) after
+  one-more tries before after all one = subst (λ (n : ℕ). AreTried number_of content allows n after) (sym (add-one tries)) (before, all, one)

@@ -4,4 +4,6 @@ pub mod Scripts
 pub mod LineFaults
 pub mod Runs
 pub mod Stops
+pub mod Tries
+pub mod Evicting
 pub mod Working

@@ -18,6 +18,10 @@ use Rattle.far_sessions.specs.declared.view.Entry.{Entry}
 use Rattle.far_shared.specs.Fours.{all_rows}
 use Rattle.far_shell.specs.declared.sessions.outcome.Outcome.{Outcome}
 
+-- how many contents the store of a run can hold
+abbrev pub store_capacity : ℕ
+store_capacity = 1048576
+
 -- the row that each session inserts: the number 1
 abbrev pub row_of_one : List Cell
 row_of_one = cell.Int (pos 1) ∷ []
@@ -71,11 +75,12 @@ pub record IsOverAll (p : Planned) (edits : ℕ) (answer : Answer) : Type 0 wher
       (all_rows (replay p zeroth) (replay p first) (replay p second) (replay p third))
 
 -- all sessions of a plan have ended, each with `edits` inserts on its home stripe. The gauge there shows exactly these, and
--- the answer counts and sums exactly the rows of all sessions
+-- the answer counts and sums exactly the rows of all sessions. The worker beside them has tried `edits` evictions
 pub record IsRun (p : Planned) (edits : ℕ) (o : Outcome) : Type 0 where
   pub gauges : o.gauges.items ≡ replicate p.sessions (all_of edits)
   pub answer : IsOverAll p edits o.answer
   pub total : o.answer ≡ total_of (p.sessions * edits)
+  pub tried : o.evictions.tries ≡ edits
 
 -- the outcome of this many sessions with this many inserts each
 abbrev pub IsOutcome : ℕ → ℕ → Outcome → Type 0

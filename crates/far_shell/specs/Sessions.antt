@@ -1,5 +1,5 @@
 -- The replies to a script of sessions on threads.
-use Rattle.std.specs.Prelude.{◌≡◌, ◌⊎◌, ℕ, ◌+◌, ◌*◌, Bool, IsTrue, List, [], ◌∷◌, ◌++◌, Some, replicate}
+use Rattle.std.specs.Prelude.{◌≡◌, ◌⊎◌, ℕ, ◌+◌, ◌*◌, List, [], ◌∷◌, ◌++◌, Some, replicate}
 use Rattle.far_sessions.specs.declared.reading.Reading.{Reading}
 use Rattle.far_shell.specs.declared.sessions.outcome.Outcome.{Outcome}
 use Rattle.far_shell.specs.declared.sessions.outcome.Stop.{Stop}
@@ -39,17 +39,8 @@ IsOutcomeText sessions edits text = text
 -- the fault that ends a script whose sessions were stopped
 abbrev pub fault_of : Stop → ShellFault
 fault_of stop.Memory = fault.Memory
-fault_of stop.Turns = fault.Turns
-
--- the part of the outcome that was written at a fault: a prefix if a write failed, which happens only for writers of a type
--- that may fail, and otherwise nothing
-abbrev pub CutOutcome : Bool → ShellFault → ℕ → ℕ → List ℕ → Type 0
-CutOutcome may_fail fault.BadStart sessions edits sent = ⊥
-CutOutcome may_fail fault.Input sessions edits sent = ⊥
-CutOutcome may_fail fault.Output sessions edits sent = IsTrue may_fail
-    × ((lost : List ℕ) × IsOutcomeText sessions edits (sent ++ lost))
-CutOutcome may_fail fault.Memory sessions edits sent = sent ≡ []
-CutOutcome may_fail fault.Turns sessions edits sent = sent ≡ []
+fault_of (stop.Turns given) = fault.Turns
+fault_of (stop.Answers given) = fault.Turns
 
 -- the first command of a script asks for this many sessions with this many edits each
 abbrev pub AsksSessions : List ℕ → Type 0 → ℕ → ℕ → Type 0

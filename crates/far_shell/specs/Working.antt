@@ -1,11 +1,13 @@
 -- What sessions do during a run, and what they know when the table is closed.
 -- Internal: no public contract cites it.
-use Rattle.std.specs.Prelude.{◌≡◌, ◌≢◌, ◌⊎◌, ℕ, ℤ, ◌%◌, ◌<◌, ◌≤◌, List, [], ◌∷◌, ◌++◌, Option, None, Some, OnOk, IsOk, Result, length, slice_get}
+use Rattle.std.specs.Prelude.{◌≡◌, ◌≢◌, ◌⊎◌, ℕ, ℤ, ◌%◌, false, ◌<◌, ◌≤◌, List, [], ◌∷◌, ◌++◌, Option, None, Some, OnOk, IsOk, Result, length, slice_get}
 use Rattle.far_types.specs.declared.answer.Answer.{Answer}
 use Rattle.far_types.specs.declared.answer.Answer.TheVariants as answer
+use Rattle.far_types.specs.declared.edit.Edit.{Edit}
 use Rattle.far_types.specs.declared.refusal.Refusal.{Refusal}
 use Rattle.far_types.specs.declared.refusal.Refusal.TheVariants as refusal
 use Rattle.far_sessions.specs.Histories.{Planned, by_session, gauge_of}
+use Rattle.far_sessions.specs.Rule.{entry}
 use Rattle.far_sessions.specs.declared.reading.Reading.{Reading}
 use Rattle.far_sessions.specs.Known.{Known, SeesMore, at, session_number}
 use Rattle.far_shared.specs.Asking.{IsAnswer}
@@ -18,11 +20,24 @@ use Rattle.far_shell.specs.declared.sessions.outcome.Outcome.{Outcome}
 use Rattle.far_shell.specs.declared.sessions.outcome.Stop.{Stop}
 use Rattle.far_shell.specs.declared.sessions.outcome.Stop.TheVariants as stop
 use Rattle.far_shell.specs.Runs.{inserts, sum_of_rows}
+use Rattle.far_shell.specs.Tries.{is_final}
 
 -- a plan with at most as many sessions as stripes, so that each has its own home stripe. The gauge counts and sums the rows
 pub record HasHomes (p : Planned) : Type 0 where
   pub few : p.sessions ≤ 4
   pub gauge : p.gauge ≡ sum_of_rows
+
+-- a session has made this edit at stripe k and nothing elsewhere
+pub record AddsOne (k : ℕ) (e : Edit) (before after : Known) : Type 0 where
+  pub by : (at after k).by ≡ (at before k).by
+  pub mine : (at after k).mine ≡ (at before k).mine ++ entry (at before k).by e ∷ []
+  pub others : (i : ℕ) → i < 4 → i ≢ k → at after i ≡ at before i
+
+-- a session has made no edit at stripe k and nothing elsewhere
+pub record AddsNothing (k : ℕ) (before after : Known) : Type 0 where
+  pub by : (at after k).by ≡ (at before k).by
+  pub mine : (at after k).mine ≡ (at before k).mine
+  pub others : (i : ℕ) → i < 4 → i ≢ k → at after i ≡ at before i
 
 -- a session has made n more inserts at stripe k and nothing elsewhere
 pub record Makes (k n : ℕ) (before after : Known) : Type 0 where
@@ -38,12 +53,11 @@ remedy_of stripe (refusal.Absent column group) =
 remedy_of stripe refusal.RegionFull = Some (work.Evacuate stripe)
 remedy_of stripe _ = None
 
--- why a refused edit is not tried again: memory ran out, or no work could help
-abbrev pub stop_after : Refusal → Stop
-stop_after (refusal.Absent column group) = stop.Memory
-stop_after refusal.RegionFull = stop.Memory
-stop_after refusal.NoMemory = stop.Memory
-stop_after _ = stop.Turns
+-- why a session stops after so many tries of an edit, the last of which was refused so: it gives up, or memory ran out
+abbrev pub StopsAfter : ℕ → Refusal → Stop → Type 0
+StopsAfter tries given stop.Memory = is_final given ≡ false
+StopsAfter tries given (stop.Turns gave) = (gave.tries ≡ tries) × (gave.refusal ≡ given)
+StopsAfter tries given (stop.Answers differing) = ⊥
 
 -- a work was done, or was refused for another reason than memory
 abbrev pub IsTried : {K : Type 0} → (K → ℕ) → (K → List ℕ) → (ℕ → StripeState K → Type 0) → ℕ → Work
@@ -51,12 +65,6 @@ abbrev pub IsTried : {K : Type 0} → (K → ℕ) → (K → List ℕ) → (ℕ 
 IsTried number_of content allows columns w = Serves number_of content allows w
     ⊎ ((why : Refusal) × (why ≢ refusal.NoMemory)
     × (columns_for w ≤ columns → stripe_of w < 4 → ServeFails number_of content allows w why))
-
--- this many evictions were tried, the k-th on stripe k mod 4
-abbrev pub AreTried : {K : Type 0} → (K → ℕ) → (K → List ℕ) → (ℕ → StripeState K → Type 0) → ℕ → ℕ
-    → Type 0
-AreTried number_of content allows columns tries = (k : ℕ) → k < tries
-    → IsTried number_of content allows columns (work.Evacuate (k % 4))
 
 -- a session that has made its edits or was stopped
 pub record Ended : Type 0 where
@@ -107,10 +115,11 @@ pub record AreGauged (p : Planned) (n : ℕ) (sessions : List Known)
       → slice_get readings s ≡ Some reading
       → IsGauged p s n me reading
 
--- the readings and the answer after all sessions of a plan have ended. It is not yet known which rows the answer counts
+-- the readings and the answer after all sessions of a plan have ended and as many evictions were tried as each session made inserts. It is not yet known which rows the answer counts
 pub record AreLeft (p : Planned) (n : ℕ) (sessions : List Known) (o : Outcome) : Type 0 where
   pub gauged : AreGauged p n sessions o.gauges.items
   pub answer : IsAnswer p 0 o.answer
+  pub tried : o.evictions.tries ≡ n
 
 -- the answer is one line without a key, with this count and sum
 abbrev pub IsLineOf : ℕ → ℤ → Answer → Type 0

@@ -19,5 +19,4 @@ pub use far_script::{Fallible, Input, ShellFault, Sink, Source};
 pub use first_line::first_command;
 pub use script::{run_input, run_script};
 pub use serving::serve_table;
-pub use sessions::{Outcome, Stop, run_sessions};
-pub use threads::run_threads;
+pub use sessions::{Differing, Evictions, GaveUp, Outcome, Stop, run_sessions};

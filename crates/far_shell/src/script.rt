@@ -141,7 +141,7 @@ pub fn run_input<T: AllocGlobal + Sync + Threads + Wait, R: Source + Drop, W: Si
 
 /// Runs a script: reads its commands and writes the replies, each before the reader is called for more. The objects of its
 /// table go to a store in this process with space for 1,048,576 contents. If the first command asks for sessions, it is the
-/// whole script (`run_threads`), and no line after it is read.
+/// whole script, and no line after it is read.
 ///
 /// A script has at most 16,777,216 bytes, and takes at most 1,048,576 reads. If it ends early, all lines before the fault
 /// are answered, and the replies written unless the writer fails; `run_input` says exactly which. Ends with:

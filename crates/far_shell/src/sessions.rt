@@ -1,10 +1,9 @@
 // Starts a run. Each of these functions picks one type parameter: the plan's, the store's or the cells'.
 ghost use Rattle.std.specs.Prelude.{◌≡◌, ◌≤◌, IfOk};
 ghost use Rattle.far_shared.specs.Opening.{HaveNames};
-ghost use Rattle.far_shell.specs.Runs.{IsOutcome, IsRun};
+ghost use Rattle.far_shell.specs.Runs.{IsOutcome, IsRun, store_capacity};
 ghost use Rattle.far_shell.specs.Working.{HasHomes};
 
-mod clearing;
 mod ending;
 mod evacuating;
 mod inserting;
@@ -12,8 +11,11 @@ mod outcome;
 mod planning;
 mod reading;
 mod running;
+mod tries;
 mod worked;
 
+pub use ending::Differing;
+pub use evacuating::Evictions;
 use far_sessions::PlanTag;
 use far_shared::{Made, Plan, TableTag};
 use far_store::{AgentStore, FarStore};
@@ -24,6 +26,7 @@ use std::alloc::Global;
 use std::marker::Brand;
 use std::sync::Wait;
 use std::thread::Threads;
+pub use tries::GaveUp;
 
 /// How many contents the store of a run can hold.
 const STORE_CAPACITY: u64 = 1_048_576;
@@ -70,6 +73,7 @@ fn made_over<N: PlanTag + Send + Sync, S: FarStore, R: Threads + Wait + Sync>(
 ) -> Result<Outcome, Stop>
     requires name { plan ≡ N.plan }
     requires homes { HasHomes N.plan }
+    requires capacity { S.capacity_of store.now ≡ store_capacity }
     ensures { IfOk result (IsRun N.plan edits) }
 {
     let Ok(made) = plan.make::<N, S>(alloc) else {
@@ -102,14 +106,15 @@ fn planned<N: PlanTag + Send + Sync, R: Threads + Wait + Sync>(
 /// 2. When all have ended, the gauge of each session's home stripe is read, and the gauge is asked over all stripes.
 /// 3. The table is closed.
 ///
-/// Each gauge shows just the rows that its session inserted, and the answer counts the rows of all sessions.
+/// Each gauge shows just the rows that its session inserted, and the answer counts the rows of all sessions. The outcome
+/// also counts what the worker tried and evicted.
 ///
 /// A session whose edit is refused since an object is away fetches that object and tries again. If space is short, it
 /// evicts an object and tries again. Ends with:
 ///
 /// - `Memory`, if a call runs out of memory;
-/// - `Turns`, if an edit was tried 10,000 times or is refused for another reason, or if the closed stripes have another
-///   answer than before.
+/// - `Turns`, if an edit was tried 10,000 times or is refused for another reason;
+/// - `Answers`, if the closed stripes have another answer than before.
 pub fn run_sessions<R: Threads + Wait + Sync>(
     rt: &R,
     alloc: Global,

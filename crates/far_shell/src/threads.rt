@@ -1,7 +1,6 @@
 // Runs sessions on threads and prints their outcome.
 ghost use Rattle.std.specs.Prelude.{◌≡◌, ◌⊎◌, ◌≤◌, ℕ, List, ◌++◌, IfErr, OnOk, OnErr};
-ghost use Rattle.std.specs.Io.KnownBytes.{Appends};
-ghost use Rattle.far_shell.specs.Sessions.{CutOutcome, IsOutcomeText, fault_of, gauges_text, session_line, outcome_text};
+ghost use Rattle.far_shell.specs.Sessions.{IsOutcomeText, fault_of, gauges_text, session_line, outcome_text};
 
 use super::sessions::{Outcome, Stop, run_sessions};
 use far_script::print::{answer, gauge};
@@ -18,7 +17,7 @@ fn fault_of(stop: Stop) -> ShellFault
 {
     match stop {
         Stop::Memory => ShellFault::Memory,
-        Stop::Turns => ShellFault::Turns,
+        Stop::Turns(_) | Stop::Answers(_) => ShellFault::Turns,
     }
 }
 
@@ -47,8 +46,14 @@ fn outcome(page: &mut Page, outcome: &Outcome) -> Result<(), AllocError>
     answer(page, &outcome.answer)
 }
 
-/// Runs sessions over a shared table, and adds their outcome to the output. Ends with `Memory` if a call runs out of
-/// memory, and with `Turns` if sessions give up on an edit; then nothing is added.
+/// Runs the script line `threads SESSIONS EDITS`. The sessions share a table of one column of numbers, each on a thread of
+/// its own if one can be made. Each inserts EDITS rows of the number 1 on its home stripe, while a background worker evicts
+/// objects. When all have ended, adds the gauge of each session's home stripe and the answer over all stripes to the output.
+///
+/// Ends with one of these, and then adds nothing:
+///
+/// - `Memory`, if a call runs out of memory;
+/// - `Turns`, if a session gave up an edit, or the closed stripes have another answer.
 pub fn print_sessions<T: AllocGlobal + Sync + Threads + Wait, W: Sink>(
     rt: &T,
     sessions: u32,
@@ -73,35 +78,4 @@ pub fn print_sessions<T: AllocGlobal + Sync + Threads + Wait, W: Sink>(
         }
         Err(stop) => Err(fault_of(stop)),
     }
-}
-
-/// Runs the script line `threads SESSIONS EDITS`. The sessions share a table of one column of numbers, each on a thread of
-/// its own if one can be made. Each inserts EDITS rows of the number 1 on its home stripe, while a background worker evicts
-/// objects. When all have ended, writes the gauge of each session's home stripe and the answer over all stripes.
-///
-/// Ends with:
-///
-/// - `Memory`, if a call runs out of memory; nothing is written;
-/// - `Turns`, if an edit was tried 10,000 times, or was refused for a reason that a retry cannot change; nothing is
-///   written;
-/// - `Output`, if a write fails, which only writers of a type that may fail do.
-pub fn run_threads<T: AllocGlobal + Sync + Threads + Wait, W: Sink>(
-    rt: &T,
-    sessions: u32,
-    edits: u32,
-    writer: &mut W,
-) -> Result<(), ShellFault>
-    requires sessions { (1 ≤ sessions) × (sessions ≤ 4) }
-    requires edits { (1 ≤ edits) × (edits ≤ 1000) }
-    ensures ok { OnOk result
-        ((text : List ℕ) × IsOutcomeText sessions edits text
-        × Appends (W.contents writer.old) (W.contents writer.new) text) }
-    ensures err { IfErr result
-        (λ fault. (sent : List ℕ) × CutOutcome W.may_fail fault sessions edits sent
-        × Appends (W.contents writer.old) (W.contents writer.new) sent) }
-{
-    let mut output = Output::new(rt.alloc());
-    print_sessions(rt, sessions, edits, &mut output)?;
-    output.flush(writer)?;
-    Ok(())
 }

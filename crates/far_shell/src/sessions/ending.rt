@@ -18,6 +18,14 @@ use far_types::Answer;
 use std::alloc::Global;
 use std::sync::Wait;
 
+/// What an answer of a shared table and the answer of its closed stripes say as one line without a key, which is not the
+/// same. Only a run that compared them can make one.
+#[derive(Clone, Copy, Debug, PartialEq, Eq)]
+pub struct Differing {
+    asked: Option<(u64, i128)>,
+    closed: Option<(u64, i128)>,
+}
+
 /// Drops a value. Generic for the proof: in a function over the tables' own type dropping four of them takes minutes to
 /// prove.
 fn let_go<T: Drop>(_value: T) {}
@@ -111,7 +119,7 @@ fn have_same_line(one: &Answer, other: &Answer) -> bool
 /// Ends with:
 ///
 /// - `Memory`, if a call runs out of memory;
-/// - `Turns`, if the two answers differ.
+/// - `Answers`, if the two answers differ.
 pub(crate) fn end<N: PlanTag, B: TableTag, S: FarTickets, R: Wait>(
     rt: &R,
     alloc: Global,
@@ -127,7 +135,10 @@ pub(crate) fn end<N: PlanTag, B: TableTag, S: FarTickets, R: Wait>(
     let frames = close_all(rt, shared, sessions);
     let closed = answer_closed(alloc, frames)?;
     if !have_same_line(&outcome.answer, &closed) {
-        return Err(Stop::Turns);
+        return Err(Stop::Answers(Differing {
+            asked: only_line(&outcome.answer),
+            closed: only_line(&closed),
+        }));
     }
     Ok(outcome)
 }

@@ -3,17 +3,14 @@ ghost use Rattle.std.specs.Prelude.{◌≡◌, ℕ, ◌<◌, IfErr, IfOk, OnOk};
 ghost use Rattle.far_shell.specs.Runs.{row_of_one};
 ghost use Rattle.far_shell.specs.Working.{Makes};
 
-use super::clearing::clear_way;
 use super::outcome::Stop;
+use super::tries::NextTry;
 use far_sessions::{PlanTag, Session};
 use far_shared::{Shared, TableTag};
 use far_store::FarStore;
 use far_types::{Cell, Edit, Row};
 use std::alloc::Global;
 use std::sync::Wait;
-
-/// The most tries for one edit.
-const MOST_TRIES: u32 = 10_000;
 
 /// Returns the row that each session inserts: the number 1. Ends only with `Memory`.
 fn row_of_one(alloc: Global) -> Result<Row, Stop>
@@ -25,7 +22,7 @@ fn row_of_one(alloc: Global) -> Result<Row, Stop>
     Ok(Row::new(cells))
 }
 
-/// Inserts a row on a stripe, with up to `MOST_TRIES` tries. Does nothing on other stripes.
+/// Inserts a row on a stripe, with up to 10,000 tries. Does nothing on other stripes.
 fn insert_one<N: PlanTag, B: TableTag, S: FarStore, R: Wait>(
     rt: &R,
     alloc: Global,
@@ -38,14 +35,14 @@ fn insert_one<N: PlanTag, B: TableTag, S: FarStore, R: Wait>(
     requires stripe { stripe < 4 }
     ensures ok { OnOk result (Makes stripe 1 me.old me.new) }
 {
-    for turn in 0..MOST_TRIES {
+    let mut next = NextTry::first(stripe);
+    loop {
         let edit = Edit::Insert(row_of_one(alloc)?);
-        match shared.apply(rt, me, stripe, edit) {
-            Ok(_) => return Ok(()),
-            Err(refusal) => clear_way(rt, shared, store, stripe, refusal)?,
+        match next.make(rt, shared, me, edit) {
+            Ok(()) => return Ok(()),
+            Err(refused) => next = refused.clear(rt, shared, store)?,
         }
     }
-    Err(Stop::Turns)
 }
 
 /// Inserts `edits` rows on a stripe. Does nothing on other stripes.

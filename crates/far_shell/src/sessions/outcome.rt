@@ -1,6 +1,9 @@
 // The outcome of a run of sessions.
 ghost use Rattle.std.specs.Prelude.{◌≡◌, ◌≢◌, IfErr, IsErrOf, OnOk};
 
+use super::ending::Differing;
+use super::evacuating::Evictions;
+use super::tries::GaveUp;
 use far_sessions::Reading;
 use far_types::{Answer, Refusal};
 use std::alloc::{AllocError, AllocFailed};
@@ -13,6 +16,8 @@ pub struct Outcome {
     pub gauges: Vec<Reading>,
     /// The answer of the gauge over all stripes: count and sum of all sessions' rows.
     pub answer: Answer,
+    /// How many evictions the background worker tried, and how many objects they evicted.
+    pub evictions: Evictions,
 }
 
 /// Why a run of sessions ended early.
@@ -20,9 +25,10 @@ pub struct Outcome {
 pub enum Stop {
     /// A call ran out of memory.
     Memory,
-    /// An edit was tried 10,000 times, or was refused for a reason that a retry cannot change; or the closed stripes answer
-    /// otherwise than the shared table did, which no run has met and no clause rules out.
-    Turns,
+    /// A session gave up an edit: it was tried 10,000 times, or was refused for a reason that a retry cannot change.
+    Turns(GaveUp),
+    /// The closed stripes answer otherwise than the shared table did, which no run has met and no clause rules out.
+    Answers(Differing),
 }
 
 /// Ends with `Memory` if a call ran out of memory. Drops any other result.
@@ -47,7 +53,8 @@ impl fmt::Display for Stop {
     fn fmt<W: fmt::Write>(&self, f: &mut fmt::Formatter<W>) -> fmt::Result {
         match self {
             Stop::Memory => f.write_str("memory ran out"),
-            Stop::Turns => f.write_str("an edit could not be made"),
+            Stop::Turns(_) => f.write_str("an edit could not be made"),
+            Stop::Answers(_) => f.write_str("the closed stripes have another answer"),
         }
     }
 }

@@ -1,8 +1,9 @@
 // Reads the gauges and the answer after the edits.
-ghost use Rattle.std.specs.Prelude.{IfOk};
+ghost use Rattle.std.specs.Prelude.{◌≡◌, IfOk};
 ghost use Rattle.far_sessions.specs.Known.{newcomers};
 ghost use Rattle.far_shell.specs.Working.{AreGauged, AreLeft, AreWorked, IsRead};
 
+use super::evacuating::Evictions;
 use super::outcome::{Outcome, Stop};
 use super::worked::{Worked, home_of};
 use far_sessions::{Cells, PlanTag, Reading, Session};
@@ -49,20 +50,29 @@ fn read_gauges<N: PlanTag, B: TableTag, R: Wait>(
     Ok((sessions, readings))
 }
 
-/// Reads all gauges and the answer over all stripes. If a session was stopped, returns why.
+/// Reads all gauges and the answer over all stripes, and adds what the worker did. If a session was stopped, returns why.
 pub(crate) fn read_all<N: PlanTag, B: TableTag, S: FarStore, R: Wait>(
     rt: &R,
     alloc: Global,
     shared: &Shared<N, B, S>,
+    evictions: Evictions,
     worked: Vec<Worked<B>>,
     edits: u32,
 ) -> Result<(Vec<Session<B>>, Outcome), Stop>
-    requires { AreWorked edits (newcomers N.plan.sessions) worked.items }
+    requires worked { AreWorked edits (newcomers N.plan.sessions) worked.items }
+    requires tried { evictions.tries ≡ edits }
     ensures { IfOk result (λ left. AreLeft N.plan edits left.0.items left.1) }
 {
     let (sessions, gauges) = read_gauges(rt, alloc, shared.cells(), worked, edits)?;
     match shared.ask_all(rt, 0) {
-        Ok(answer) => Ok((sessions, Outcome { gauges, answer })),
+        Ok(answer) => Ok((
+            sessions,
+            Outcome {
+                gauges,
+                answer,
+                evictions,
+            },
+        )),
         Err(_) => Err(Stop::Memory),
     }
 }

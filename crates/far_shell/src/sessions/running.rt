@@ -1,11 +1,11 @@
 // Runs sessions on threads beside a background worker.
-ghost use Rattle.std.specs.Prelude.{◌≡◌, ◌⊎◌, IfErr, IfOk, IsErrOf, IsOk, OnOk};
+ghost use Rattle.std.specs.Prelude.{◌≡◌, ◌⊎◌, IfErr, IfOk, IsErrOf, IsOk, IsOkAnd};
 ghost use Rattle.far_sessions.specs.Known.{newcomers};
 ghost use Rattle.far_shell.specs.Runs.{IsRun};
 ghost use Rattle.far_shell.specs.Working.{AreLeft, AreWorked, HasHomes, IsWorked};
 
 use super::ending::end;
-use super::evacuating::evacuate_all;
+use super::evacuating::{Evictions, evacuate_all};
 use super::inserting::insert_all;
 use super::outcome::{Outcome, Stop};
 use super::reading::read_all;
@@ -62,18 +62,22 @@ fn work_all<
     Ok(worked)
 }
 
-/// Returns the second result, unless the first is an error, which is then returned.
-fn unless_stopped<T: Drop>(first: Result<(), Stop>, second: Result<T, Stop>) -> Result<T, Stop>
-    ensures second { OnOk result (result ≡ second) }
-    ensures first { OnOk result (IsOk first) }
+/// Returns both values, or the first error.
+fn both_or_stop<A: Drop, T: Drop>(
+    first: Result<A, Stop>,
+    second: Result<T, Stop>,
+) -> Result<(A, T), Stop>
+    ensures first { IfOk result (λ both. IsOkAnd first (λ x. x ≡ both.0)) }
+    ensures second { IfOk result (λ both. IsOkAnd second (λ x. x ≡ both.1)) }
     ensures stopped { IfErr result
         (λ stop. IsErrOf first stop ⊎ (IsOk first × IsErrOf second stop)) }
 {
-    first?;
-    second
+    let one = first?;
+    let other = second?;
+    Ok((one, other))
 }
 
-/// Makes the edits of all sessions while a background worker evicts objects.
+/// Makes the edits of all sessions while a background worker tries to evict `edits` objects.
 fn work_beside<
     N: PlanTag + Send + Sync,
     B: TableTag + Send + Sync,
@@ -86,22 +90,24 @@ fn work_beside<
     store: &S,
     sessions: Vec<Session<B>>,
     edits: u32,
-) -> Result<Vec<Worked<B>>, Stop>
+) -> Result<(Evictions, Vec<Worked<B>>), Stop>
     requires store { S.store_id store.now ≡ B.store }
-    ensures worked { IfOk result (λ worked. AreWorked edits sessions.items worked.items) }
+    ensures worked { IfOk result (λ both. AreWorked edits sessions.items both.1.items) }
+    ensures tried { IfOk result (λ both. both.0.tries ≡ edits) }
 {
     // Only the first closure goes to another thread, and it holds only references.
-    let (evacuated, worked) = thread::join(
+    let (evictions, worked) = thread::join(
         rt,
-        || -> Result<(), Stop>
+        || -> Result<Evictions, Stop>
             requires { S.store_id store.now ≡ B.store }
+            ensures { IfOk result (λ evictions. evictions.tries ≡ edits) }
         { evacuate_all(rt, shared, store, edits) },
         || -> Result<Vec<Worked<B>>, Stop>
             requires { S.store_id store.now ≡ B.store }
             ensures { IfOk result (λ worked. AreWorked edits sessions.items worked.items) }
         { work_all(rt, alloc, shared, store, sessions, edits) },
     );
-    unless_stopped(evacuated, worked)
+    both_or_stop(evictions, worked)
 }
 
 /// Makes the edits of all sessions while a background worker evicts objects, and then reads the gauges and the answer.
@@ -123,8 +129,8 @@ fn leave<
     requires sessions { sessions.items ≡ newcomers N.plan.sessions }
     ensures { IfOk result (λ left. AreLeft N.plan edits left.0.items left.1) }
 {
-    let worked = work_beside(rt, alloc, shared, store, sessions, edits)?;
-    read_all(rt, alloc, shared, worked, edits)
+    let (evictions, worked) = work_beside(rt, alloc, shared, store, sessions, edits)?;
+    read_all(rt, alloc, shared, evictions, worked, edits)
 }
 
 /// Runs sessions on a table, reads the outcome, and closes the table.
