@@ -11,6 +11,7 @@ pub mod Opening
 pub mod ColumnIndexesOpening
 pub mod OpeningRows
 pub mod NamingLaws
+pub mod RowsObjects
 pub mod NamingCreation
 pub mod NamingNumbers
 pub mod NamingTexts
@@ -19,6 +20,7 @@ pub mod NamingNumberOwners
 pub mod NamingTextOwners
 pub mod NamingObjects
 pub mod EffectsVersions
+pub mod PushedRows
 pub mod MovingPins
 pub mod JobsBeginning
 pub mod Places

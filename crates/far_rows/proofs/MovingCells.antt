@@ -1,19 +1,17 @@
 -- Rows after their objects moved: each object keeps its list, so the rows keep their cells.
-use Rattle.std.proofs.Common.{◌≡◌, ℕ, List, [], ◌∷◌, map, get_or, Option, refl, sym, ap, subst, ◌∙◌}
+use Rattle.std.proofs.Common.{◌≡◌, ℕ, List, [], ◌∷◌, map, Option, refl, sym, ap, subst, ◌∙◌}
 use Rattle.std.specs.Prelude.{ℤ}
-use Rattle.far_types.specs.declared.name.Name.{Name}
 use Rattle.far_codec.specs.Reading.{ints_meaning}
 use Rattle.far_scopes.specs.Movement.{Movement, AreClean, AreHere}
 use Rattle.far_columns.proofs.VectorsLaws.{vectors-stay, elements-stay}
-use Rattle.far_columns.specs.Vector.{Vector}
-use Rattle.far_texts.specs.Texts.{Texts, lists_of, texts_in}
+use Rattle.far_texts.specs.Texts.{lists_of, texts_in}
 use Rattle.far_columns.specs.Numbers.{number_lists, numbers_in}
 use Rattle.far_texts.proofs.ColumnsLaws.{columns-stay, texts-stay}
 use Rattle.far_rows.specs.ColumnIndexes.{columns_of}
-use Rattle.far_rows.specs.Naming.{names_of, AreNamed, AreOwned}
+use Rattle.far_rows.specs.Naming.{names_of}
 use Rattle.far_rows.specs.Rows.{Rows, AreRows, all_cells, all_numbers, all_texts}
 use Rattle.far_rows.specs.Moving.{KeepsCells}
-use Rattle.far_rows.proofs.NamingLaws.{as-many}
+use Rattle.far_rows.proofs.RowsObjects.{rows-kept}
 
 module _ {A B : Type 0} where
   pub same-map : (f g : A → B) → ((x : A) → f x ≡ g x) → (xs : List A) → map f xs ≡ map g xs
@@ -22,62 +20,14 @@ module _ {A B : Type 0} where
 
 module _ {K : Type 0} (content : K → List ℕ) {r : Rows K} where
   pub numbers-moved : AreRows content r → (m : Movement (Option ℤ) K) → ((o : ℕ) → number_lists content m o ≡ number_lists content r.number_objects o) → names_of m ≡ names_of r.number_objects → AreClean ints_meaning content m → AreRows content (record r { number_objects = m })
-  numbers-moved are m lists names clean = record {
-    column_indexes = are.column_indexes;
-    few = are.few;
-    some = are.some;
-    small = are.small;
-    places = are.places;
-    numbers = record {
-      all_disjoint = vectors-stay (number_lists content r.number_objects) (number_lists content m) r.numbers are.numbers.all_disjoint lists;
-      same_length = are.numbers.same_length;
-    };
-    texts = are.texts;
-    shaped = are.shaped;
-    grouped = are.grouped;
-    same_length_numbers = are.same_length_numbers;
-    same_length_texts = are.same_length_texts;
-    number_objects = λ k c within. as-many r.number_objects m names ∙ are.number_objects k c within;
-    text_objects = are.text_objects;
-    numbered = are.numbered;
-    placed_numbers = are.placed_numbers;
-    placed_texts = are.placed_texts;
-    number_names = λ k c within. subst (λ (ns : List Name). AreNamed ns (get_or r.numbers k c).column (get_or r.numbers k c).objects) (sym names) (are.number_names k c within);
-    text_names = are.text_names;
-    owned_numbers = subst (λ (ns : List Name). AreOwned (λ (v : Vector (Option ℤ)). v.column) (λ v. v.objects) ns r.numbers) (sym names) are.owned_numbers;
-    owned_texts = are.owned_texts;
-    clean_numbers = clean;
-    clean_texts = are.clean_texts;
-  }
+  numbers-moved are m lists names clean = rows-kept content content r m r.text_objects are
+      names record { all_disjoint = vectors-stay (number_lists content r.number_objects) (number_lists content m) r.numbers are.numbers.all_disjoint lists; same_length = are.numbers.same_length } clean
+      refl are.texts are.clean_texts
 
   pub texts-moved : AreRows content r → (m : Movement ℕ K) → ((o : ℕ) → lists_of content m o ≡ lists_of content r.text_objects o) → names_of m ≡ names_of r.text_objects → AreClean (λ bytes. bytes) content m → AreRows content (record r { text_objects = m })
-  texts-moved are m lists names clean = record {
-    column_indexes = are.column_indexes;
-    few = are.few;
-    some = are.some;
-    small = are.small;
-    places = are.places;
-    numbers = are.numbers;
-    texts = record {
-      all_disjoint = columns-stay (lists_of content r.text_objects) (lists_of content m) r.texts are.texts.all_disjoint lists;
-      same_length = are.texts.same_length;
-    };
-    shaped = are.shaped;
-    grouped = are.grouped;
-    same_length_numbers = are.same_length_numbers;
-    same_length_texts = are.same_length_texts;
-    number_objects = are.number_objects;
-    text_objects = λ k c within. as-many r.text_objects m names ∙ are.text_objects k c within;
-    numbered = are.numbered;
-    placed_numbers = are.placed_numbers;
-    placed_texts = are.placed_texts;
-    number_names = are.number_names;
-    text_names = λ k c within. subst (λ (ns : List Name). AreNamed ns (get_or r.texts k c).column (get_or r.texts k c).objects) (sym names) (are.text_names k c within);
-    owned_numbers = are.owned_numbers;
-    owned_texts = subst (λ (ns : List Name). AreOwned (λ (v : Texts). v.column) (λ v. v.objects) ns r.texts) (sym names) are.owned_texts;
-    clean_numbers = are.clean_numbers;
-    clean_texts = clean;
-  }
+  texts-moved are m lists names clean = rows-kept content content r r.number_objects m are
+      refl are.numbers are.clean_numbers
+      names record { all_disjoint = columns-stay (lists_of content r.text_objects) (lists_of content m) r.texts are.texts.all_disjoint lists; same_length = are.texts.same_length } clean
 
   module _ {now : Rows K} (is : r ≡ now) where
     pub number-cells : (m : Movement (Option ℤ) K) → ((o : ℕ) → number_lists content m o ≡ number_lists content r.number_objects o) → all_cells content (record r { number_objects = m }) ≡ all_cells content now

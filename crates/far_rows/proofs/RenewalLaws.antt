@@ -1,5 +1,5 @@
 -- Rows after their objects got tickets of another store: each object keeps its list and its name.
-use Rattle.std.proofs.Common.{◌≡◌, ℕ, List, [], ◌∷◌, map, length, get_or, Option, refl, sym, ap, subst, ◌∙◌, arith}
+use Rattle.std.proofs.Common.{◌≡◌, ℕ, List, [], ◌∷◌, map, length, Option, refl, ap, subst, arith}
 use Rattle.std.specs.Prelude.{ℤ}
 use Rattle.std.specs.List.{zip}
 use Rattle.far_types.specs.declared.name.Name.{Name}
@@ -8,16 +8,15 @@ use Rattle.far_scopes.specs.declared.object_record.ObjectRecord.{ObjectRecord}
 use Rattle.far_scopes.specs.Movement.{Movement, AreClean}
 use Rattle.far_scopes.specs.Renewal.{Renews, renewed_record, after_renew}
 use Rattle.far_columns.proofs.VectorsLaws.{vectors-stay, elements-stay}
-use Rattle.far_columns.specs.Vector.{Vector}
-use Rattle.far_texts.specs.Texts.{Texts, lists_of, texts_in}
+use Rattle.far_texts.specs.Texts.{lists_of, texts_in}
 use Rattle.far_columns.specs.Numbers.{number_lists, numbers_in}
 use Rattle.far_texts.proofs.ColumnsLaws.{columns-stay, texts-stay}
 use Rattle.far_rows.specs.ColumnIndexes.{columns_of}
-use Rattle.far_rows.specs.Naming.{names_of, AreNamed, AreOwned}
+use Rattle.far_rows.specs.Naming.{names_of}
 use Rattle.far_rows.specs.Renewal.{RenewsRows}
 use Rattle.far_rows.specs.Rows.{Rows, AreRows, all_cells}
 use Rattle.far_rows.proofs.MovingCells.{same-map}
-use Rattle.far_rows.proofs.NamingLaws.{as-many}
+use Rattle.far_rows.proofs.RowsObjects.{rows-kept}
 
 module _ {K L : Type 0} where
   records-named : (records : List (ObjectRecord K)) (tickets : List (Option L)) → length tickets ≡ length records → map (λ e. e.name) (map (λ (e : ObjectRecord K × Option L). renewed_record e.0 e.1) (zip records tickets)) ≡ map (λ e. e.name) records
@@ -38,36 +37,9 @@ module _ {K L : Type 0} where
   module _ (content : K → List ℕ) (new_content : L → List ℕ) (r : Rows K) (number_objects : Movement (Option ℤ) L) (text_objects : Movement ℕ L) (number_same : (o : ℕ) → number_lists new_content number_objects o ≡ number_lists content r.number_objects o) (text_same : (o : ℕ) → lists_of new_content text_objects o ≡ lists_of content r.text_objects o) where
     pub rows-renewed : AreRows content r → names_of number_objects ≡ names_of r.number_objects → AreClean ints_meaning new_content number_objects → names_of text_objects ≡ names_of r.text_objects → AreClean (λ bytes. bytes) new_content text_objects
         → AreRows new_content record { column_indexes = r.column_indexes; size = r.size; numbers = r.numbers; texts = r.texts; number_objects = number_objects; text_objects = text_objects; alive = r.alive }
-    rows-renewed are number_names number_clean text_names text_clean = record {
-      column_indexes = are.column_indexes;
-      few = are.few;
-      some = are.some;
-      small = are.small;
-      places = are.places;
-      numbers = record {
-        all_disjoint = vectors-stay (number_lists content r.number_objects) (number_lists new_content number_objects) r.numbers are.numbers.all_disjoint number_same;
-        same_length = are.numbers.same_length;
-      };
-      texts = record {
-        all_disjoint = columns-stay (lists_of content r.text_objects) (lists_of new_content text_objects) r.texts are.texts.all_disjoint text_same;
-        same_length = are.texts.same_length;
-      };
-      shaped = are.shaped;
-      grouped = are.grouped;
-      same_length_numbers = are.same_length_numbers;
-      same_length_texts = are.same_length_texts;
-      number_objects = λ k c within. as-many r.number_objects number_objects number_names ∙ are.number_objects k c within;
-      text_objects = λ k c within. as-many r.text_objects text_objects text_names ∙ are.text_objects k c within;
-      numbered = are.numbered;
-      placed_numbers = are.placed_numbers;
-      placed_texts = are.placed_texts;
-      number_names = λ k c within. subst (λ (ns : List Name). AreNamed ns (get_or r.numbers k c).column (get_or r.numbers k c).objects) (sym number_names) (are.number_names k c within);
-      text_names = λ k c within. subst (λ (ns : List Name). AreNamed ns (get_or r.texts k c).column (get_or r.texts k c).objects) (sym text_names) (are.text_names k c within);
-      owned_numbers = subst (λ (ns : List Name). AreOwned (λ (v : Vector (Option ℤ)). v.column) (λ v. v.objects) ns r.numbers) (sym number_names) are.owned_numbers;
-      owned_texts = subst (λ (ns : List Name). AreOwned (λ (v : Texts). v.column) (λ v. v.objects) ns r.texts) (sym text_names) are.owned_texts;
-      clean_numbers = number_clean;
-      clean_texts = text_clean;
-    }
+    rows-renewed are number_names number_clean text_names text_clean = rows-kept content new_content r number_objects text_objects are
+        number_names record { all_disjoint = vectors-stay (number_lists content r.number_objects) (number_lists new_content number_objects) r.numbers are.numbers.all_disjoint number_same; same_length = are.numbers.same_length } number_clean
+        text_names record { all_disjoint = columns-stay (lists_of content r.text_objects) (lists_of new_content text_objects) r.texts are.texts.all_disjoint text_same; same_length = are.texts.same_length } text_clean
 
     pub renewed-cells : all_cells new_content record { column_indexes = r.column_indexes; size = r.size; numbers = r.numbers; texts = r.texts; number_objects = number_objects; text_objects = text_objects; alive = r.alive } ≡ all_cells content r
     renewed-cells =

@@ -1,5 +1,5 @@
-use Rattle.std.proofs.Common.{◌≡◌, ◌*◌, ◌/◌, ◌+◌, ◌<◌, ◌≤◌, [], ◌∷◌, length, map, get_or, Option, None, Some, sym, ap, subst, ◌∙◌}
-use Rattle.std.specs.Prelude.{ℤ, All, option_map, slice_get, slice_set}
+use Rattle.std.proofs.Common.{◌≡◌, ◌/◌, ◌+◌, ◌<◌, ◌≤◌, [], ◌∷◌, length, map, get_or, Option, None, Some, refl, sym, ap, subst, ◌∙◌}
+use Rattle.std.specs.Prelude.{ℤ, option_map, slice_get, slice_set}
 use Rattle.std.specs.Option.{option_map_or}
 use Rattle.std.proofs.lemmas.Option.{slice_get-get_or, slice_get-map, get_or_from_slice_get}
 use Rattle.far_scopes.specs.Movement.{Movement, AreHere, version_of}
@@ -10,10 +10,11 @@ use Rattle.far_columns.specs.Numbers.{number_lists, numbers_in}
 use Rattle.far_columns.specs.NumbersTogether.{NumberColumns}
 use Rattle.far_rows.specs.declared.column_index.ColumnIndex.TheVariants as column_index
 use Rattle.far_rows.specs.declared.new_cell.NewCell.TheVariants as new
-use Rattle.far_rows.specs.Naming.{names_of, AreNamed, AreOwned}
+use Rattle.far_rows.specs.Naming.{names_of}
 use Rattle.far_rows.specs.Rows.{Rows, all_numbers}
 use Rattle.far_rows.specs.Setting.{set_in}
-use Rattle.far_rows.proofs.NamingLaws.{as-many, names-after_write}
+use Rattle.far_rows.proofs.NamingLaws.{names-after_write}
+use Rattle.far_rows.proofs.RowsObjects.{rows-kept, number-column-at}
 use Rattle.far_rows.proofs.EffectsVersions.{after_write-once}
 use Rattle.far_rows.proofs.SettingColumns.{numbers-still, numbers-set}
 use Rattle.far_rows.proofs.RefusingNumbers.{size-same, free-column, place-of}
@@ -45,39 +46,15 @@ set_in_group-requires-clause-free g c κs bounds =
 pub invariant_of-self : goal.invariant_of-self
 invariant_of-self g c =
     let content = g.S.FarTickets.content in
-    let columns : NumberColumns = c.self.inside.numbers.items in
     let v : Vector (Option ℤ) = c.index.result.now in
     let m = c.self.inside.number_objects in
     let now = c.set_in_group.new.objects in
     let inv = c.self.invariant in
     let done = c.set_in_group.ensures in
-    let within = subst (λ r. c.args.i < length r.numbers) (sym c.self.view_is) c.requires.within in
-    let at : slice_get columns c.args.i ≡ Some v = slice_get-get_or columns c.args.i v within ∙ ap Some (sym c.index.ensures) in
+    let at = number-column-at c.self.view_is c.args.i c.requires.within c.index.ensures in
     let names : names_of now ≡ names_of m = ap names_of done.written ∙ names-after_write m (object_at v c.args.place) in
-    record {
-      column_indexes = inv.column_indexes;
-      few = inv.few;
-      some = inv.some;
-      small = inv.small;
-      places = inv.places;
-      numbers = numbers-still (number_lists content m) (number_lists content now) columns inv.numbers c.args.i v at done.changes.is done.changes.others;
-      texts = inv.texts;
-      shaped = inv.shaped;
-      grouped = inv.grouped;
-      same_length_numbers = inv.same_length_numbers;
-      same_length_texts = inv.same_length_texts;
-      number_objects = subst (λ n. All (λ (w : Vector (Option ℤ)). n ≡ length columns * length w.objects) columns) (sym (as-many m now names)) inv.number_objects;
-      text_objects = inv.text_objects;
-      numbered = inv.numbered;
-      placed_numbers = inv.placed_numbers;
-      placed_texts = inv.placed_texts;
-      number_names = subst (λ ns. All (λ (w : Vector (Option ℤ)). AreNamed ns w.column w.objects) columns) (sym names) inv.number_names;
-      text_names = inv.text_names;
-      owned_numbers = subst (λ ns. AreOwned (λ (w : Vector (Option ℤ)). w.column) (λ w. w.objects) ns columns) (sym names) inv.owned_numbers;
-      owned_texts = inv.owned_texts;
-      clean_numbers = done.keeps.copies.clean inv.clean_numbers;
-      clean_texts = inv.clean_texts;
-    }
+    let numbers = numbers-still (number_lists content m) (number_lists content now) c.self.inside.numbers.items inv.numbers c.args.i v at done.changes.is done.changes.others in
+    rows-kept content content _ now c.self.inside.text_objects inv names numbers (done.keeps.copies.clean inv.clean_numbers) refl inv.texts inv.clean_texts
 
 pub returns-clause-moved : goal.returns-clause-moved
 returns-clause-moved g c =
@@ -86,8 +63,7 @@ returns-clause-moved g c =
     let m = c.self.inside.number_objects in
     let place = c.args.place in
     let done = c.set_in_group.ensures in
-    let within = subst (λ r. c.args.i < length r.numbers) (sym c.self.view_is) c.requires.within in
-    let at : slice_get columns c.args.i ≡ Some v = slice_get-get_or columns c.args.i v within ∙ ap Some (sym c.index.ensures) in
+    let at = number-column-at c.self.view_is c.args.i c.requires.within c.index.ensures in
     let put : Vector (Option ℤ) → Movement (Option ℤ) g.row.S-Ticket.Denot = λ w. after_write_range m w place (c.args.number ∷ []) in
     let written : c.set_in_group.new.objects ≡ option_map_or put (slice_get columns c.args.i) m = done.written ∙ sym (ap (λ o. option_map_or put o m) at) in
     (λ j. record {
@@ -113,8 +89,7 @@ returns-clause-numbers g c =
     let i = c.args.i in
     let inv = c.self.invariant in
     let done = c.set_in_group.ensures in
-    let within = subst (λ r. i < length r.numbers) (sym c.self.view_is) c.requires.within in
-    let at : slice_get columns i ≡ Some v = slice_get-get_or columns i v within ∙ ap Some (sym c.index.ensures) in
+    let at = number-column-at c.self.view_is i c.requires.within c.index.ensures in
     let was = map (numbers_in content m) columns in
     let here : numbers_in content m v ≡ get_or was i [] = sym (get_or_from_slice_get was i (numbers_in content m v) [] (slice_get-map (numbers_in content m) columns i ∙ ap (option_map (numbers_in content m)) at)) in
     let own : numbers_in content now v ≡ slice_set (get_or was i []) place number = done.elements ∙ ap (λ l. slice_set l place number) here in

@@ -1,5 +1,5 @@
-use Rattle.std.proofs.Common.{◌≡◌, ℕ, ◌*◌, ◌+◌, ◌<◌, ◌≤◌, arith, List, [], length, map, get_or, Option, None, Some, sym, ap, subst, ◌∙◌}
-use Rattle.std.specs.Prelude.{All, option_map, slice_get, slice_set}
+use Rattle.std.proofs.Common.{◌≡◌, ℕ, ◌+◌, ◌<◌, ◌≤◌, arith, List, [], length, map, get_or, Option, None, refl, sym, ap, subst, ◌∙◌}
+use Rattle.std.specs.Prelude.{option_map, slice_get, slice_set}
 use Rattle.std.specs.Option.{option_map_or, option_and_then}
 use Rattle.std.proofs.lemmas.Option.{slice_get-get_or, slice_get-map, get_or_from_slice_get}
 use Rattle.far_types.specs.declared.refusal.Refusal.{Refusal}
@@ -12,10 +12,11 @@ use Rattle.far_texts.proofs.EffectsSet.{set-below}
 use Rattle.far_scopes.proofs.Outcomes.{by-outcome, on-ok}
 use Rattle.far_rows.specs.declared.column_index.ColumnIndex.TheVariants as column_index
 use Rattle.far_rows.specs.declared.new_cell.NewCell.TheVariants as new
-use Rattle.far_rows.specs.Naming.{names_of, AreNamed, AreOwned}
+use Rattle.far_rows.specs.Naming.{names_of}
 use Rattle.far_rows.specs.Rows.{all_texts}
 use Rattle.far_rows.specs.Setting.{set_in}
-use Rattle.far_rows.proofs.NamingLaws.{as-many, names-after_replace, still-named}
+use Rattle.far_rows.proofs.NamingLaws.{names-after_replace, still-named}
+use Rattle.far_rows.proofs.RowsObjects.{rows-kept, text-column-at}
 use Rattle.far_rows.proofs.EffectsVersions.{replaced-version}
 use Rattle.far_rows.proofs.SettingColumns.{texts-still, texts-set}
 use Rattle.far_rows.proofs.rows.Rows.set_text.Goals as goal
@@ -33,8 +34,7 @@ set_accepted-requires-clause-free g c κs within =
     let v : Texts = c.index.result.now in
     let m = c.self.inside.text_objects in
     let text = c.args.text.now in
-    let below = subst (λ r. c.args.i < length r.texts) (sym c.self.view_is) c.requires.within in
-    let at : slice_get columns c.args.i ≡ Some v = slice_get-get_or columns c.args.i v below ∙ ap Some (sym c.index.ensures) in
+    let at = text-column-at c.self.view_is c.args.i c.requires.within c.index.ensures in
     let due : Texts → Option Refusal = λ w. set_refusal content m w c.args.place text in
     sym (ap (option_and_then due) at)
     ∙ ap (λ r. option_and_then (λ w. set_refusal content r.text_objects w c.args.place text) (slice_get r.texts c.args.i)) c.self.view_is
@@ -59,39 +59,16 @@ overflow_cast-place g c =
 pub invariant_of-self : goal.invariant_of-self
 invariant_of-self g c =
     let content = g.S.FarTickets.content in
-    let columns : List Texts = c.self.inside.texts.items in
     let v : Texts = c.index.result.now in
     let m = c.self.inside.text_objects in
     let now = c.set_accepted.new.objects in
     let inv = c.self.invariant in
-    let within = subst (λ r. c.args.i < length r.texts) (sym c.self.view_is) c.requires.within in
-    let at : slice_get columns c.args.i ≡ Some v = slice_get-get_or columns c.args.i v within ∙ ap Some (sym c.index.ensures) in
+    let done = c.set_accepted.ensures in
+    let at = text-column-at c.self.view_is c.args.i c.requires.within c.index.ensures in
     let form : List ℕ = texts_form (group_with (lists_of content m) v c.args.place c.args.text.now) in
-    let names : names_of now ≡ names_of m = still-named m now (text_set_in content m v c.args.place c.args.text.now) c.set_accepted.result (on-ok c.set_accepted.result c.set_accepted.ensures.set (λ set. set.moved)) c.set_accepted.ensures.err (names-after_replace m (object_at v c.args.place) form) in
-    record {
-      column_indexes = inv.column_indexes;
-      few = inv.few;
-      some = inv.some;
-      small = inv.small;
-      places = inv.places;
-      numbers = inv.numbers;
-      texts = texts-still (lists_of content m) (lists_of content now) columns inv.texts c.args.i v at c.set_accepted.ensures.changes.is c.set_accepted.ensures.changes.others;
-      shaped = inv.shaped;
-      grouped = inv.grouped;
-      same_length_numbers = inv.same_length_numbers;
-      same_length_texts = inv.same_length_texts;
-      number_objects = inv.number_objects;
-      text_objects = subst (λ n. All (λ (w : Texts). n ≡ length columns * length w.objects) columns) (sym (as-many m now names)) inv.text_objects;
-      numbered = inv.numbered;
-      placed_numbers = inv.placed_numbers;
-      placed_texts = inv.placed_texts;
-      number_names = inv.number_names;
-      text_names = subst (λ ns. All (λ (w : Texts). AreNamed ns w.column w.objects) columns) (sym names) inv.text_names;
-      owned_numbers = inv.owned_numbers;
-      owned_texts = subst (λ ns. AreOwned (λ (w : Texts). w.column) (λ w. w.objects) ns columns) (sym names) inv.owned_texts;
-      clean_numbers = inv.clean_numbers;
-      clean_texts = c.set_accepted.ensures.copies.clean inv.clean_texts;
-    }
+    let names : names_of now ≡ names_of m = still-named m now (text_set_in content m v c.args.place c.args.text.now) c.set_accepted.result (on-ok c.set_accepted.result done.set (λ set. set.moved)) done.err (names-after_replace m (object_at v c.args.place) form) in
+    let texts = texts-still (lists_of content m) (lists_of content now) c.self.inside.texts.items inv.texts c.args.i v at done.changes.is done.changes.others in
+    rows-kept content content _ c.self.inside.number_objects now inv refl inv.numbers inv.clean_numbers names texts (done.copies.clean inv.clean_texts)
 
 pub returns-clause-moved : goal.returns-clause-moved
 returns-clause-moved g c =
@@ -99,8 +76,7 @@ returns-clause-moved g c =
     let columns : List Texts = c.self.inside.texts.items in
     let v : Texts = c.index.result.now in
     let m = c.self.inside.text_objects in
-    let within = subst (λ r. c.args.i < length r.texts) (sym c.self.view_is) c.requires.within in
-    let at : slice_get columns c.args.i ≡ Some v = slice_get-get_or columns c.args.i v within ∙ ap Some (sym c.index.ensures) in
+    let at = text-column-at c.self.view_is c.args.i c.requires.within c.index.ensures in
     let put : Texts → Movement ℕ g.row.S-Ticket.Denot = λ w. text_set_in content m w c.args.place c.args.text.now in
     on-ok c.set_accepted.result c.set_accepted.ensures.set (λ set.
     let written : c.set_accepted.new.objects ≡ option_map_or put (slice_get columns c.args.i) m = set.moved ∙ sym (ap (λ o. option_map_or put o m) at) in
@@ -126,8 +102,7 @@ returns-clause-texts g c =
     let new_lists : Lists = lists_of content now in
     let i = c.args.i in
     let text = c.args.text.now in
-    let within = subst (λ r. i < length r.texts) (sym c.self.view_is) c.requires.within in
-    let at : slice_get columns i ≡ Some v = slice_get-get_or columns i v within ∙ ap Some (sym c.index.ensures) in
+    let at = text-column-at c.self.view_is i c.requires.within c.index.ensures in
     let was = map (texts_in old_lists) columns in
     let here : texts_in old_lists v ≡ get_or was i [] = sym (get_or_from_slice_get was i (texts_in old_lists v) [] (slice_get-map (texts_in old_lists) columns i ∙ ap (option_map (texts_in old_lists)) at)) in
     on-ok c.set_accepted.result c.set_accepted.ensures.set (λ set.
