@@ -35,7 +35,7 @@ returns-in-Ok-set g c =
     let fresh = up-to-date c.requires.may c.limits.ensures.same c.limits.ensures.bounds c.len-len.ensures.few c.len-len.ensures.fit in
     let made = made-with t new c.args.place c.args.column (cell_of c.args.value.now) (cell.Int to) (ap cell_of c.requires.number) done.put.made in
     let kept = keeps-after t new (edit.Set c.args.place c.args.column (cell.Int to)) c.limits.result.now c.replace.new.self c.limits.ensures.same made
-        (subst (λ (registry : List RegistryEntry). Keeps c.limits.result.now.group (places_after (edit.Set c.args.place c.args.column (cell.Int to)) t.places) registry) (sym (simp (to_z-of_z, c.ranges.to) at c.replace.ensures.replaced)) ((c.in_ok-pending.ensures.replaces t.places (c.in-Ok.row, refl, row) fresh).kept to)) in
+    (subst (λ (registry : List RegistryEntry). Keeps c.limits.result.now.group (places_after (edit.Set c.args.place c.args.column (cell.Int to)) t.places) registry) (sym (simp (to_z-of_z, c.ranges.to) at c.replace.ensures.replaced)) ((c.in_ok-pending.ensures.replaces t.places (c.in-Ok.row, refl, row) fresh).kept to)) in
     cell-changed c.requires.may done.put kept (c.replace.ensures.registered ∙ ap registered_of c.in_ok-pending.ensures.same) done.kept
 
 no_refusal : (r : Refusal) → Some r ≡ None → ⊥
