@@ -1,5 +1,5 @@
 -- Changes of objects that keep their pins, and keep pinned local objects local.
-use Rattle.std.proofs.Common.{◌≡◌, ◌≢◌, ℕ, zero, suc, ◌+◌, ◌-◌, ◌==◌, Bool, true, false, if◌then◌else◌, List, [], ◌∷◌, ◌++◌, map, length, ℤ, Option, None, Some, refl, sym, ap, subst, ◌∙◌, arith}
+use Rattle.std.proofs.Common.{◌≡◌, ◌≢◌, ℕ, zero, suc, ◌+◌, ◌-◌, ◌==◌, Bool, true, false, if◌then◌else◌, List, [], ◌∷◌, ◌++◌, map, length, Option, None, Some, refl, sym, ap, subst, ◌∙◌, arith}
 use Rattle.std.specs.Prelude.{is_some, slice_get, slice_set}
 use Rattle.std.specs.Option.{option_map_or, option_and_then}
 use Rattle.far_types.specs.declared.name.Name.{Name}
@@ -7,21 +7,15 @@ use Rattle.far_pointer.specs.declared.pointer.At.{At}
 use Rattle.far_pointer.specs.declared.pointer.Pointer.{Pointer}
 use Rattle.far_pointer.specs.declared.pointer.Pointer.TheVariants.{Local, Remote}
 use Rattle.far_pointer.specs.Layout.{with_dirty, with_hot, with_at}
-use Rattle.far_log.specs.RegionState.{RegionState, Part, segment_of}
+use Rattle.far_log.specs.RegionState.{RegionState, Part}
 use Rattle.far_scopes.specs.declared.object_record.ObjectRecord.{ObjectRecord}
 use Rattle.far_scopes.specs.declared.replacement.Replacement.{Replacement}
-use Rattle.far_scopes.specs.Memory.{Memory, at_of}
+use Rattle.far_scopes.specs.Memory.{at_of}
 use Rattle.far_scopes.specs.Movement.{Movement, is_local, pins_of}
-use Rattle.far_scopes.specs.Compaction.{moved_word, hot_first, offset_after, IsCompacted}
-use Rattle.far_scopes.specs.Effects.{new_record, with_record, after_create, after_write, after_overwrite, after_replace, with_lens, after_write_all, after_replace_all, after_touch, after_pin, after_unpin, after_leave, after_arrive}
+use Rattle.far_scopes.specs.Compaction.{moved_word, offset_after}
+use Rattle.far_scopes.specs.Effects.{new_record, with_record, with_lens, after_pin, after_unpin, after_leave, after_arrive}
 use Rattle.far_scopes.specs.Placing.{spot, with_new}
-use Rattle.far_scopes.specs.Replacing.{moved_all, replaced_all as replaced_all_in}
-use Rattle.far_columns.specs.Vector.{Vector, object_at}
-use Rattle.far_columns.specs.Effects.{is_full, next_name, next_group, objects_after_push, after_write_range}
-use Rattle.far_columns.specs.Numbers.{Numbers}
-use Rattle.far_columns.specs.NumbersTogether.{NumberColumns, objects_after_push_all}
-use Rattle.far_texts.specs.Texts.{Texts}
-use Rattle.far_texts.specs.Together.{after_create_all}
+use Rattle.far_scopes.specs.Replacing.{moved_all}
 
 pub false-true : {A : Type 0} → false ≡ true → A
 false-true h = absurd (let on : true ≡ false = sym h in cc)

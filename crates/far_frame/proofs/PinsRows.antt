@@ -1,37 +1,18 @@
 -- Changes of rows that keep the pins of their objects, and keep pinned local objects local.
-use Rattle.std.proofs.Common.{◌≡◌, ◌≢◌, ℕ, Bool, true, false, List, [], ◌∷◌, length, ℤ, Option, None, Some, IfSome, IsSomeAnd, refl, sym, ap, subst, ◌∙◌}
-use Rattle.std.specs.Prelude.{option_map, slice_get}
-use Rattle.std.specs.Option.{option_map_or}
+use Rattle.std.proofs.Common.{◌≡◌, ◌≢◌, ℕ, true, false, List, ℤ, Option, None, Some, IsSomeAnd, refl, sym, ap, subst, ◌∙◌}
 use Rattle.far_types.specs.declared.cell.Kind.{Kind}
 use Rattle.far_types.specs.declared.cell.Kind.TheVariants as kind
-use Rattle.far_types.specs.declared.edit.Edit.{Edit}
-use Rattle.far_types.specs.declared.edit.Edit.TheVariants as edit
-use Rattle.far_scopes.specs.Movement.{Movement, pins_of}
-use Rattle.far_codec.specs.TextForm.{texts_form}
-use Rattle.far_columns.specs.Vector.{Vector}
-use Rattle.far_columns.specs.Effects.{after_write_range}
-use Rattle.far_texts.specs.Texts.{Texts, lists_of, object_at as text_at}
-use Rattle.far_texts.specs.Effects.{group_with, set_in as text_set_in}
+use Rattle.far_texts.specs.Texts.{lists_of}
 use Rattle.far_columns.specs.Numbers.{number_lists}
-use Rattle.far_texts.specs.Together.{all_begin, next_forms}
-use Rattle.far_rows.specs.declared.column_index.ColumnIndex.{ColumnIndex}
-use Rattle.far_rows.specs.declared.column_index.ColumnIndex.TheVariants as column_index
-use Rattle.far_rows.specs.declared.new_cell.NewCell.{NewCell}
-use Rattle.far_rows.specs.declared.new_cell.NewCell.TheVariants as new_cell
 use Rattle.far_rows.specs.declared.object.Object.{Object}
 use Rattle.far_rows.specs.declared.object.Object.TheVariants as object
-use Rattle.far_rows.specs.Rows.{Rows, TextsMoved}
+use Rattle.far_rows.specs.Rows.{Rows}
 use Rattle.far_rows.specs.Coldest.{pins_at}
 use Rattle.far_rows.specs.Jobs.{IsAfterArrive, after_leave_in, pins_in}
-use Rattle.far_rows.specs.ColumnIndexes.{kind_of}
-use Rattle.far_rows.specs.Setting.{set_in, kind_in}
-use Rattle.far_rows.specs.Moving.{object_at, after_touch, after_pin, after_unpin}
-use Rattle.far_table.specs.Live.{Moves}
-use Rattle.far_table.specs.Moving.{IsCompactedOf}
+use Rattle.far_rows.specs.Moving.{after_pin, after_unpin}
 use Rattle.far_table.specs.State.{LiveState}
 use Rattle.far_frame.specs.State.{State}
 use Rattle.far_frame.specs.declared.job.JobPhase.TheVariants as work
-use Rattle.far_frame.specs.Lending.{after_touch_all}
 use Rattle.far_frame.specs.Jobs.{WorkOf, Commits, Installs, Merges}
 use Rattle.far_frame.specs.Pins.{is_here}
 use Rattle.far_scopes.specs.Effects.{after_arrive}

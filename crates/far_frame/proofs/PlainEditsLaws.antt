@@ -1,5 +1,5 @@
 -- Why the plain list refuses an edit that a table over objects refuses.
-use Rattle.std.proofs.Common.{◌≡◌, ◌⊎◌, inl, inr, ℕ, ◌+◌, Bool, true, false, List, [], ◌∷◌, Option, None, Some, refl}
+use Rattle.std.proofs.Common.{◌≡◌, ◌⊎◌, inl, inr, ℕ, ◌+◌, true, false, List, [], ◌∷◌, Option, None, Some, refl}
 use Rattle.far_types.specs.declared.edit.Edit.{Edit}
 use Rattle.far_types.specs.declared.edit.Edit.TheVariants as edit
 use Rattle.far_types.specs.declared.refusal.Refusal.{Refusal}

@@ -1,5 +1,5 @@
 -- Steps that pin, unpin, evict or fetch a chunk: nothing else changes.
-use Rattle.std.proofs.Common.{◌≡◌, ◌≢◌, ◌<◌, ℕ, zero, suc, ◌+◌, ◌-◌, ℤ, Bool, true, false, not, List, [], ◌∷◌, length, Option, None, Some, IsSomeAnd, refl, sym, ap, subst, ◌∙◌, arith}
+use Rattle.std.proofs.Common.{◌≡◌, ◌<◌, ℕ, zero, suc, ◌+◌, ◌-◌, ℤ, Bool, true, false, not, List, [], ◌∷◌, length, Option, None, Some, IsSomeAnd, refl, sym, ap, ◌∙◌, arith}
 use Rattle.std.specs.Prelude.{slice_get, slice_set}
 use Rattle.std.specs.Option.{option_map_or}
 use Rattle.std.proofs.lemmas.Option.{slice_get_within}
@@ -29,14 +29,12 @@ use Rattle.far_table.specs.Watching.{aggregate_at, after_scan_at}
 use Rattle.far_frame.specs.declared.job.JobPhase.TheVariants as work
 use Rattle.far_frame.specs.declared.step.Step.TheVariants as step
 use Rattle.far_frame.specs.Jobs.{WorkOf, Commits, Installs, Merges}
-use Rattle.far_frame.specs.Pins.{is_here}
 use Rattle.far_frame.specs.State.{State, live}
 use Rattle.far_frame.specs.TableRefusals.{TableState, due}
 use Rattle.far_frame.specs.TableRuns.{changed}
 use Rattle.far_frame.specs.TableViews.{is_gone, gone_at, pins_of_group, table_of, IsKept}
 use Rattle.far_frame.proofs.MovementAway.{says_away}
 use Rattle.far_frame.proofs.MovementPins.{false-true, reads-same, says_local, says_pins, changed-later, one_less}
-use Rattle.far_frame.proofs.PinsRows.{no-some}
 use Rattle.far_frame.proofs.TableNames.{once, in-use, owner, there}
 use Rattle.far_frame.proofs.TableObjects.{one-changed, objects-same, live-view}
 

@@ -1,6 +1,6 @@
 -- The refusal that is due to a step of a table, in a user's words.
-use Rattle.std.proofs.Common.{◌≡◌, ◌⊎◌, inl, inr, ℕ, zero, suc, ◌+◌, ◌/◌, ◌==◌, ◌&&◌, ◌<◌, ◌||◌, not, Bool, true, false, List, map, [], ◌∷◌, ◌++◌, length, Option, None, Some, refl, sym, ap, subst, ◌∙◌, arith}
-use Rattle.std.specs.Prelude.{cond, is_none, nat_lt, option_map, slice_get}
+use Rattle.std.proofs.Common.{◌≡◌, ◌⊎◌, inl, inr, ℕ, zero, suc, ◌+◌, ◌==◌, ◌&&◌, ◌<◌, ◌||◌, not, Bool, true, false, List, map, [], ◌∷◌, ◌++◌, length, Option, None, Some, refl, sym, ap, subst, ◌∙◌, arith}
+use Rattle.std.specs.Prelude.{is_none, nat_lt, option_map, slice_get}
 use Rattle.std.specs.List.{enumerate_from}
 use Rattle.std.specs.Option.{option_and_then, option_map_or, option_or}
 use Rattle.std.proofs.lemmas.List.{append_assoc}
@@ -33,7 +33,6 @@ use Rattle.far_table.specs.Edits.{edit_due, group_of, no_space}
 use Rattle.far_table.specs.Offloading.{dirty_from, offload_refusal}
 use Rattle.far_table.specs.Watching.{group_count, needed_from, scan_refusal}
 use Rattle.far_frame.specs.declared.step.Step.TheVariants as step
-use Rattle.far_frame.specs.Jobs.{IsOneOf}
 use Rattle.far_frame.specs.Lending.{lend_refusal}
 use Rattle.far_frame.specs.Pins.{is_here}
 use Rattle.far_frame.specs.State.{State, live}

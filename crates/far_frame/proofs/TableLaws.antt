@@ -22,7 +22,7 @@ use Rattle.far_rows.specs.Moving.{object_at, pin_refusal, unpin_refusal}
 use Rattle.far_rows.specs.Rows.{Rows}
 use Rattle.far_table.specs.Moving.{IsCompactedOf}
 use Rattle.far_table.specs.Offloading.{offload_refusal}
-use Rattle.far_table.specs.Watching.{aggregate_at, lowest_free, watch_refusal, unwatch_refusal, scan_refusal, after_register_at}
+use Rattle.far_table.specs.Watching.{aggregate_at, watch_refusal, unwatch_refusal, scan_refusal, after_register_at}
 use Rattle.far_frame.specs.declared.job.JobPhase.TheVariants as work
 use Rattle.far_frame.specs.declared.step.Step.{Step}
 use Rattle.far_frame.specs.declared.step.Step.TheVariants as step
@@ -35,7 +35,7 @@ use Rattle.far_frame.specs.State.{State, live}
 use Rattle.far_frame.specs.Steps.{IsStep}
 use Rattle.far_frame.specs.Waiting.{job_at, RefusalAt}
 use Rattle.far_frame.specs.Worlds.{World, IsBegun, IsNotBegun, IsCarry, IsNoCarry, IsEnded, IsNotEnded, used_up}
-use Rattle.far_frame.specs.TableRefusals.{TableState, IsReason, due, others, scan_due}
+use Rattle.far_frame.specs.TableRefusals.{TableState, IsReason, due, others}
 use Rattle.far_frame.specs.TableRuns.{IsTableStep, IsTableRun, IsTableServed}
 use Rattle.far_frame.specs.TableViews.{table_of, IsKept}
 use Rattle.far_frame.proofs.LendingLaws.{given-cells, given-flags, lends-low}

@@ -1,5 +1,5 @@
 -- Each object belongs to the column and row group in its name, and each row group with places has an object in each column.
-use Rattle.std.proofs.Common.{◌≡◌, ℕ, zero, suc, ◌+◌, ◌*◌, ◌-◌, ◌/◌, ◌<◌, ◌≤◌, ℤ, Bool, true, false, not, List, map, [], ◌∷◌, length, Option, None, Some, IsSomeAnd, refl, sym, ap, subst, ◌∙◌, arith, inl, inr}
+use Rattle.std.proofs.Common.{◌≡◌, ℕ, zero, suc, ◌+◌, ◌*◌, ◌-◌, ◌/◌, ◌<◌, ◌≤◌, ℤ, Bool, false, not, List, map, [], ◌∷◌, length, Option, None, Some, refl, sym, ap, subst, ◌∙◌, arith, inl, inr}
 use Rattle.std.specs.Prelude.{All, option_map, slice_get, is_none, nat_lt}
 use Rattle.std.specs.Option.{option_and_then}
 use Rattle.std.specs.List.{enumerate_from}
@@ -22,9 +22,9 @@ use Rattle.far_rows.specs.declared.object.Object.{Object}
 use Rattle.far_rows.specs.declared.object.Object.TheVariants as object
 use Rattle.far_rows.specs.ColumnIndexes.{IsColumnIn, kind_of}
 use Rattle.far_rows.specs.Moving.{object_at, object_in, IsInUse}
-use Rattle.far_rows.specs.Naming.{names_of, AreNamed, number_by}
+use Rattle.far_rows.specs.Naming.{names_of, AreNamed}
 use Rattle.far_rows.specs.Places.{places_of, row_at}
-use Rattle.far_rows.specs.Rows.{Rows, AreRows, object_of, all_cells}
+use Rattle.far_rows.specs.Rows.{Rows, object_of, all_cells}
 use Rattle.far_frame.specs.State.{State}
 use Rattle.far_frame.specs.TableViews.{IsKept}
 use Rattle.far_frame.proofs.PinsRows.{no-some, one-some, not-on}

@@ -1,19 +1,12 @@
 -- How steps change which chunks of a table are away, and their pins.
-use Rattle.std.proofs.Common.{◌≡◌, ◌≢◌, ◌<◌, ◌≤◌, ℕ, zero, suc, ◌+◌, ◌-◌, ◌==◌, ◌&&◌, ℤ, Bool, true, false, if◌then◌else◌, List, map, [], ◌∷◌, ◌++◌, length, Option, None, Some, IfSome, IsSomeAnd, refl, sym, ap, subst, ◌∙◌, arith}
-use Rattle.std.specs.Prelude.{cond, option_map, slice_get, slice_set}
+use Rattle.std.proofs.Common.{◌≡◌, ◌≤◌, ℕ, zero, suc, ◌+◌, ◌-◌, ◌==◌, ◌&&◌, ℤ, Bool, true, false, if◌then◌else◌, List, [], ◌∷◌, ◌++◌, length, Option, None, Some, IfSome, refl, sym, ap, subst, ◌∙◌, arith}
+use Rattle.std.specs.Prelude.{cond, option_map, slice_get}
 use Rattle.std.specs.Option.{option_and_then, option_map_or}
 use Rattle.std.proofs.lemmas.Bool.{and_from, and_parts, eq-eqb, eqb-true}
 use Rattle.std.proofs.lemmas.Option.{slice_get_past}
 use Rattle.far_types.specs.declared.edit.Edit.{Edit}
 use Rattle.far_types.specs.declared.edit.Edit.TheVariants as edit
 use Rattle.far_types.specs.Table.{Table}
-use Rattle.far_pointer.specs.declared.pointer.Pointer.{Pointer}
-use Rattle.far_pointer.specs.declared.pointer.Pointer.TheVariants.{Local, Remote}
-use Rattle.far_scopes.specs.declared.object_record.ObjectRecord.{ObjectRecord}
-use Rattle.far_scopes.specs.Movement.{Movement, pins_of, word_of}
-use Rattle.far_scopes.specs.Placing.{spot}
-use Rattle.far_scopes.specs.Effects.{with_record, after_leave, after_arrive}
-use Rattle.far_scopes.proofs.MovementFrames.{object_record-with_other}
 use Rattle.far_columns.specs.Vector.{Vector}
 use Rattle.far_columns.specs.Effects.{is_full}
 use Rattle.far_texts.specs.Texts.{Texts}
@@ -29,21 +22,19 @@ use Rattle.far_rows.specs.declared.object.Object.TheVariants as object
 use Rattle.far_rows.specs.ColumnIndexes.{Values, kind_of}
 use Rattle.far_rows.specs.Coldest.{pins_at}
 use Rattle.far_rows.specs.Effects.{IsPushed}
-use Rattle.far_rows.specs.Moving.{object_at, object_in, after_touch, after_pin, after_unpin, IsInUse}
+use Rattle.far_rows.specs.Moving.{object_at, object_in, after_touch}
 use Rattle.far_rows.specs.Rows.{Rows, object_of}
 use Rattle.far_rows.specs.Setting.{set_in, kind_in}
 use Rattle.far_table.specs.Live.{Moves}
 use Rattle.far_frame.specs.Lending.{after_touch_all}
 use Rattle.far_table.specs.State.{LiveState}
 use Rattle.far_frame.specs.State.{State, live}
-use Rattle.far_frame.specs.TableRefusals.{TableState}
 use Rattle.far_frame.specs.TableRuns.{changed}
 use Rattle.far_frame.specs.TableViews.{is_gone, gone_at, pins_of_group, table_of, IsKept}
 use Rattle.far_frame.proofs.MovementAway.{says_away}
-use Rattle.far_frame.proofs.MovementPins.{says_pins, changed-later, one_less}
+use Rattle.far_frame.proofs.MovementPins.{says_pins}
 use Rattle.far_frame.proofs.PinsRows.{no-some, one-some}
 use Rattle.far_frame.proofs.RowsAway.{KeepsAwayRows, rows-edited, rows-gone, rows-pins}
-use Rattle.far_frame.proofs.TableNames.{once, in-use}
 
 get-more : (xs : List ℕ) (y g o : ℕ) → slice_get xs g ≡ Some o → slice_get (xs ++ y ∷ []) g ≡ Some o
 get-more [] y g o is = no-some o is

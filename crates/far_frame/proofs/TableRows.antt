@@ -1,5 +1,5 @@
 -- After a run of the table its rows are those of the plain list after the accepted edits.
-use Rattle.std.proofs.Common.{◌≡◌, ℕ, List, [], ◌∷◌, Option, None, Some, IsSomeAnd, refl, sym, ap, ◌∙◌}
+use Rattle.std.proofs.Common.{◌≡◌, ℕ, List, [], ◌∷◌, Option, None, Some, IsSomeAnd, refl, ap, ◌∙◌}
 use Rattle.far_types.specs.Table.{Table}
 use Rattle.far_table.specs.Watching.{after_register_at, lowest_free}
 use Rattle.far_frame.specs.declared.step.Step.{Step}
