@@ -287,24 +287,25 @@ static void many_cells(void) {
 
 /* Cells of places far apart, which are read ahead: also of a place that is not there, and of a row group that is away. */
 static void far_cells(void) {
-    enum { ROWS = 1000, CELLS = 100, GROUP = 16 };
+    enum { ROWS = 70000, CELLS = 100, GROUP = 16 };
     fc_table table = {NULL};
     fc_limits limits = LIMITS;
     int64_t numbers[CELLS];
     uint32_t places[CELLS], by_name, total;
-    size_t set = 99, first = 0;
+    size_t set = 99, first = 0, refused = 0;
     const fc_column ints = {.numbers = numbers, .numbers_len = CELLS, .kind = FC_INT};
-    limits.edits = 5000;
+    limits.edits = 100000;
     limits.group = GROUP;
-    limits.places = 1024;
-    limits.int_size = 512;
-    limits.text_size = 4096;
+    limits.places = ROWS;
+    limits.int_size = 20000;
+    limits.text_size = 1 << 20;
     OK(fc_open(&table, KINDS, 2, &limits, 1000));
     OK(fc_watch(&table, &BY_NAME, &by_name));
     OK(fc_watch(&table, &TOTAL, &total));
-    for (int i = 0; i < ROWS; i++) OK(insert(&table, i % 3 ? "" : "bread", 0));
+    for (int i = 0; i < ROWS; i++) refused += insert(&table, i % 3 ? "" : "bread", 0) != FC_OK;
+    CHECK(refused == 0);
     for (int i = 0; i < CELLS; i++) {
-        places[i] = (uint32_t)(i * 389 % ROWS);
+        places[i] = (uint32_t)(i * 38903 % ROWS);
         numbers[i] = i;
     }
     OK(fc_set_column(&table, 1, places, CELLS, &ints, &set));

@@ -214,13 +214,14 @@ class Arrays(Case):
             self.assertEqual(sold.to_dict(), self.table.recount(sold))
 
     def test_many(self) -> None:
+        """So many rows that the library reads ahead what it sets."""
         table = fc.Table(KINDS, local="16MB")
         self.addCleanup(table.close)
-        table.extend((f"sku{n}", n) for n in range(30_000))
+        table.extend((f"sku{n}", n) for n in range(70_000))
         sold = table.watch(fc.totals("quantity", by="sku"))
-        draw, due = random.Random(9), list(range(30_000))
+        draw, due = random.Random(9), list(range(70_000))
         for _ in range(3):
-            places = [draw.randrange(30_000) for _ in range(20_001)]
+            places = [draw.randrange(70_000) for _ in range(20_001)]
             values = [draw.randrange(-(2**63), 2**63) for _ in places]
             table.set_column("quantity", *self.arrays(places, values))
             for place, value in zip(places, values):

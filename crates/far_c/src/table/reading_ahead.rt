@@ -7,6 +7,9 @@ use far_frame::READ_AHEAD;
 /// A block with fewer places is not read ahead.
 const LEAST: usize = 4;
 
+/// A table with fewer places is not read ahead, since the caches of a processor mostly hold it.
+const SMALL: u32 = 65_536;
+
 /// A block whose first and last place are nearer than this is not read ahead: it goes through the table in order, which the
 /// processor foresees.
 const NEAR: u32 = 256;
@@ -29,7 +32,7 @@ impl Table {
     fn read_block(&mut self, column: u32, block: &[u32])
         ensures { self.new ≡ self.old }
     {
-        if block.len() < LEAST {
+        if block.len() < LEAST || self.world.frame().places() < SMALL {
             return;
         }
         let across = block[block.len() - 1].abs_diff(block[0]);

@@ -15,8 +15,9 @@ pub const READ_AHEAD: usize = 32;
 
 impl<S: FarTickets> Frame<S> {
     /// Reads what `set` reads at places: their alive flags, their cells in this column and, if aggregates need the column, in all
-    /// columns that aggregates need. A caller that then sets the places finds these cells in the processor's caches. Takes the
-    /// first `READ_AHEAD` places. Leaves out what is not there: places, columns, objects that are away. Allocates nothing.
+    /// columns that aggregates need. A caller that then sets the places finds these cells in the processor's caches. Reads cells
+    /// of the first `READ_AHEAD` places only, and leaves out what is not there: places, columns, objects that are away. Allocates
+    /// nothing.
     ///
     /// Returns a number made of all that was read, and nothing can be concluded from it. The compiler leaves out the reads of a
     /// caller that does not keep it.
