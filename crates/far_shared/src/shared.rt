@@ -29,29 +29,33 @@ pub(crate) struct Count<N: PlanTag> {
 /// A session is used with the shared table that made it: its type says which. No two stripes are on one cache line, so that a
 /// writer of one stripe does not slow the next.
 ///
-/// A session makes an edit. A fetch or an eviction may resolve a refusal:
+/// A session makes an edit, or gets its refusal, which a fetch or an eviction may resolve:
 ///
 /// ```
-/// fn insert_one<N: PlanTag, B: TableTag, S: FarStore, R: Wait>(
+/// pub(crate) fn make<N: PlanTag, B: TableTag, S: FarTickets, R: Wait>(
+///     self,
 ///     rt: &R,
-///     alloc: Global,
 ///     shared: &Shared<N, B, S>,
-///     store: &S,
 ///     me: &mut Session<B>,
-///     stripe: u32,
-/// ) -> Result<(), Stop>
-///     requires store { S.store_id store.now ≡ B.store }
-///     requires stripe { stripe < 4 }
-///     ensures ok { OnOk result (Makes stripe 1 me.old me.new) }
+///     edit: Edit,
+/// ) -> Result<(), RefusedTry>
+///     requires stripe { self.stripe < 4 }
+///     ensures made { OnOk result (AddsOne self.stripe edit me.old me.new) }
+///     ensures own { OnErr result (AddsNothing self.stripe me.old me.new) }
+///     ensures counted { IfErr result
+///         (λ it. (it.stripe ≡ self.stripe) × (it.tries ≡ self.refused + 1)) }
+///     ensures due { IfErr result
+///         (λ it. IsDueUnder (IsUnder N.plan S.is_of B.store self.stripe) edit
+///         (at me.new self.stripe) it.refusal) }
 /// {
-///     for turn in 0..MOST_TRIES {
-///         let edit = Edit::Insert(row_of_one(alloc)?);
-///         match shared.apply(rt, me, stripe, edit) {
-///             Ok(_) => return Ok(()),
-///             Err(refusal) => clear_way(rt, shared, store, stripe, refusal)?,
-///         }
+///     match shared.apply(rt, me, self.stripe, edit) {
+///         Ok(_) => Ok(()),
+///         Err(refusal) => Err(RefusedTry {
+///             stripe: self.stripe,
+///             tries: self.refused + 1,
+///             refusal,
+///         }),
 ///     }
-///     Err(Stop::Turns)
 /// }
 /// ```
 #[derive(Drop)]
