@@ -29,7 +29,7 @@ pub(crate) struct Count<N: PlanTag> {
 /// A session is used with the shared table that made it: its type says which. No two stripes are on one cache line, so that a
 /// writer of one stripe does not slow the next.
 ///
-/// A session makes an edit. After a refusal, `fetch` or `evacuate_once` may let the next try succeed:
+/// A session makes an edit, or gets its refusal, which a fetch or an eviction may resolve:
 ///
 /// ```
 /// pub(crate) fn make<N: PlanTag, B: TableTag, S: FarTickets, R: Wait>(
