@@ -7,7 +7,7 @@ use Rattle.far_types.specs.Bounds.{AreLimits}
 use Rattle.far_types.specs.Table.{empty_table}
 use Rattle.far_pointer.specs.declared.pointer.Pointer.{Pointer}
 use Rattle.far_pointer.specs.declared.pointer.Pointer.TheVariants.{Local, Remote}
-use Rattle.far_scopes.specs.Movement.{Movement, word_of}
+use Rattle.far_scopes.specs.Movement.{word_of}
 use Rattle.far_rows.specs.declared.object.Object.{Object}
 use Rattle.far_rows.specs.declared.object.Object.TheVariants as object
 use Rattle.far_rows.specs.ColumnIndexes.{kind_of}

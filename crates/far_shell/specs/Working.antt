@@ -115,7 +115,8 @@ pub record AreGauged (p : Planned) (n : ℕ) (sessions : List Known)
       → slice_get readings s ≡ Some reading
       → IsGauged p s n me reading
 
--- the readings and the answer after all sessions of a plan have ended and as many evictions were tried as each session made inserts. It is not yet known which rows the answer counts
+-- the readings and the answer after all sessions of a plan have ended and as many evictions were tried as each session made inserts. It is
+-- not yet known which rows the answer counts
 pub record AreLeft (p : Planned) (n : ℕ) (sessions : List Known) (o : Outcome) : Type 0 where
   pub gauged : AreGauged p n sessions o.gauges.items
   pub answer : IsAnswer p 0 o.answer

@@ -37,8 +37,8 @@ RecountRefusal (Some due) old new given = (given ≡ due) × (new ≡ old)
 RecountRefusal None old new given = FoldRefusal old new given
 
 -- what folding the rows in some pieces adds to the caller's meter, which was `old` and is `new`
-pub record CountsFaults {A : Type 0} (may_fail : Type 0) (pieces old new : ℕ) (result : Result A Refusal)
-    : Type 0 where
+pub record CountsFaults {A : Type 0} (may_fail : Type 0) (pieces old new : ℕ)
+    (result : Result A Refusal) : Type 0 where
   -- an answer leaves it
   pub none : OnOk result (new ≡ old)
   -- it rises only if the store may fail

@@ -1,4 +1,4 @@
-use Rattle.std.proofs.Common.{◌≡◌, ◌*◌, ◌<◌, ◌≤◌, length, sym, ap, subst, ◌∙◌, arith}
+use Rattle.std.proofs.Common.{◌*◌, ◌<◌, ◌≤◌, length, sym, ap, subst, ◌∙◌, arith}
 use Rattle.far_types.specs.Table.{groups}
 use Rattle.far_table.proofs.PiecesRuns.{positive, all-held, all-begun, narrow, few-wide}
 use Rattle.far_table.proofs.recounting.wide_cut.Goals as goal
