@@ -52,7 +52,8 @@ def sums():
 
 def told(what, one):
     """Formats the figures of a row."""
-    text = TOLD[what][1].format(**one) + f", in {max(one['seconds'] // 60, 1):,} minutes"
+    minutes = max(one["seconds"] // 60, 1)
+    text = TOLD[what][1].format(**one) + f", in {minutes:,} minute{'s' * (minutes > 1)}"
     hindered = [f"{one[how]:,} {it}" for how, it in HINDERED.items() if one[how]]
     text += f"; of them {', '.join(hindered)}" * bool(hindered)
     return text + f"; {one['failed']} runs of the command failed" * bool(one["failed"])
