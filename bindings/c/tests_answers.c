@@ -1,53 +1,66 @@
 /* Aggregates: their registration, and their answers as a whole, by line and by key. */
 #include "tests.h"
 
-static void aggregates(void) {
-    fc_table table;
-    uint32_t by_name, total, range, groups = 99, first = 99;
+/* Totals by name, asked before and after the row group is scanned. */
+static void totals_by_name(fc_table *table) {
+    uint32_t by_name, groups = 99, first = 99;
     size_t lines;
     fc_line line;
+    fc_details why;
+    OK(fc_watch(table, &BY_NAME, &by_name));
+    OK(fc_pending(table, by_name, &groups, &first));
+    CHECK(groups == 1 && first == 0);
+    CODE(fc_ask(table, by_name, &lines), FC_BUILDING);
+    OK(fc_last_refusal(table, &why));
+    CHECK(why.code == FC_BUILDING && why.pending == 1);
+    OK(fc_recount(table, by_name, &lines));
+    CHECK(lines == 2);
+    OK(fc_scan(table, by_name, 0));
+    CODE(fc_scan(table, by_name, 0), FC_STALE_JOB);
+    CODE(fc_scan(table, by_name, 1), FC_OUT_OF_RANGE);
+    OK(fc_pending(table, by_name, &groups, &first));
+    CHECK(groups == 0);
+    OK(fc_ask(table, by_name, &lines));
+    CHECK(lines == 2);
+    OK(fc_line_at(table, 0, &line));
+    CHECK(line.key_kind == FC_TEXT && line.key_text.len == 5 && line.count == 2 && line.sum_low == 7 && line.sum_high == 0);
+    OK(fc_line_at(table, 1, &line));
+    CHECK(line.key_text.len == 3 && line.count == 1 && line.sum_low == 3 && line.fold == FC_TOTALS);
+    CODE(fc_line_at(table, 2, &line), FC_NOTHING);
+    CODE(fc_plain(table, by_name, &(fc_sum){0, 0, 0}), FC_NOTHING);
+}
+
+static void totals_of_some_rows(fc_table *table) {
     const fc_test tests[2] = {{3, {(const uint8_t *)"", 0}, 1, FC_GE}, {0, {(const uint8_t *)"b", 1}, 0, FC_TEXT_BEGINS}};
-    fc_spec filtered = {.tests = tests, .tests_len = 2, .fold = FC_TOTALS, .value = 1};
+    const fc_spec filtered = {.tests = tests, .tests_len = 2, .fold = FC_TOTALS, .value = 1};
     fc_spec wrong = TOTAL;
     fc_aggregate about;
-    fc_details why;
+    uint32_t total;
+    OK(fc_watch(table, &filtered, &total));
+    OK(fc_scan(table, total, 0));
+    CHECK(is_total(table, total, 1, 5));
+    OK(fc_spec_of(table, total, &about));
+    CHECK(about.fold == FC_TOTALS && about.value == 1 && !about.has_key && about.tests == 2);
+    CODE(fc_spec_of(table, 9, &about), FC_NO_AGGREGATE);
+    wrong.value = 0;
+    CODE(fc_watch(table, &wrong, &total), FC_WRONG_KIND);
+    wrong.fold = 9;
+    CODE(fc_watch(table, &wrong, &total), FC_BAD_ARGUMENT);
+}
+
+static void aggregates(void) {
+    fc_table table;
+    uint32_t range, groups = 99, first = 99;
+    size_t lines;
+    fc_line line;
     open_bakery(&table);
-    OK(fc_watch(&table, &BY_NAME, &by_name));
-    OK(fc_pending(&table, by_name, &groups, &first));
-    CHECK(groups == 1 && first == 0);
-    CODE(fc_ask(&table, by_name, &lines), FC_BUILDING);
-    OK(fc_last_refusal(&table, &why));
-    CHECK(why.code == FC_BUILDING && why.pending == 1);
-    OK(fc_recount(&table, by_name, &lines));
-    CHECK(lines == 2);
-    OK(fc_scan(&table, by_name, 0));
-    CODE(fc_scan(&table, by_name, 0), FC_STALE_JOB);
-    CODE(fc_scan(&table, by_name, 1), FC_OUT_OF_RANGE);
-    OK(fc_pending(&table, by_name, &groups, &first));
-    CHECK(groups == 0);
-    OK(fc_ask(&table, by_name, &lines));
-    CHECK(lines == 2);
-    OK(fc_line_at(&table, 0, &line));
-    CHECK(line.key_kind == FC_TEXT && line.key_text.len == 5 && line.count == 2 && line.sum_low == 7 && line.sum_high == 0);
-    OK(fc_line_at(&table, 1, &line));
-    CHECK(line.key_text.len == 3 && line.count == 1 && line.sum_low == 3 && line.fold == FC_TOTALS);
-    CODE(fc_line_at(&table, 2, &line), FC_NOTHING);
+    totals_by_name(&table);
     OK(fc_watch(&table, &RANGE, &range));
     OK(fc_scan(&table, range, 0));
     OK(fc_ask(&table, range, &lines));
     OK(fc_line_at(&table, 0, &line));
     CHECK(line.key_kind == FC_MISSING && line.fold == FC_EXTREMA && line.min == 2 && line.max == 5);
-    OK(fc_watch(&table, &filtered, &total));
-    OK(fc_scan(&table, total, 0));
-    CHECK(is_total(&table, total, 1, 5));
-    OK(fc_spec_of(&table, total, &about));
-    CHECK(about.fold == FC_TOTALS && about.value == 1 && !about.has_key && about.tests == 2);
-    CODE(fc_spec_of(&table, 9, &about), FC_NO_AGGREGATE);
-    CODE(fc_plain(&table, by_name, &(fc_sum){0, 0, 0}), FC_NOTHING);
-    wrong.value = 0;
-    CODE(fc_watch(&table, &wrong, &total), FC_WRONG_KIND);
-    wrong.fold = 9;
-    CODE(fc_watch(&table, &wrong, &total), FC_BAD_ARGUMENT);
+    totals_of_some_rows(&table);
     OK(fc_unwatch(&table, range));
     CODE(fc_unwatch(&table, range), FC_NO_AGGREGATE);
     CODE(fc_ask(&table, range, &lines), FC_NO_AGGREGATE);
@@ -100,14 +113,35 @@ static bool is_key_range(fc_table *table, uint32_t aggregate, fc_cell key, int64
            line.max == max;
 }
 
+/* One key of other aggregates: extrema by name, totals by number, and totals without a key. */
+static void one_key_of_others(fc_table *table) {
+    uint32_t by_number, total, ends;
+    fc_line line;
+    const fc_cell missing = {0, fc_no_bytes, FC_MISSING}, bread = text_cell("bread");
+    fc_spec spec = {.fold = FC_EXTREMA, .value = 1, .key = 0, .has_key = true};
+    OK(fc_watch(table, &spec, &ends));
+    OK(fc_scan(table, ends, 0));
+    CHECK(is_key_range(table, ends, bread, 2, 5) && is_key_range(table, ends, text_cell("rye"), 3, 3));
+    spec.fold = FC_TOTALS;
+    spec.key = 1;
+    OK(fc_watch(table, &spec, &by_number));
+    OK(fc_scan(table, by_number, 0));
+    CHECK(is_key_total(table, by_number, int_cell(2), 1, 2) && is_key_total(table, by_number, int_cell(5), 1, 5));
+    CODE(fc_ask_key(table, by_number, &(fc_cell){4, fc_no_bytes, FC_INT}, &line), FC_NOTHING);
+    CODE(fc_ask_key(table, by_number, &(fc_cell){-1, fc_no_bytes, FC_INT}, &line), FC_NOTHING);
+    OK(fc_watch(table, &TOTAL, &total));
+    OK(fc_scan(table, total, 0));
+    CHECK(is_key_total(table, total, missing, 3, 10));
+    CODE(fc_ask_key(table, total, &(fc_cell){0, fc_no_bytes, FC_INT}, &line), FC_NOTHING);
+}
+
 static void one_key(void) {
     fc_table table = {NULL};
-    uint32_t by_name, by_number, total, ends;
+    uint32_t by_name;
     size_t lines;
     fc_line line = {.key_text = fc_no_bytes, .fold = 9}, kept = {.key_text = fc_no_bytes};
     fc_details why;
     const fc_cell missing = {0, fc_no_bytes, FC_MISSING}, bread = text_cell("bread"), bad = {0, {(const uint8_t *)"\xff", 1}, FC_TEXT};
-    fc_spec spec = {.fold = FC_EXTREMA, .value = 1, .key = 0, .has_key = true};
     CODE(fc_ask_key(&table, 0, &bread, &line), FC_CLOSED);
     open_bakery(&table);
     CODE(fc_ask_key(&table, 0, &bread, &line), FC_NO_AGGREGATE);
@@ -129,20 +163,7 @@ static void one_key(void) {
     refused_one = allocations + 1;
     CODE(fc_ask_key(&table, 9, &bread, &line), FC_NO_AGGREGATE);
     refused_one = 0;
-    OK(fc_watch(&table, &spec, &ends));
-    OK(fc_scan(&table, ends, 0));
-    CHECK(is_key_range(&table, ends, bread, 2, 5) && is_key_range(&table, ends, text_cell("rye"), 3, 3));
-    spec.fold = FC_TOTALS;
-    spec.key = 1;
-    OK(fc_watch(&table, &spec, &by_number));
-    OK(fc_scan(&table, by_number, 0));
-    CHECK(is_key_total(&table, by_number, int_cell(2), 1, 2) && is_key_total(&table, by_number, int_cell(5), 1, 5));
-    CODE(fc_ask_key(&table, by_number, &(fc_cell){4, fc_no_bytes, FC_INT}, &line), FC_NOTHING);
-    CODE(fc_ask_key(&table, by_number, &(fc_cell){-1, fc_no_bytes, FC_INT}, &line), FC_NOTHING);
-    OK(fc_watch(&table, &TOTAL, &total));
-    OK(fc_scan(&table, total, 0));
-    CHECK(is_key_total(&table, total, missing, 3, 10));
-    CODE(fc_ask_key(&table, total, &(fc_cell){0, fc_no_bytes, FC_INT}, &line), FC_NOTHING);
+    one_key_of_others(&table);
     OK(fc_line_at(&table, 0, &kept));
     CHECK(kept.count == 2 && kept.key_text.len == 5);
     OK(fc_close(&table));

@@ -67,18 +67,9 @@ static void many_rows(void) {
     OK(fc_close(&table));
 }
 
-/* Rows by columns that do not fit, for each reason there is, and a text among them that is no UTF-8: the rows before it are appended. */
-static void refused_rows(void) {
-    fc_table table;
-    const int64_t numbers[3] = {5, 0, -2};
-    const uint64_t offsets[4] = {0, 3, 3, 7}, descending[4] = {0, 3, 2, 7};
-    const uint8_t valid[1] = {255};
-    const fc_column texts = {numbers, 0, offsets, 4, (const uint8_t *)"ryeoats", 7, valid, 0, FC_TEXT};
-    const fc_column ints = {numbers, 3, offsets, 0, (const uint8_t *)"", 0, valid, 1, FC_INT};
-    fc_column columns[2], wrong[9];
-    fc_details why;
-    size_t inserted = 99;
-    uint32_t places;
+/* Columns of three rows, each of which is wrong in one way: five are for texts, four for numbers. */
+static void make_wrong(fc_column wrong[9], fc_column texts, fc_column ints) {
+    static const uint64_t descending[4] = {0, 3, 2, 7};
     for (int i = 0; i < 9; i++) wrong[i] = i < 5 ? texts : ints;
     wrong[0].numbers_len = 1;    /* texts with a number */
     wrong[1].offsets_len = 3;    /* two texts */
@@ -89,6 +80,21 @@ static void refused_rows(void) {
     wrong[6].offsets_len = 1;    /* numbers with an offset */
     wrong[7].kind = FC_MISSING;  /* of no kind that there is */
     wrong[8] = texts;            /* texts for a column of numbers */
+}
+
+/* Rows by columns that do not fit, for each reason there is, and a text among them that is no UTF-8: the rows before it are appended. */
+static void refused_rows(void) {
+    fc_table table;
+    const int64_t numbers[3] = {5, 0, -2};
+    const uint64_t offsets[4] = {0, 3, 3, 7};
+    const uint8_t valid[1] = {255};
+    const fc_column texts = {numbers, 0, offsets, 4, (const uint8_t *)"ryeoats", 7, valid, 0, FC_TEXT};
+    const fc_column ints = {numbers, 3, offsets, 0, (const uint8_t *)"", 0, valid, 1, FC_INT};
+    fc_column columns[2], wrong[9];
+    fc_details why;
+    size_t inserted = 99;
+    uint32_t places;
+    make_wrong(wrong, texts, ints);
     open_bakery(&table);
     CODE(fc_remove(&table, 9), FC_NO_ROW);
     for (int i = 0; i < 9; i++) {
@@ -140,15 +146,37 @@ static bool has_number(fc_table *table, uint32_t place, const int64_t *number) {
     return number ? row[1].kind == FC_INT && row[1].number == *number : row[1].kind == FC_MISSING;
 }
 
+/* Cells that cannot be set, for each reason there is: those before them are set. */
+static void refused_cells(fc_table *table, fc_column ints, fc_column texts, const uint32_t places[5]) {
+    const uint32_t removed[3] = {0, 1, 2};
+    fc_column bad = ints;
+    size_t set = 0;
+    bad.kind = FC_MISSING;
+    CODE(fc_set_column(table, 1, places, 5, &bad, &set), FC_BAD_ARGUMENT);
+    texts.bytes_len = 5;
+    CODE(fc_set_column(table, 0, places, 3, &texts, &set), FC_BAD_ARGUMENT);
+    CODE(fc_set_column(table, 2, places, 5, &ints, &set), FC_NO_COLUMN);
+    CODE(fc_set_column(table, 0, places, 5, &ints, &set), FC_WRONG_KIND);
+    CHECK(set == 0);
+    OK(fc_remove(table, 1));
+    ints.numbers_len = 3;
+    CODE(fc_set_column(table, 1, removed, 3, &ints, &set), FC_REMOVED_ROW);
+    CHECK(set == 1);
+    CODE(fc_set_column(table, 1, (const uint32_t[3]){3, 9, 0}, 3, &ints, &set), FC_NO_ROW);
+    CHECK(set == 1);
+    evict(table, 1, 1);
+    CODE(fc_set_column(table, 1, (const uint32_t[3]){0, 2, 4}, 3, &ints, &set), FC_ABSENT);
+    CHECK(set == 2 && has_number(table, 2, NULL));
+}
+
 static void many_cells(void) {
     fc_table table = {NULL};
     const int64_t numbers[5] = {7, 0, -2, 9, 4};
     const uint64_t offsets[4] = {0, 3, 3, 6};
     const uint8_t valid[1] = {29};
-    const uint32_t places[5] = {2, 1, 2, 0, 4}, removed[3] = {0, 1, 2};
+    const uint32_t places[5] = {2, 1, 2, 0, 4};
     fc_column ints = {numbers, 5, offsets, 0, (const uint8_t *)"", 0, valid, 1, FC_INT};
     fc_column texts = {numbers, 0, offsets, 4, (const uint8_t *)"oatr\xff" "e", 6, valid, 0, FC_TEXT};
-    fc_column bad = ints;
     uint32_t total;
     size_t set = 99;
     CODE(fc_set_column(&table, 1, places, 5, &ints, &set), FC_CLOSED);
@@ -172,22 +200,7 @@ static void many_cells(void) {
     CHECK(set == 0);
     CODE(fc_set_column(&table, 1, places, 4, &ints, &set), FC_BAD_ARGUMENT);
     CHECK(set == 0);
-    bad.kind = FC_MISSING;
-    CODE(fc_set_column(&table, 1, places, 5, &bad, &set), FC_BAD_ARGUMENT);
-    texts.bytes_len = 5;
-    CODE(fc_set_column(&table, 0, places, 3, &texts, &set), FC_BAD_ARGUMENT);
-    CODE(fc_set_column(&table, 2, places, 5, &ints, &set), FC_NO_COLUMN);
-    CODE(fc_set_column(&table, 0, places, 5, &ints, &set), FC_WRONG_KIND);
-    CHECK(set == 0);
-    OK(fc_remove(&table, 1));
-    ints.numbers_len = 3;
-    CODE(fc_set_column(&table, 1, removed, 3, &ints, &set), FC_REMOVED_ROW);
-    CHECK(set == 1);
-    CODE(fc_set_column(&table, 1, (const uint32_t[3]){3, 9, 0}, 3, &ints, &set), FC_NO_ROW);
-    CHECK(set == 1);
-    evict(&table, 1, 1);
-    CODE(fc_set_column(&table, 1, (const uint32_t[3]){0, 2, 4}, 3, &ints, &set), FC_ABSENT);
-    CHECK(set == 2 && has_number(&table, 2, NULL));
+    refused_cells(&table, ints, texts, places);
     OK(fc_close(&table));
     CHECK(blocks == 0);
 }

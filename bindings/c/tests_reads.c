@@ -69,18 +69,40 @@ static void reading(void) {
     OK(fc_close(&table));
 }
 
-/* What is lent, twice over, and refused between: nothing but the last refusal changes. */
-static void lending(void) {
-    fc_table table;
+/* What is lent of a table with an answer and a carried eviction, and refused between. */
+static void lent_once(fc_table *table, uint64_t job) {
     fc_line line;
     fc_cell row[2];
     fc_bytes name, out;
-    fc_object before, after;
     fc_details why;
-    uint64_t job, number = 999, begun, waiting;
-    uint32_t by_name, places;
+    uint64_t number = 999;
     size_t lines;
     bool valid;
+    OK(fc_line_at(table, 0, &line));
+    CHECK(line.key_text.len == 5 && line.count == 2 && line.sum_low == 7);
+    OK(fc_row(table, 1, row, 2));
+    CHECK(row[0].text.len == 3 && row[1].number == 3);
+    OK(fc_text(table, 0, 2, &name, &valid));
+    CHECK(valid && name.len == 5);
+    OK(fc_outgoing(table, job, &number, &out));
+    CHECK(number == 0 && out.len > 0);
+    CODE(fc_line_at(table, 2, &line), FC_NOTHING);
+    OK(fc_lines(table, 0, &line, 1, &lines));
+    CHECK(lines == 1 && line.key_text.len == 5 && line.count == 2);
+    CODE(fc_row(table, 3, row, 2), FC_NO_ROW);
+    CODE(fc_text(table, 1, 0, &name, &valid), FC_WRONG_KIND);
+    CODE(fc_outgoing(table, 77, &number, &out), FC_STALE_JOB);
+    OK(fc_last_refusal(table, &why));
+    CHECK(why.code == FC_STALE_JOB);
+}
+
+/* What is lent, twice over, and refused between: nothing but the last refusal changes. */
+static void lending(void) {
+    fc_table table;
+    fc_object before, after;
+    uint64_t job, begun, waiting;
+    uint32_t by_name, places;
+    size_t lines;
     open_bakery(&table);
     OK(fc_watch(&table, &BY_NAME, &by_name));
     OK(fc_scan(&table, by_name, 0));
@@ -90,24 +112,7 @@ static void lending(void) {
     memset(&before, 0, sizeof before);
     memset(&after, 0, sizeof after);
     OK(fc_object_of(&table, 1, 0, &before));
-    for (int i = 0; i < 2; i++) {
-        OK(fc_line_at(&table, 0, &line));
-        CHECK(line.key_text.len == 5 && line.count == 2 && line.sum_low == 7);
-        OK(fc_row(&table, 1, row, 2));
-        CHECK(row[0].text.len == 3 && row[1].number == 3);
-        OK(fc_text(&table, 0, 2, &name, &valid));
-        CHECK(valid && name.len == 5);
-        OK(fc_outgoing(&table, job, &number, &out));
-        CHECK(number == 0 && out.len > 0);
-        CODE(fc_line_at(&table, 2, &line), FC_NOTHING);
-        OK(fc_lines(&table, 0, &line, 1, &lines));
-        CHECK(lines == 1 && line.key_text.len == 5 && line.count == 2);
-        CODE(fc_row(&table, 3, row, 2), FC_NO_ROW);
-        CODE(fc_text(&table, 1, 0, &name, &valid), FC_WRONG_KIND);
-        CODE(fc_outgoing(&table, 77, &number, &out), FC_STALE_JOB);
-        OK(fc_last_refusal(&table, &why));
-        CHECK(why.code == FC_STALE_JOB);
-    }
+    for (int i = 0; i < 2; i++) lent_once(&table, job);
     OK(fc_object_of(&table, 1, 0, &after));
     CHECK(memcmp(&before, &after, sizeof before) == 0 && before.version == after.version);
     OK(fc_jobs(&table, &begun, &waiting));
