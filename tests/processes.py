@@ -37,9 +37,10 @@ def run(words, script=b"", seconds=PATIENCE, **how):
 
 
 def compiled(compiler, made, sources, *words):
-    """Compiles C programs of bindings/c, named by a pattern, and returns the path of the executable."""
+    """Compiles C files of bindings/c to a program: those of any of the patterns. Returns the path of the executable."""
     flags = ["-std=c11", "-Wall", "-Wextra", "-Werror", "-pedantic", "-g", f"-I{ROOT}/include"]
-    subprocess.run([compiler, *flags, *sorted(ROOT.glob(f"bindings/c/{sources}")), "-o", made, *words], check=True)
+    paths = sorted(path for pattern in sources.split() for path in ROOT.glob(f"bindings/c/{pattern}"))
+    subprocess.run([compiler, *flags, *paths, "-o", made, *words], check=True)
     return made
 
 

@@ -74,11 +74,11 @@ static bool refuses(size_t call, unsigned which, bool is_misaligned) {
     const state before = state_of(&table);
     const uint32_t code = spoiled_call(call, &table, &a, which, is_misaligned);
     if (which == EACH[call].pointers) {
-        check(!spoiled.is_spoiled && code != FC_BAD_ARGUMENT, EACH[call].name, __LINE__);
+        check(!spoiled.is_spoiled && code != FC_BAD_ARGUMENT, EACH[call].name, __FILE__, __LINE__);
     } else if (spoiled.is_spoiled) {
         const state after = state_of(&table);
-        check(code == (spoiled.is_handle ? FC_CLOSED : FC_BAD_ARGUMENT), EACH[call].name, __LINE__);
-        check(is_unwritten(&a) && memcmp(&before, &after, sizeof before) == 0, EACH[call].name, __LINE__);
+        check(code == (spoiled.is_handle ? FC_CLOSED : FC_BAD_ARGUMENT), EACH[call].name, __FILE__, __LINE__);
+        check(is_unwritten(&a) && memcmp(&before, &after, sizeof before) == 0, EACH[call].name, __FILE__, __LINE__);
     }
     if (table.at != NULL) OK(fc_close(&table));
     return which < EACH[call].pointers;
@@ -100,7 +100,7 @@ static void each_pointer_of_a_closed_handle(void) {
             fc_table table = {NULL};
             arguments a = fresh_arguments();
             const uint32_t code = spoiled_call(call, &table, &a, which, false);
-            check(code == FC_CLOSED && is_unwritten(&a) && a.moved == 99, EACH[call].name, __LINE__);
+            check(code == FC_CLOSED && is_unwritten(&a) && a.moved == 99, EACH[call].name, __FILE__, __LINE__);
         }
     }
 }
@@ -399,6 +399,5 @@ int main(void) {
     lending();
     many_lines();
     CHECK(blocks == 0);
-    printf("%lu passed, %lu failed\n", passed, failed);
-    return failed != 0;
+    return tell();
 }

@@ -11,10 +11,7 @@ import fullercoral as fc
 from fullercoral import _asking, errors
 from fullercoral._handle import leave
 
-try:
-    import numpy
-except ImportError:
-    numpy = None  # type: ignore[assignment]
+from .optional import numpy
 
 KINDS = {"sku": str, "city": int, "quantity": int}
 

@@ -10,14 +10,7 @@ import fullercoral as fc
 from fullercoral import errors
 from fullercoral._buffers import BYTES_AT, _bits_between, address_of, pack_bits
 
-try:
-    import numpy
-except ImportError:
-    numpy = None  # type: ignore[assignment]
-try:
-    import pandas
-except ImportError:
-    pandas = None  # type: ignore[assignment]
+from .optional import numpy, pandas
 
 
 class Case(unittest.TestCase):

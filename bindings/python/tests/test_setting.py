@@ -11,15 +11,7 @@ import fullercoral as fc
 from fullercoral import errors
 
 from .engines import Faulty
-
-try:
-    import numpy
-except ImportError:
-    numpy = None  # type: ignore[assignment]
-try:
-    import pandas
-except ImportError:
-    pandas = None  # type: ignore[assignment]
+from .optional import numpy, pandas
 
 KINDS = {"sku": str, "quantity": int}
 SMALL = fc.Limits(group=16, int_segments=4, int_size=16, text_segments=4, text_size=1024)

@@ -123,6 +123,7 @@ mod cell;
 mod column;
 mod engine;
 mod error;
+mod key;
 mod library;
 mod limits;
 mod policy;
@@ -141,12 +142,13 @@ pub use column::Column;
 pub use engine::Resp;
 pub use engine::{Engine, Fault, Faulty, FaultyError, Files, Memory, Retry};
 pub use error::Error;
+pub use key::Key;
 pub use limits::Limits;
 pub use policy::Policy;
 pub use refusal::Refusal;
 pub use schema::{ColumnRef, Kind, Schema, SchemaIter};
 pub use spec::{
-    Aggregate, Constant, Extrema, ExtremaLine, Key, Op, Spec, Totals, TotalsLine, extrema, totals,
+    Aggregate, Constant, Extrema, ExtremaLine, Op, Spec, Totals, TotalsLine, extrema, totals,
 };
 pub use stats::Stats;
 pub use table::{

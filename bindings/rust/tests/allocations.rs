@@ -26,12 +26,13 @@ unsafe impl GlobalAlloc for Counting {
 #[global_allocator]
 static ALLOCATOR: Counting = Counting;
 
-/// How many allocations a second round of the calls makes: the first may allocate buffers.
-fn second_round(mut calls: impl FnMut()) -> u64 {
+/// Makes the calls twice, and checks that the second round allocates nothing: the first may allocate buffers.
+#[track_caller]
+fn allocates_nothing(mut calls: impl FnMut()) {
     calls();
     let before = COUNT.load(Ordering::Relaxed);
     calls();
-    COUNT.load(Ordering::Relaxed) - before
+    assert_eq!(COUNT.load(Ordering::Relaxed) - before, 0);
 }
 
 #[test]
@@ -40,41 +41,21 @@ fn calls_that_are_made_often_allocate_nothing() -> Result<(), Box<dyn std::error
     let mut table = Table::open(schema, Limits::new(), Memory::new())?;
     let by_sku = table.watch(totals("quantity").by("sku"))?;
     let ends = table.watch(extrema("quantity"))?;
-    assert_eq!(
-        second_round(|| assert!(table.extend((0..100).map(|n| row!["rye", n])).is_ok())),
-        0
-    );
-    assert_eq!(second_round(|| table.set("quantity", 3, 9).unwrap()), 0);
-    assert_eq!(
-        second_round(|| table.set("sku", 3, "a longer text").unwrap()),
-        0
-    );
-    assert_eq!(
-        second_round(|| assert_eq!(table.ask(by_sku).unwrap().len(), 2)),
-        0
-    );
-    assert_eq!(
-        second_round(|| assert_eq!(table.ask(ends).unwrap().len(), 1)),
-        0
-    );
-    assert_eq!(
-        second_round(|| assert!(table.ask_key(by_sku, "rye").unwrap().is_some())),
-        0
-    );
+    allocates_nothing(|| assert!(table.extend((0..100).map(|n| row!["rye", n])).is_ok()));
+    allocates_nothing(|| table.set("quantity", 3, 9).unwrap());
+    allocates_nothing(|| table.set("sku", 3, "a longer text").unwrap());
+    allocates_nothing(|| assert_eq!(table.ask(by_sku).unwrap().len(), 2));
+    allocates_nothing(|| assert_eq!(table.ask(ends).unwrap().len(), 1));
+    allocates_nothing(|| assert!(table.ask_key(by_sku, "rye").unwrap().is_some()));
     let rye = Some(Cell::Text("rye"));
-    assert_eq!(
-        second_round(|| assert_eq!(table.row(0).unwrap().get("sku"), rye)),
-        0
-    );
-    let read = || {
+    allocates_nothing(|| assert_eq!(table.row(0).unwrap().get("sku"), rye));
+    allocates_nothing(|| {
         let mut part = table.ints("quantity", ..).unwrap();
         while part.next_piece().unwrap().is_some() {}
-    };
-    assert_eq!(second_round(read), 0);
-    let read = || {
+    });
+    allocates_nothing(|| {
         let mut part = table.texts("sku", ..).unwrap();
         while part.next_piece().unwrap().is_some() {}
-    };
-    assert_eq!(second_round(read), 0);
+    });
     Ok(())
 }

@@ -53,18 +53,14 @@ pub fn ints(table: &mut Table<Store>, column: usize, from: u32, to: u32) -> Stri
         Ok(part) => part,
         Err(error) => return told::<()>(Err(error)),
     };
-    let mut text = String::new();
-    loop {
-        match part.next_piece() {
-            Ok(Some(piece)) => {
-                let cells = piece.values.iter().zip(piece.valid);
-                let cells = cells.map(|(value, valid)| Cell::from(valid.then_some(*value)));
-                let cells: Vec<Cell<'_>> = cells.collect();
-                text += &format!("{} {cells:?} {:?}\n", piece.first, piece.alive);
-            }
-            ended => return text + &told(ended.map(drop)),
-        }
-    }
+    to_the_end(|| {
+        let piece = part.next_piece()?;
+        Ok(piece.map(|piece| {
+            let cells = piece.values.iter().zip(piece.valid);
+            let cells = cells.map(|(value, valid)| Cell::from(valid.then_some(*value)));
+            line(piece.first, cells, piece.alive)
+        }))
+    })
 }
 
 /// The texts of a part of a column, piece by piece, and how it ends.
@@ -73,15 +69,28 @@ pub fn texts(table: &mut Table<Store>, column: usize, from: u32, to: u32) -> Str
         Ok(part) => part,
         Err(error) => return told::<()>(Err(error)),
     };
+    to_the_end(|| {
+        let piece = part.next_piece()?;
+        Ok(piece.map(|piece| {
+            let cells = (0..piece.len()).map(|index| Cell::from(piece.get(index)));
+            line(piece.first, cells, piece.alive)
+        }))
+    })
+}
+
+// The lines of all pieces, and the reply that ends them.
+fn to_the_end(mut next_line: impl FnMut() -> Result<Option<String>, Error<Down>>) -> String {
     let mut text = String::new();
     loop {
-        match part.next_piece() {
-            Ok(Some(piece)) => {
-                let cells = (0..piece.len()).map(|index| Cell::from(piece.get(index)));
-                let cells: Vec<Cell<'_>> = cells.collect();
-                text += &format!("{} {cells:?} {:?}\n", piece.first, piece.alive);
-            }
+        match next_line() {
+            Ok(Some(line)) => text += &line,
             ended => return text + &told(ended.map(drop)),
         }
     }
+}
+
+// A piece as a line.
+fn line<'a>(first: u32, cells: impl Iterator<Item = Cell<'a>>, alive: &[bool]) -> String {
+    let cells: Vec<Cell<'_>> = cells.collect();
+    format!("{first} {cells:?} {alive:?}\n")
 }

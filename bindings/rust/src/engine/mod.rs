@@ -119,60 +119,38 @@ pub trait Engine {
     }
 }
 
-/// An engine that a table borrows. Empty it before the next table, which uses the same numbers.
-impl<E: Engine + ?Sized> Engine for &mut E {
-    type Error = E::Error;
+// Implements `Engine` for a pointer to an engine, with an expression for the engine that `self` points to.
+macro_rules! through {
+    ($(#[$doc:meta])* $pointer:ty, $self:ident => $engine:expr) => {
+        $(#[$doc])*
+        impl<E: Engine + ?Sized> Engine for $pointer {
+            type Error = E::Error;
 
-    fn put(&mut self, number: u64, bytes: &[u8]) -> Result<(), E::Error> {
-        (**self).put(number, bytes)
-    }
+            fn put(&mut $self, number: u64, bytes: &[u8]) -> Result<(), E::Error> {
+                $engine.put(number, bytes)
+            }
 
-    fn get(&mut self, number: u64, buffer: &mut Vec<u8>) -> Result<(), E::Error> {
-        (**self).get(number, buffer)
-    }
+            fn get(&mut $self, number: u64, buffer: &mut Vec<u8>) -> Result<(), E::Error> {
+                $engine.get(number, buffer)
+            }
 
-    fn forget(&mut self, number: u64) {
-        (**self).forget(number);
-    }
+            fn forget(&mut $self, number: u64) {
+                $engine.forget(number);
+            }
+        }
+    };
 }
 
-impl<E: Engine + ?Sized> Engine for Box<E> {
-    type Error = E::Error;
+through!(
+    /// An engine that a table borrows. Empty it before the next table, which uses the same numbers.
+    &mut E, self => (**self)
+);
 
-    fn put(&mut self, number: u64, bytes: &[u8]) -> Result<(), E::Error> {
-        (**self).put(number, bytes)
-    }
+through!(Box<E>, self => (**self));
 
-    fn get(&mut self, number: u64, buffer: &mut Vec<u8>) -> Result<(), E::Error> {
-        (**self).get(number, buffer)
-    }
-
-    fn forget(&mut self, number: u64) {
-        (**self).forget(number);
-    }
-}
-
-/// An engine that a table shares with threads that move its objects. No other table may share it, since
-/// its numbers are the same. The engine stays usable if a thread panics: the table refuses bytes written
-/// in part, like all wrong bytes.
-impl<E: Engine + ?Sized> Engine for Arc<Mutex<E>> {
-    type Error = E::Error;
-
-    fn put(&mut self, number: u64, bytes: &[u8]) -> Result<(), E::Error> {
-        self.lock()
-            .unwrap_or_else(PoisonError::into_inner)
-            .put(number, bytes)
-    }
-
-    fn get(&mut self, number: u64, buffer: &mut Vec<u8>) -> Result<(), E::Error> {
-        self.lock()
-            .unwrap_or_else(PoisonError::into_inner)
-            .get(number, buffer)
-    }
-
-    fn forget(&mut self, number: u64) {
-        self.lock()
-            .unwrap_or_else(PoisonError::into_inner)
-            .forget(number);
-    }
-}
+through!(
+    /// An engine that a table shares with threads that move its objects. No other table may share it, since
+    /// its numbers are the same. The engine stays usable if a thread panics: the table refuses bytes written
+    /// in part, like all wrong bytes.
+    Arc<Mutex<E>>, self => self.lock().unwrap_or_else(PoisonError::into_inner)
+);

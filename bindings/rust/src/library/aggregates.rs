@@ -1,8 +1,9 @@
 use std::mem::MaybeUninit;
 
 use super::{Coded, Library, at, done, some};
+use crate::Key;
 use crate::answer::{Answer, StoredLine};
-use crate::spec::{Key, Resolved};
+use crate::spec::Resolved;
 use crate::sys::*;
 
 /// How many lines of an answer one call writes.

@@ -4,9 +4,9 @@ use super::work::Passing;
 use super::{Table, Watched};
 use crate::answer::{Lines, StoredLine};
 use crate::library::{Code, Coded};
-use crate::spec::{Aggregate, Id, Key, Resolved, Spec};
+use crate::spec::{Aggregate, Id, Resolved, Spec};
 use crate::sys::{FC_BUILDING, FC_TOTALS};
-use crate::{Engine, Error, Kind, Policy, Refusal};
+use crate::{Engine, Error, Key, Kind, Policy, Refusal};
 
 /// The stamp of the next registration in this process.
 static STAMP: AtomicU64 = AtomicU64::new(0);

@@ -3,7 +3,7 @@ use std::ops::{Bound, RangeBounds};
 use super::pieces::{IntPiece, Ints, TextPiece, Texts};
 use super::{Given, Row, Table};
 use crate::cell::text_of;
-use crate::library::Library;
+use crate::library::{Buffers, Coded, Library};
 use crate::{ColumnRef, Engine, Error, Kind, Policy, Refusal};
 
 impl<E: Engine> Table<E> {
@@ -208,13 +208,9 @@ impl<E: Engine> Table<E> {
         from: u32,
         to: u32,
     ) -> Result<IntPiece<'_>, Error<E::Error>> {
-        let mut buffers = std::mem::take(&mut self.buffers);
-        let read = self.read(column, |table| {
-            let call = |library: &mut Library| library.numbers(column, from, to, &mut buffers);
-            table.persist(Given::Nothing, call)
-        });
-        self.buffers = buffers;
-        read?;
+        self.read(column, |library, buffers| {
+            library.numbers(column, from, to, buffers)
+        })?;
         Ok(IntPiece {
             first: from,
             values: &self.buffers.values,
@@ -229,13 +225,9 @@ impl<E: Engine> Table<E> {
         from: u32,
         to: u32,
     ) -> Result<TextPiece<'_>, Error<E::Error>> {
-        let mut buffers = std::mem::take(&mut self.buffers);
-        let read = self.read(column, |table| {
-            let call = |library: &mut Library| library.texts(column, from, to, &mut buffers);
-            table.persist(Given::Nothing, call)
-        });
-        self.buffers = buffers;
-        read?;
+        self.read(column, |library, buffers| {
+            library.texts(column, from, to, buffers)
+        })?;
         // SAFETY: the library wrote whole texts there, which are UTF-8.
         let text = unsafe { std::str::from_utf8_unchecked(&self.buffers.bytes) };
         Ok(TextPiece {
@@ -247,14 +239,17 @@ impl<E: Engine> Table<E> {
         })
     }
 
-    // Reads from a column; if it had to fetch, it prefetches the proposals.
+    // Reads from a column to the buffers; if it had to fetch, it prefetches the proposals.
     fn read(
         &mut self,
         column: u32,
-        read: impl FnOnce(&mut Self) -> Result<(), Error<E::Error>>,
+        mut call: impl FnMut(&mut Library, &mut Buffers) -> Coded<()>,
     ) -> Result<(), Error<E::Error>> {
         let fetches = self.stats.fetches;
-        read(self)?;
+        let mut buffers = std::mem::take(&mut self.buffers);
+        let read = self.persist(Given::Nothing, |library| call(library, &mut buffers));
+        self.buffers = buffers;
+        read?;
         if self.policy == Policy::Prefetch && self.stats.fetches > fetches {
             self.prefetch(column);
         }

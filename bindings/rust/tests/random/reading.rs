@@ -64,11 +64,7 @@ where
         let (from, to) = (self.random.below(places + 1), self.random.below(places + 1));
         let (from, to) = (from.min(to), from.max(to).min(from.min(to) + 100));
         let column = self.random.below(5) as usize;
-        let result = if column % 2 == 0 {
-            read_ints(&mut self.table, column, from, to)
-        } else {
-            read_texts(&mut self.table, column, from, to)
-        };
+        let result = read_cells(&mut self.table, column, from, to);
         let groups = if from < to {
             from / GROUP..(to - 1) / GROUP + 1
         } else {
@@ -92,29 +88,24 @@ where
     }
 }
 
-fn read_ints<E: Engine>(
+/// The live cells of a part, each after its place. The columns of even index hold numbers.
+fn read_cells<E: Engine>(
     table: &mut Table<E>,
     column: usize,
     from: u32,
     to: u32,
 ) -> Result<Vec<String>, Error<E::Error>> {
     let mut cells = Vec::new();
-    let mut part = table.ints(column, from..to)?;
-    while let Some(piece) = part.next_piece()? {
-        let print = |(place, value): (u32, Option<i64>)| format!("{place} {:?}", Cell::from(value));
-        cells.extend(piece.rows().map(print));
+    if column % 2 == 0 {
+        let mut part = table.ints(column, from..to)?;
+        while let Some(piece) = part.next_piece()? {
+            let cell_of =
+                |(place, value): (u32, Option<i64>)| format!("{place} {:?}", Cell::from(value));
+            cells.extend(piece.rows().map(cell_of));
+        }
+    } else {
+        let part = table.texts(column, from..to)?;
+        part.for_each(|place, text| cells.push(format!("{place} {:?}", Cell::from(text))))?;
     }
-    Ok(cells)
-}
-
-fn read_texts<E: Engine>(
-    table: &mut Table<E>,
-    column: usize,
-    from: u32,
-    to: u32,
-) -> Result<Vec<String>, Error<E::Error>> {
-    let mut cells = Vec::new();
-    let part = table.texts(column, from..to)?;
-    part.for_each(|place, text| cells.push(format!("{place} {:?}", Cell::from(text))))?;
     Ok(cells)
 }

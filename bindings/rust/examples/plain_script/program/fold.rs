@@ -52,7 +52,18 @@ pub struct Rows<'a> {
     pub block: usize,
 }
 
-impl At<'_> {
+impl<'a> At<'a> {
+    /// A row of the table, of which these are the columns.
+    #[inline]
+    pub fn of_table(cells: &'a [Column], place: usize, block: usize) -> At<'a> {
+        At {
+            cells,
+            at: place,
+            place,
+            block,
+        }
+    }
+
     #[inline]
     fn number_key(&self, spec: &Spec) -> Option<Int> {
         self.cells[spec.key?].number(self.at).map(Int)

@@ -201,12 +201,7 @@ impl Table {
             return;
         }
         let group = self.group_of(place);
-        let row = At {
-            cells: &self.columns,
-            at: place,
-            place,
-            block: self.block,
-        };
+        let row = At::of_table(&self.columns, place, self.block);
         for aggregate in self.aggregates.iter_mut().flatten() {
             if !aggregate.is_pending(group) {
                 aggregate.fold.add(&aggregate.spec, row);
@@ -274,12 +269,7 @@ impl Table {
         let (group, difference) = (self.group_of(place), self.difference(place, column, field));
         // By number of an aggregate: whether the row must be added again, and whether its block must be read.
         let (mut taken, mut again) = (0u32, 0u32);
-        let row = At {
-            cells: &self.columns,
-            at: place,
-            place,
-            block: self.block,
-        };
+        let row = At::of_table(&self.columns, place, self.block);
         for (number, aggregate) in self.aggregates.iter_mut().enumerate() {
             let Some(Aggregate { spec, fold, .. }) =
                 aggregate.as_mut().filter(|it| !it.is_pending(group))
@@ -315,12 +305,7 @@ impl Table {
 
     /// Adds a row to the aggregates in `taken`, and reads its block for those in `again`.
     fn add_again(&mut self, taken: u32, again: u32, place: usize) {
-        let row = At {
-            cells: &self.columns,
-            at: place,
-            place,
-            block: self.block,
-        };
+        let row = At::of_table(&self.columns, place, self.block);
         for (number, aggregate) in self.aggregates.iter_mut().enumerate() {
             let is_added = (taken & !again) & 1 << number != 0;
             if let Some(aggregate) = aggregate.as_mut().filter(|_| is_added) {
@@ -352,12 +337,7 @@ impl Table {
         self.edits += 1;
         self.removals[group] += 1;
         self.alive[place] = false;
-        let row = At {
-            cells: &self.columns,
-            at: place,
-            place,
-            block: self.block,
-        };
+        let row = At::of_table(&self.columns, place, self.block);
         let mut again = 0;
         for (number, aggregate) in self.aggregates.iter_mut().enumerate() {
             if let Some(Aggregate { spec, fold, .. }) =
