@@ -65,7 +65,7 @@ class TinyRedis:
 
     def _call(self, port: int, words: tuple[str | bytes, ...]) -> Any:
         if port not in self._links:
-            link = socket.create_connection(("127.0.0.1", port), timeout=2)
+            link = socket.create_connection(("127.0.0.1", port), timeout=10)
             self._links[port] = link, link.makefile("rb")
         parts = [word.encode() if isinstance(word, str) else word for word in words]
         sent = b"".join(b"$%d\r\n%s\r\n" % (len(part), part) for part in parts)
@@ -117,7 +117,7 @@ class Server:
         self._options = ["--port", str(self.port), "--bind", "127.0.0.1", "--dir", str(self.folder)]
         self._options += ["--appendonly", "yes", "--save", "", "--loglevel", "warning"]
         if cluster:
-            self._options += ["--cluster-enabled", "yes", "--cluster-node-timeout", "500"]
+            self._options += ["--cluster-enabled", "yes", "--cluster-node-timeout", "2000"]
             self._options += ["--cluster-require-full-coverage", "no"]
         self._process: subprocess.Popen[bytes] | None = None
 
@@ -140,7 +140,7 @@ class Server:
             self._process = None
 
 
-def patiently(is_done: Any, seconds: float = 10.0) -> None:
+def patiently(is_done: Any, seconds: float = 30.0) -> None:
     """Waits until a condition holds."""
     end = time.monotonic() + seconds
     while True:

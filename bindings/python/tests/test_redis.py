@@ -24,9 +24,9 @@ def client_of(ports: list[int]) -> Any:
     if redis is None:
         return servers.TinyRedis(ports)
     if len(ports) == 1:
-        return redis.Redis(port=ports[0], socket_timeout=2)
+        return redis.Redis(port=ports[0], socket_timeout=10)
     nodes = [ClusterNode("127.0.0.1", port) for port in ports]
-    return RedisCluster(startup_nodes=nodes, socket_timeout=2, cluster_error_retry_attempts=1)
+    return RedisCluster(startup_nodes=nodes, socket_timeout=10, cluster_error_retry_attempts=1)
 
 
 @unittest.skipUnless(servers.has_redis_server(), "skipped: there is no redis-server")
