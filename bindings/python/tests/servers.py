@@ -117,6 +117,7 @@ class Server:
         self._options = ["--port", str(self.port), "--bind", "127.0.0.1", "--dir", str(self.folder)]
         self._options += ["--appendonly", "yes", "--save", "", "--loglevel", "warning"]
         if cluster:
+            # A busy machine may hold up a server that is well for a second.
             self._options += ["--cluster-enabled", "yes", "--cluster-node-timeout", "2000"]
             self._options += ["--cluster-require-full-coverage", "no"]
         self._process: subprocess.Popen[bytes] | None = None
