@@ -6,14 +6,16 @@ ghost use Rattle.far_frame.specs.Steps.{IsStep};
 ghost use Rattle.far_c.specs.Contents.{content, number_of};
 
 mod carrying;
+mod making;
 mod reading_ahead;
 
 use crate::code::{BAD_ARGUMENT, NO_UTF8, OK};
 use crate::sorted_answer::SortedAnswer;
 use crate::unread::Unread;
-use far_frame::{Frame, Reply, Step, World};
+use far_frame::{Reply, Step, World};
 use far_host::HostStore;
 use far_types::{Answer, Cell, Edit, Limits, Refusal, Schema};
+use making::empty_world;
 use std::alloc::Global;
 use std::marker::Model;
 
@@ -59,18 +61,14 @@ impl Table {
     ) -> Result<Table, Refusal>
         ensures { IfOk result (IsNew schema limits capacity) }
     {
-        let frame = Frame::open(alloc, schema, limits, 0)?;
-        let store = HostStore::new(alloc, capacity)?;
-        match World::new(alloc, frame, store) {
-            Ok(world) => Ok(Table {
-                alloc,
-                world,
-                answer: None,
-                refusal: None,
-                read: 0,
-            }),
-            Err((refusal, _, _)) => Err(refusal),
-        }
+        let world = empty_world(alloc, schema, limits, capacity)?;
+        Ok(Table {
+            alloc,
+            world,
+            answer: None,
+            refusal: None,
+            read: 0,
+        })
     }
 
     /// Borrows the table with its jobs.

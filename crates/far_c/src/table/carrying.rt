@@ -13,7 +13,8 @@ ghost use Rattle.far_c.specs.Contents.{content, matches, number_of};
 ghost use Rattle.far_c.specs.Numbering.{IsRenumbered};
 
 use super::Table;
-use far_frame::{Frame, Reply, Step, World};
+use super::making::empty_world;
+use far_frame::{Reply, Step, World};
 use far_host::HostStore;
 use far_types::{Answer, Kind, Limits, Refusal, Schema};
 use std::alloc::Global;
@@ -173,9 +174,5 @@ fn stand_in(alloc: Global) -> Result<World<HostStore>, Refusal>
         text_segments: 1,
         text_size: 64,
     };
-    let frame = Frame::open(alloc, schema, limits, 0)?;
-    match World::new(alloc, frame, HostStore::new(alloc, 0)?) {
-        Ok(world) => Ok(world),
-        Err((refusal, _, _)) => Err(refusal),
-    }
+    empty_world(alloc, schema, limits, 0)
 }
