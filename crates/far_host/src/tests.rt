@@ -51,6 +51,18 @@ fn get(store: &HostStore, alloc: Global, ticket: &HostTicket) -> Result<Vec<u8>,
     Ok(bytes)
 }
 
+// Returns whether the store has this content for the ticket.
+fn reads(
+    store: &HostStore,
+    alloc: Global,
+    ticket: &HostTicket,
+    content: &[u8],
+) -> Result<bool, Refusal>
+    requires { IsOf ticket.now (id_of store.now) }
+{
+    Ok(get(store, alloc, ticket)?.as_slice() == content)
+}
+
 // Returns whether the store has no content for the ticket, and counts that as a fault.
 fn misses(store: &HostStore, alloc: Global, ticket: &HostTicket) -> bool
     requires { IsOf ticket.now (id_of store.now) }
@@ -102,7 +114,7 @@ fn takes(
 {
     let missed = misses(store, alloc, ticket);
     deliver(store, alloc, ticket, content)?;
-    let read = get(store, alloc, ticket)?.as_slice() == content;
+    let read = reads(store, alloc, ticket, content)?;
     store.forget(ticket);
     Ok(missed && read && misses(store, alloc, ticket))
 }
@@ -166,7 +178,8 @@ fn bytes_that_were_changed_or_cut_are_refused(rt: HostRuntime) {
     assert!(rt; matches!(tells_apart(&rt, alloc, b"", b"\0"), Ok(true)));
 }
 
-// Returns whether each of two contents is refused in place of the other.
+// Returns whether each of two contents is refused in place of the other. A call drops the store: a function that drops one itself is long
+// to prove.
 fn tells_two_numbers(
     rt: &impl Abort,
     alloc: Global,
@@ -176,26 +189,66 @@ fn tells_two_numbers(
     no_collision(rt, old, new);
     no_collision(rt, new, old);
     let mut store = made(alloc, 2)?;
-    let first = put(&store, alloc, old)?;
-    let second = put(&store, alloc, new)?;
-    let refused = refuses(&mut store, alloc, &first, new)
-        && refuses(&mut store, alloc, &second, old);
-    Ok(refused && takes(&mut store, alloc, &first, old)? && takes(&mut store, alloc, &second, new)?)
+    let told = tells_two_in(&mut store, alloc, old, new);
+    drop(store);
+    told
+}
+
+fn tells_two_in(
+    store: &mut HostStore,
+    alloc: Global,
+    old: &[u8],
+    new: &[u8],
+) -> Result<bool, Refusal>
+    requires new { content_digest new.now ≡ content_digest old.now → new.now ≡ old.now }
+    requires old { content_digest old.now ≡ content_digest new.now → old.now ≡ new.now }
+{
+    let first = put(store, alloc, old)?;
+    let second = put(store, alloc, new)?;
+    let refused = refuses(store, alloc, &first, new) && refuses(store, alloc, &second, old);
+    Ok(refused && takes(store, alloc, &first, old)? && takes(store, alloc, &second, new)?)
 }
 
 // Returns whether two delivered contents are read side by side, and each is forgotten by itself.
 fn holds_two(alloc: Global, one: &[u8], other: &[u8]) -> Result<bool, Refusal> {
     let mut store = made(alloc, 2)?;
-    let first = put(&store, alloc, one)?;
-    let second = put(&store, alloc, other)?;
-    deliver(&mut store, alloc, &second, other)?;
-    deliver(&mut store, alloc, &first, one)?;
-    deliver(&mut store, alloc, &second, other)?;
-    let read = get(&store, alloc, &first)?.as_slice() == one;
-    store.forget(&first);
-    let kept = misses(&store, alloc, &first) && get(&store, alloc, &second)?.as_slice() == other;
+    let held = holds_two_in(&mut store, alloc, one, other);
+    drop(store);
+    held
+}
+
+fn holds_two_in(
+    store: &mut HostStore,
+    alloc: Global,
+    one: &[u8],
+    other: &[u8],
+) -> Result<bool, Refusal> {
+    let first = put(store, alloc, one)?;
+    let second = put(store, alloc, other)?;
+    holds_each(store, alloc, &first, one, &second, other)
+}
+
+fn holds_each(
+    store: &mut HostStore,
+    alloc: Global,
+    first: &HostTicket,
+    one: &[u8],
+    second: &HostTicket,
+    other: &[u8],
+) -> Result<bool, Refusal>
+    requires first { IsOf first.now (id_of store.old) }
+    requires second { IsOf second.now (id_of store.old) }
+    requires one { first.now.content ≡ one.now }
+    requires other { second.now.content ≡ other.now }
+{
+    deliver(store, alloc, second, other)?;
+    deliver(store, alloc, first, one)?;
+    deliver(store, alloc, second, other)?;
+    let is_read = reads(store, alloc, first, one)?;
+    store.forget(first);
+    let is_kept = misses(store, alloc, first) && reads(store, alloc, second, other)?;
     store.forget_all();
-    Ok(read && kept && misses(&store, alloc, &second))
+    Ok(is_read && is_kept && misses(store, alloc, second))
 }
 
 #[test]
@@ -214,19 +267,29 @@ fn each_number_has_its_content(rt: HostRuntime) {
 // Returns whether a store of a capacity is full after that many contents, and takes the first and the last of them.
 fn fills(alloc: Global, capacity: u64) -> Result<bool, Refusal> {
     let mut store = made(alloc, capacity)?;
-    let first = put(&store, alloc, LOAVES)?;
+    let filled = fills_up(&mut store, alloc, capacity);
+    drop(store);
+    filled
+}
+
+fn fills_up(store: &mut HostStore, alloc: Global, capacity: u64) -> Result<bool, Refusal> {
+    let first = put(store, alloc, LOAVES)?;
     for number in 2..capacity {
-        put(&store, alloc, &number.to_le_bytes())?;
+        put(store, alloc, &number.to_le_bytes())?;
     }
-    let last = put(&store, alloc, b"last")?;
-    let full = matches!(put(&store, alloc, b"more"), Err(Refusal::FarFull))
-        && store.drawn() == capacity;
+    let last = put(store, alloc, b"last")?;
     let ends = store.number(&first) == 0 && Some(store.number(&last)) == capacity.checked_sub(1);
     Ok(
-        full && ends
-            && takes(&mut store, alloc, &first, LOAVES)?
-            && takes(&mut store, alloc, &last, b"last")?,
+        is_full(store, alloc, capacity)
+            && ends
+            && takes(store, alloc, &first, LOAVES)?
+            && takes(store, alloc, &last, b"last")?,
     )
+}
+
+// Returns whether a store has no number for another content.
+fn is_full(store: &HostStore, alloc: Global, capacity: u64) -> bool {
+    matches!(put(store, alloc, b"more"), Err(Refusal::FarFull)) && store.drawn() == capacity
 }
 
 // The capacities are chosen at the bounds of chunks and groups: a chunk has 256 notes, and the groups have one chunk, two and four.
