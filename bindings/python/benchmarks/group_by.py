@@ -16,9 +16,9 @@ After each case the benchmark compares our answers with SQLite's.
 - pandas has a categorical column of keys. It sets all values by one assignment, and groups and sums
   all rows at each question.
 
-Each figure is for the edits and one question after them: the least of some rounds. In each round all
-take turns, and another one begins, since the first finds the edits in the processor's caches and the
-next finds its own table less far away.
+Each figure is for the edits and one question after them: the least of some rounds. In a round all
+take turns, in an order that changes from round to round: whoever comes first finds the edits in the
+processor's caches.
 """
 
 from __future__ import annotations
