@@ -17,8 +17,7 @@ After each case the benchmark compares our answers with SQLite's.
   all rows at each question.
 
 Each figure is for the edits and one question after them: the least of some rounds. In a round all
-take turns, in an order that changes from round to round: whoever comes first finds the edits in the
-processor's caches.
+but pandas take turns, and another table comes first each time: what ran before fills the caches.
 """
 
 from __future__ import annotations
