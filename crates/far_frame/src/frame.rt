@@ -223,7 +223,9 @@ impl<S: FarTickets> Frame<S> {
         let size = self.rows.limits().group;
         // For the proof: shows `AreTableRows`, which bounds the number of places and the numbers in them.
         let _len = self.rows.len();
-        let Ok(row) = self.rows.place_row(place as usize) else {
+        let lent = &self.rows;
+        let mut row = lent.empty_row();
+        let Ok(()) = lent.place_row(place as usize, &mut row) else {
             unreachable!()
         };
         let pending = self

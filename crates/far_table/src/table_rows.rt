@@ -1,5 +1,5 @@
 // The rows of a table in the plain table's words.
-ghost use Rattle.std.specs.Prelude.{◌≡◌, ◌<◌, ◌≤◌, ◌/◌, ℕ, Some, length, map, option_map, slice_get, IfOk, IfErr};
+ghost use Rattle.std.specs.Prelude.{◌≡◌, ◌<◌, ◌≤◌, ◌/◌, ℕ, [], Some, length, map, option_map, slice_get, IfOk, IfErr, OnOk};
 ghost use Rattle.far_types.specs.Bounds.{AreLimits};
 ghost use Rattle.far_types.specs.FirstOf.{first_of};
 ghost use Rattle.far_types.specs.Table.{groups};
@@ -134,20 +134,28 @@ impl<S: FarTickets> TableRows<S> {
         self.rows.row(place)
     }
 
-    /// Returns the row of a place. Looks at each column once, and reads a number only when the caller reads it. Allocates nothing.
+    /// Makes a row without cells, for `place_row`. Allocates nothing.
+    #[inline(always)]
+    pub fn empty_row(&self) -> PlaceRow<'_>
+        ensures { result ≡ [] }
+    {
+        PlaceRow::new()
+    }
+
+    /// Borrows the cells of a place into an empty row. Looks at each column once, and reads a number only when the caller reads it. The
+    /// caller makes the row by `empty_row`, so that it is not moved. Allocates nothing.
     ///
     /// Refused as `row` is.
     #[inline(always)]
-    pub fn place_row(&self, place: usize) -> Result<PlaceRow<'_>, Refusal>
-        requires { place < length self.now.places }
-        ensures row { IfOk result
-            (λ row. option_map (λ p. p.cells) (slice_get self.now.places place) ≡ Some row) }
+    pub fn place_row<'a>(&'a self, place: usize, row: &mut PlaceRow<'a>) -> Result<(), Refusal>
+        requires place { place < length self.now.places }
+        requires empty { row.old ≡ [] }
+        ensures row { OnOk result
+            (option_map (λ p. p.cells) (slice_get self.now.places place) ≡ Some row.new) }
         ensures refused { refusal_in result
             ≡ first_of (absents self.now.held (place / self.now.limits.group)) }
     {
-        let mut row = PlaceRow::new();
-        self.rows.place_row(place, &mut row)?;
-        Ok(row)
+        self.rows.place_row(place, row)
     }
 
     /// Returns the row of a place. Borrows each cell only when the caller reads it. Allocates nothing.

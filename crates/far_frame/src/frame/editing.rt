@@ -66,7 +66,9 @@ fn replace_number<S: FarTickets>(
     let size = rows.limits().group;
     // For the proof: shows `AreTableRows`, which bounds the number of places and the numbers in them.
     let _len = rows.len();
-    let Ok(row) = rows.place_row(place as usize) else {
+    let lent: &TableRows<S> = rows;
+    let mut row = lent.empty_row();
+    let Ok(()) = lent.place_row(place as usize, &mut row) else {
         unreachable!()
     };
     let Some(CellRef::Int(from)) = row.get(column as usize) else {
@@ -104,7 +106,9 @@ fn change_row<S: FarTickets>(
     // For the proof: show the bound of the number of places, and that their rows have all columns.
     let _before = rows.len();
     let _held = rows.held();
-    let Ok(row) = rows.place_row(place as usize) else {
+    let lent: &TableRows<S> = rows;
+    let mut row = lent.empty_row();
+    let Ok(()) = lent.place_row(place as usize, &mut row) else {
         unreachable!()
     };
     let pending = aggregates.change_in(alloc, &row, column, value.lend(), size, place as usize)?;

@@ -34,18 +34,18 @@ pub retract_row-requires-clause-retracts : goal.retract_row-requires-clause-retr
 retract_row-requires-clause-retracts g c κs within =
     let old = c.self.inside.rows in
     let e = c.in_ok-pending.ensures in
-    let row = remove-row old c.args.place c.in_ok-_row.ensures.refused c.in-Ok.row c.in-Ok.ensures.row in
+    let row = remove-row old c.args.place c.in_ok-_row.ensures.refused c.place_row.new.row c.in-Ok.ensures.row in
     let kept = keeps-fit old c.self.inside.registrations c.self.inside.aggregates c.limits.result.now c.limits.ensures.same c.limits.ensures.bounds c.len-len.ensures.few c.len-len.ensures.fit c.self.invariant in
     retracts-after old c.remove-2.new.self (edit.Remove c.args.place) c.args.place c.limits.result.now c.leave.new.self c.in_ok-pending.pending c.limits.ensures.same c.remove-2.ensures.made
-    (e.retracts old.places (c.in-Ok.row, refl, row) kept)
+    (e.retracts old.places (c.place_row.new.row, refl, row) kept)
 
 pub invariant_of-self-2 : goal.invariant_of-self-2
 invariant_of-self-2 g c =
     made-live c.self.inside.rows c.remove-2.new.self (edit.Remove c.args.place) c.self.inside.registrations c.self.inside.aggregates c.retract_row.new.aggregates c.remove-2.ensures.made
     (c.retract_row.ensures.registered ∙ c.in_ok-pending.ensures.registered) c.self.invariant c.retract_row.ensures.kept
 
-pub place_row-requires-after_bounds : goal.place_row-requires-after_bounds
-place_row-requires-after_bounds g c κs within = remove-below c.self.inside.rows c.args.place c.in_ok-_row.ensures.refused
+pub place_row-requires-clause-place : goal.place_row-requires-clause-place
+place_row-requires-clause-place g c κs within = remove-below c.self.inside.rows c.args.place c.in_ok-_row.ensures.refused
 
 pub invariant_of-self : goal.invariant_of-self
 invariant_of-self g c =

@@ -8,8 +8,8 @@ use Rattle.far_frame.proofs.CellChanges.{cell-below, cell-row, cell-column, cell
 use Rattle.far_frame.proofs.LiveEdits.{live-alone, made-checked, made-with, retracts-after, set-inside}
 use Rattle.far_frame.proofs.frame.editing.change_row.Goals as goal
 
-pub place_row-requires-after_bounds : goal.place_row-requires-after_bounds
-place_row-requires-after_bounds g c κs within = cell-below c.requires.may
+pub place_row-requires-clause-place : goal.place_row-requires-clause-place
+place_row-requires-clause-place g c κs within = cell-below c.requires.may
 
 pub change_in-requires-clause-few : goal.change_in-requires-clause-few
 change_in-requires-clause-few g c =
@@ -18,7 +18,7 @@ change_in-requires-clause-few g c =
 
 pub change_in-requires-clause-column : goal.change_in-requires-clause-column
 change_in-requires-clause-column g c =
-    cell-column c.requires.may c.held-held.ensures.places c.held-held.ensures.kinds c.in-Ok.row c.in-Ok.ensures.row
+    cell-column c.requires.may c.held-held.ensures.places c.held-held.ensures.kinds c.place_row.new.row c.in-Ok.ensures.row
 
 pub change_in-requires-clause-kept : goal.change_in-requires-clause-kept
 change_in-requires-clause-kept g c =
@@ -51,8 +51,8 @@ retract_row-requires-clause-retracts g c κs within =
     let old = c.args.rows.now in
     let new = c.set.new.self in
     let cell = cell_of c.args.value.now in
-    let row = cell-row c.requires.may c.in-Ok.row c.in-Ok.ensures.row in
+    let row = cell-row c.requires.may c.place_row.new.row c.in-Ok.ensures.row in
     let kept = up-to-date c.requires.may c.limits.ensures.same c.limits.ensures.bounds c.len-before.ensures.few c.len-before.ensures.fit in
     let made = made-with old new c.args.place c.args.column cell (lent_cell c.lend.result) (sym c.lend.ensures) c.in_default-set.ensures.put.made in
     retracts-after old new (edit.Set c.args.place c.args.column (lent_cell c.lend.result)) c.args.place c.limits.result.now c.change_in.new.self c.in_ok-pending.pending c.limits.ensures.same made
-    (c.in_ok-pending.ensures.retracts old.places (c.in-Ok.row, refl, row) kept (subst PlacesFit made.places c.len-after.ensures.fit))
+    (c.in_ok-pending.ensures.retracts old.places (c.place_row.new.row, refl, row) kept (subst PlacesFit made.places c.len-after.ensures.fit))

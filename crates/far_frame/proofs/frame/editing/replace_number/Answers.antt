@@ -10,8 +10,8 @@ use Rattle.far_frame.proofs.CellChanges.{cell-below, cell-row, cell-here, cell-c
 use Rattle.far_frame.proofs.LiveEdits.{made-with, keeps-after}
 use Rattle.far_frame.proofs.frame.editing.replace_number.Goals as goal
 
-pub place_row-requires-after_bounds : goal.place_row-requires-after_bounds
-place_row-requires-after_bounds g c κs within = cell-below c.requires.may
+pub place_row-requires-clause-place : goal.place_row-requires-clause-place
+place_row-requires-clause-place g c κs within = cell-below c.requires.may
 
 pub note_values-requires-clause-few : goal.note_values-requires-clause-few
 note_values-requires-clause-few g c =
@@ -21,9 +21,9 @@ note_values-requires-clause-few g c =
 pub replace-requires : goal.replace-requires
 replace-requires g c =
     let t = c.args.rows.now in
-    let row = cell-row c.requires.may c.in-Ok.row c.in-Ok.ensures.row in
+    let row = cell-row c.requires.may c.place_row.new.row c.in-Ok.ensures.row in
     let kept = up-to-date c.requires.may c.limits.ensures.same c.limits.ensures.bounds c.len-len.ensures.few c.len-len.ensures.fit in
-    (c.in_ok-pending.ensures.replaces t.places (c.in-Ok.row, refl, row) kept).may
+    (c.in_ok-pending.ensures.replaces t.places (c.place_row.new.row, refl, row) kept).may
 
 pub returns-in-Ok-set : goal.returns-in-Ok-set
 returns-in-Ok-set g c =
@@ -31,11 +31,11 @@ returns-in-Ok-set g c =
     let new = c.set.new.self in
     let to = c.args.to in
     let done = c.in-Ok-set.ensures in
-    let row = cell-row c.requires.may c.in-Ok.row c.in-Ok.ensures.row in
+    let row = cell-row c.requires.may c.place_row.new.row c.in-Ok.ensures.row in
     let fresh = up-to-date c.requires.may c.limits.ensures.same c.limits.ensures.bounds c.len-len.ensures.few c.len-len.ensures.fit in
     let made = made-with t new c.args.place c.args.column (cell_of c.args.value.now) (cell.Int to) (ap cell_of c.requires.number) done.put.made in
     let kept = keeps-after t new (edit.Set c.args.place c.args.column (cell.Int to)) c.limits.result.now c.replace.new.self c.limits.ensures.same made
-    (subst (λ (registry : List RegistryEntry). Keeps c.limits.result.now.group (places_after (edit.Set c.args.place c.args.column (cell.Int to)) t.places) registry) (sym (simp (to_z-of_z, c.ranges.to) at c.replace.ensures.replaced)) ((c.in_ok-pending.ensures.replaces t.places (c.in-Ok.row, refl, row) fresh).kept to)) in
+    (subst (λ (registry : List RegistryEntry). Keeps c.limits.result.now.group (places_after (edit.Set c.args.place c.args.column (cell.Int to)) t.places) registry) (sym (simp (to_z-of_z, c.ranges.to) at c.replace.ensures.replaced)) ((c.in_ok-pending.ensures.replaces t.places (c.place_row.new.row, refl, row) fresh).kept to)) in
     cell-changed c.requires.may done.put kept (c.replace.ensures.registered ∙ ap registered_of c.in_ok-pending.ensures.same) done.kept
 
 no_refusal : (r : Refusal) → Some r ≡ None → ⊥

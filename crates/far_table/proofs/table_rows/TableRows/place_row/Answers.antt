@@ -1,4 +1,5 @@
 use Rattle.std.proofs.Common.{length, Some, sym, ap, ◌∙◌, arith}
+use Rattle.std.proofs.lemmas.Result.{on_ok_weaker}
 use Rattle.std.specs.Prelude.{option_map, slice_get}
 use Rattle.far_types.specs.Table.{Place}
 use Rattle.far_rows.specs.Rows.{all_cells}
@@ -21,6 +22,8 @@ returns-clause-row g c =
     let count = length-places cells rows.alive in
     let places = ap (λ (t : TableRows g.row.S-Ticket.Denot). length t.places) c.self.view_is in
     let flag = found-at rows.alive c.args.place (omega (arith, c.requires, count, places)) in
-    sym (ap (λ (t : TableRows g.row.S-Ticket.Denot). option_map (λ (p : Place). p.cells) (slice_get t.places c.args.place)) c.self.view_is)
+    on_ok_weaker c.place_row.result
+    (λ row. sym (ap (λ (t : TableRows g.row.S-Ticket.Denot). option_map (λ (p : Place). p.cells) (slice_get t.places c.args.place)) c.self.view_is)
     ∙ cells-get cells rows.alive c.args.place flag.0 flag.1
-    ∙ ap Some (sym c.in_ok-place_row.ensures.row)
+    ∙ ap Some (sym row))
+    c.place_row.ensures.row
