@@ -1,6 +1,6 @@
 -- Counts and sums under no key, as a list with one line.
-use Rattle.std.proofs.Common.{◌≡◌, ◌+◌, ◌-◌, ◌^◌, ◌≤◌, ℕ, false, [], ◌∷◌, length, refl, sym, ap, ◌∙◌, subst, Option, None, Some, IsSome, arith}
-use Rattle.std.specs.Prelude.{ℤ, ◌-ℤ◌, is_some}
+use Rattle.std.proofs.Common.{◌≡◌, ◌+◌, ◌-◌, ◌^◌, ◌≤◌, ℕ, [], ◌∷◌, length, refl, sym, ap, ◌∙◌, subst, Option, None, Some, IsSome, arith}
+use Rattle.std.specs.Prelude.{ℤ, ◌-ℤ◌}
 use Rattle.std.specs.List.Sorted.{IsStrictlySortedBy}
 use Rattle.std.specs.Map.{keys_of}
 use Rattle.std.specs.FinMap as fin
@@ -11,7 +11,7 @@ use Rattle.far_types.specs.Effects.{add_count_sums, count_in, joined_totals}
 use Rattle.far_types.proofs.AnswersByKeyMaps.{Entries, with_more, IsSet, get_at, set_inserts, joined-empty, joined-one}
 use Rattle.far_groups.specs.Live.{CanJoin}
 use Rattle.far_groups.specs.CountSums.{totals_of, IsCountSum, AreCountSums, with_count_sum, LeavesCountSum, without_count_sum}
-use Rattle.far_groups.specs.KeyTree.{by_kind, by_number}
+use Rattle.far_groups.specs.KeyTree.{by_kind}
 use Rattle.far_groups.specs.ByKey.{plain_totals}
 use Rattle.far_groups.proofs.CountSumsLaws.{if_found, AreCountSums-empty, AreCountSums-insert, retracted_whole, retracted_part}
 use Rattle.far_groups.proofs.KeyTreeLaws.{Tree}
@@ -58,16 +58,6 @@ plain_added t more =
 none_there : {K : Type 0} (es : Tree K) → length es ≡ 0 → es ≡ []
 none_there [] h = refl
 none_there (e ∷ es) h = absurd (omega arith)
-
-no_key : (q : Option Key) → is_some q ≡ false → q ≡ None
-no_key None h = refl
-no_key (Some k) h = cc
-
--- adding the first count and sum, under no key
-pub plain_first : (es : Tree ℤ) (q : Option Key) (more : ℕ × ℤ) → length es ≡ 0 → is_some q ≡ false → plain_totals more ≡ with_count_sum (by_number es) q more
-plain_first es q more empty none =
-    ap (λ o. fin.insert fin.empty None (with_more add_count_sums more o)) (sym (get_at {V = ℕ × ℤ} [] None))
-    ∙ (λ i. with_count_sum (by_number (sym (none_there es empty) i)) (sym (no_key q none) i) more)
 
 -- a key that is not in has capacity for any count and sum
 pub new_capacity : (o : Option (ℕ × ℤ)) (more : ℕ × ℤ) → o ≡ None → IsCountSum more → count_in o + more.0 ≤ 2 ^ 26

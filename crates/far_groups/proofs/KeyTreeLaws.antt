@@ -12,12 +12,12 @@ use Rattle.std.specs.BTreeMap.{is_at}
 use Rattle.std.specs.FinMap as fin
 use Rattle.far_types.specs.declared.key.Key.{Key}
 use Rattle.far_types.specs.declared.key.Key.TheVariants.{Int, Text}
-use Rattle.far_types.specs.Keys.{key_cmp, line_cmp}
+use Rattle.far_types.specs.Keys.{line_cmp}
 use Rattle.far_types.specs.Effects.{add_count_sums}
 use Rattle.far_types.proofs.AnswersGrouping.{same_key}
 use Rattle.far_types.proofs.AnswersByKeyMaps.{at, IsSet, get_at, set_inserts, inserted_new}
 use Rattle.far_groups.specs.CountSums.{with_count_sum}
-use Rattle.far_groups.specs.KeyTree.{keyed_by, by_kind, line_of, lines_of, numbered, by_number, number_key, by_text}
+use Rattle.far_groups.specs.KeyTree.{KeepsOrder, keyed_by, by_kind, line_of, lines_of, numbered, by_number, number_key, by_text}
 
 abbrev pub Tree : Type 0 → Type 0
 Tree K = List (K × (ℕ × ℤ))
@@ -51,11 +51,11 @@ module _ {K : Type 0} (key : K → Key) where
   shown [] = refl
   shown (e ∷ es) = ap (λ (ls : List (Option Key × ℕ × ℤ)). line_of key e ∷ ls) (shown es)
 
-module _ {K : Type 0} (key : K → Key) (cmp : K → K → Ordering) (ordered : (m n : K) → key_cmp (key m) (key n) ≡ cmp m n) where
+module _ {K : Type 0} {key : K → Key} {cmp : K → K → Ordering} (ordered : KeepsOrder key cmp) where
   pub at_key : (es : Tree K) (n : K) → at (keyed_by key es) (Some (key n)) ≡ found_at cmp es n
   at_key [] n = refl
   at_key (e ∷ es) n =
-      ap (λ r. cond (is_eq r) (Some e.1) (at (keyed_by key es) (Some (key n)))) (ordered n e.0)
+      ap (λ r. cond (is_eq r) (Some e.1) (at (keyed_by key es) (Some (key n)))) (ordered.compares n e.0)
       ∙ ap (cond (is_at (cmp n) e.0) (Some e.1)) (at_key es n)
 
   pub get_key : (es : Tree K) (n : K) → fin.get (by_kind key es) (Some (key n)) ≡ found_at cmp es n
@@ -65,7 +65,7 @@ module _ {K : Type 0} (key : K → Key) (cmp : K → K → Ordering) (ordered : 
   at_own old new n o h m =
       at_key new m
       ∙ h m
-      ∙ ap (λ r. cond (is_eq r) o (found_at cmp old m)) (sym (ordered n m))
+      ∙ ap (λ r. cond (is_eq r) o (found_at cmp old m)) (sym (ordered.compares n m))
       ∙ ap (cond (is_at (line_cmp (Some (key n))) (Some (key m))) o) (sym (at_key old m))
 
   pub as_set : (old new : Tree K) (n : K) (o : Option (ℕ × ℤ)) → IsPut cmp old new n o → IsSet (keyed_by key old) (keyed_by key new) (Some (key n)) o
@@ -87,12 +87,12 @@ module _ {K : Type 0} (key : K → Key) (cmp : K → K → Ordering) (ordered : 
   put_inserts old new n t h = set_inserts (keyed_by key old) (keyed_by key new) (Some (key n)) t (as_set old new n (Some t) h)
 
   pub put_new : (old mid new : Tree K) (k n : K) (more : ℕ × ℤ) → mid ≡ old → k ≡ n → is_some (fin.get (by_kind key old) (Some (key n))) ≡ false → IsPut cmp mid new k (Some more) → by_kind key new ≡ with_count_sum (by_kind key old) (Some (key n)) more
-  put_new old mid new k n more same same_key absent put =
-      inserted_new add_count_sums (keyed_by key old) (keyed_by key mid) (keyed_by key new) (Some (key k)) (Some (key n)) more (ap (keyed_by key) same) (ap (λ m. Some (key m)) same_key) absent (as_set mid new k (Some more) put)
+  put_new old mid new k n more same equal absent put =
+      inserted_new add_count_sums (keyed_by key old) (keyed_by key mid) (keyed_by key new) (Some (key k)) (Some (key n)) more (ap (keyed_by key) same) (ap (λ m. Some (key m)) equal) absent (as_set mid new k (Some more) put)
 
   below : (n : K) (es : Tree K) → AllByRecursion (λ m. cmp n m ≡ Less) (keys_of es) → AllByRecursion (λ k. line_cmp (Some (key n)) k ≡ Less) (keys_of (keyed_by key es))
   below n [] h = tt
-  below n (e ∷ es) h = (ordered n e.0 ∙ h.0, below n es h.1)
+  below n (e ∷ es) h = (ordered.compares n e.0 ∙ h.0, below n es h.1)
 
   -- ascending values are ascending keys
   pub ascend : (es : Tree K) → IsStrictlySortedBy cmp (keys_of es) → IsStrictlySortedBy line_cmp (keys_of (keyed_by key es))
@@ -101,15 +101,21 @@ module _ {K : Type 0} (key : K → Key) (cmp : K → K → Ordering) (ordered : 
   ascend (e ∷ es) h = (below e.0 es h.0, ascend es h.1)
 
 -- a tree of numbers
+numbers_keep : KeepsOrder Int int_cmp
+numbers_keep = record { compares = λ m n. refl }
+
 pub get_number : (es : Tree ℤ) (n : ℤ) → fin.get (by_number es) (number_key n) ≡ found_at int_cmp es n
-get_number = get_key Int int_cmp (λ m n. refl)
+get_number = get_key numbers_keep
 
 pub ascend_numbers : (es : Tree ℤ) → IsStrictlySortedBy int_cmp (keys_of es) → IsStrictlySortedBy line_cmp (keys_of (numbered es))
-ascend_numbers = ascend Int int_cmp (λ m n. refl)
+ascend_numbers = ascend numbers_keep
 
 -- a tree of texts
+texts_keep : KeepsOrder Text (slice_cmp nat_cmp)
+texts_keep = record { compares = λ s t. refl }
+
 pub get_text : (es : Tree (List ℕ)) (t : List ℕ) → fin.get (by_text es) (Some (Text t)) ≡ found_at (slice_cmp nat_cmp) es t
-get_text = get_key Text (slice_cmp nat_cmp) (λ m n. refl)
+get_text = get_key texts_keep
 
 pub ascend_texts : (es : Tree (List ℕ)) → IsStrictlySortedBy (slice_cmp nat_cmp) (keys_of es) → IsStrictlySortedBy line_cmp (keys_of (keyed_by Text es))
-ascend_texts = ascend Text (slice_cmp nat_cmp) (λ m n. refl)
+ascend_texts = ascend texts_keep

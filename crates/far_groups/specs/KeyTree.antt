@@ -1,9 +1,15 @@
 -- Counts and sums by key if all keys are of one kind: all numbers, or all texts.
-use Rattle.std.specs.Prelude.{ℕ, ℤ, List, map, Option, Some}
+use Rattle.std.specs.Prelude.{ℕ, ◌≡◌, ℤ, List, map, Option, Some}
+use Rattle.std.specs.declared.cmp.Ordering.{Ordering}
 use Rattle.far_types.specs.declared.key.Key.{Key}
 use Rattle.far_types.specs.declared.key.Key.TheVariants.{Int, Text}
+use Rattle.far_types.specs.Keys.{key_cmp}
 use Rattle.far_types.specs.Answers.{Totals}
 use Rattle.far_groups.specs.CountSums.{totals_of}
+
+-- keys have the order of their values
+pub record KeepsOrder {K : Type 0} (as_key : K → Key) (cmp : K → K → Ordering) : Type 0 where
+  pub compares : (one other : K) → key_cmp (as_key one) (as_key other) ≡ cmp one other
 
 -- counts and sums by values of one kind, as entries by key
 abbrev pub keyed_by : {K : Type 0} → (K → Key) → List (K × (ℕ × ℤ)) → List (Option Key × (ℕ × ℤ))

@@ -2,7 +2,7 @@
 ghost use Rattle.std.specs.Prelude.{◌≡◌, Some, IfOk, IfSome, IfNone, refl};
 ghost use Rattle.far_types.specs.declared.key.Key.{Key};
 ghost use Rattle.far_types.specs.declared.key.Key.TheVariants as key_of;
-ghost use Rattle.far_types.specs.Keys.{key_cmp};
+ghost use Rattle.far_groups.specs.KeyTree.{KeepsOrder};
 
 use far_types::{Key, Text};
 use std::alloc::AllocError;
@@ -26,14 +26,13 @@ pub trait TreeKey: Ord + Drop {
         ensures { IfOk result (λ again. again ≡ self.now) };
 
     /// Keys have the order of their values.
-    ghost same_order: { (one other : Self)
-        → key_cmp (as_key one) (as_key other) ≡ Self.cmp one other };
+    ghost keeps_order: { KeepsOrder as_key Self.cmp };
 }
 
 impl TreeKey for i64 {
     ghost as_key = { key_of.Int };
 
-    ghost same_order = { λ one other. refl };
+    ghost keeps_order = { record { compares = λ one other. refl } };
 
     #[inline(always)]
     fn of(key: &Option<Key>) -> Option<&i64> {
@@ -57,7 +56,7 @@ impl TreeKey for i64 {
 impl TreeKey for Text {
     ghost as_key = { key_of.Text };
 
-    ghost same_order = { λ one other. refl };
+    ghost keeps_order = { record { compares = λ one other. refl } };
 
     #[inline(always)]
     fn of(key: &Option<Key>) -> Option<&Text> {

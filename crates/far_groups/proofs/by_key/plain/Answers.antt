@@ -1,4 +1,4 @@
-use Rattle.std.proofs.Common.{ℕ, Option, None, pos, unwrap_or, refl, sym, ap, ◌∙◌}
+use Rattle.std.proofs.Common.{ℕ, Option, None, pos, unwrap_or, sym, ap, ◌∙◌}
 use Rattle.std.specs.Prelude.{ℤ}
 use Rattle.std.specs.FinMap as fin
 use Rattle.far_types.proofs.AnswersByKeyMaps.{get_at}

@@ -1,4 +1,4 @@
-use Rattle.std.proofs.Common.{sym, ap, ◌∙◌}
+use Rattle.std.proofs.Common.{ap, ◌∙◌}
 use Rattle.std.specs.FinMap as fin
 use Rattle.far_groups.specs.CountSums.{totals_of}
 use Rattle.far_groups.proofs.KeyTreeLaws.{get_other}

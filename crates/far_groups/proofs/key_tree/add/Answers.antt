@@ -7,7 +7,7 @@ use Rattle.far_groups.proofs.key_tree.add.Goals as goal
 
 pub returns-in_ok-insert-clause-ok : goal.returns-in_ok-insert-clause-ok
 returns-in_ok-insert-clause-ok g c =
-    put_new g.K.TreeKey.as_key g.K.Ord.cmp g.met.K.TreeKey.same_order c.args.tree.now.entries c.add_existing.new.tree.entries c.insert.new.self.entries c.args.key c.args.key c.args.more
+    put_new g.met.K.TreeKey.keeps_order c.args.tree.now.entries c.add_existing.new.tree.entries c.insert.new.self.entries c.args.key c.args.key c.args.more
     (c.add_existing.ensures.absent c.if-not-add_existing.true) refl (sym c.add_existing.ensures.there ∙ c.if-not-add_existing.true) c.in_ok-insert.ensures.updates.0
 
 pub returns-in_ok-insert-clause-valid_sums : goal.returns-in_ok-insert-clause-valid_sums

@@ -11,7 +11,7 @@ pub loop-key-init : goal.loop-key-init
 loop-key-init g c =
     let given = c.into_iter-key-iterator.ensures.into_iter_gives in
     let others = c.args.other.now.entries in
-    let distinct = sorted_distinct (keyed_by g.K.TreeKey.as_key others) (ascend g.K.TreeKey.as_key g.K.Ord.cmp g.met.K.TreeKey.same_order others given.5) in
+    let distinct = sorted_distinct (keyed_by g.K.TreeKey.as_key others) (ascend g.met.K.TreeKey.keeps_order others given.5) in
     record {
       valid_sums = c.requires.valid_sums;
       place = ap (keyed_by g.K.TreeKey.as_key) (sym given.0);
@@ -39,13 +39,13 @@ loop-key-preserved g c =
 pub retract_first-requires-clause-there : goal.retract_first-requires-clause-there
 retract_first-requires-clause-there g c =
     let others = c.args.other.now.entries in
-    let distinct = sorted_distinct (keyed_by g.K.TreeKey.as_key others) (ascend g.K.TreeKey.as_key g.K.Ord.cmp g.met.K.TreeKey.same_order others c.into_iter-key-iterator.ensures.into_iter_gives.5) in
+    let distinct = sorted_distinct (keyed_by g.K.TreeKey.as_key others) (ascend g.met.K.TreeKey.keeps_order others c.into_iter-key-iterator.ensures.into_iter_gives.5) in
     (undone (by_kind g.K.TreeKey.as_key c.args.tree.now.entries) (by_kind g.K.TreeKey.as_key c.add_under.new.tree.entries) c.loop-key.done (keyed_by g.K.TreeKey.as_key others) distinct c.requires.valid_sums (ap (by_kind g.K.TreeKey.as_key) c.in-Err.ensures.err ∙ c.loop-key.invariant.joined)).0
 
 pub returns-in-Err-clause-err : goal.returns-in-Err-clause-err
 returns-in-Err-clause-err g c =
     let others = c.args.other.now.entries in
-    let distinct = sorted_distinct (keyed_by g.K.TreeKey.as_key others) (ascend g.K.TreeKey.as_key g.K.Ord.cmp g.met.K.TreeKey.same_order others c.into_iter-key-iterator.ensures.into_iter_gives.5) in
+    let distinct = sorted_distinct (keyed_by g.K.TreeKey.as_key others) (ascend g.met.K.TreeKey.keeps_order others c.into_iter-key-iterator.ensures.into_iter_gives.5) in
     c.retract_first.ensures ∙ (undone (by_kind g.K.TreeKey.as_key c.args.tree.now.entries) (by_kind g.K.TreeKey.as_key c.add_under.new.tree.entries) c.loop-key.done (keyed_by g.K.TreeKey.as_key others) distinct c.requires.valid_sums (ap (by_kind g.K.TreeKey.as_key) c.in-Err.ensures.err ∙ c.loop-key.invariant.joined)).1
 
 pub returns-in-Err-clause-valid_sums : goal.returns-in-Err-clause-valid_sums
@@ -54,7 +54,7 @@ returns-in-Err-clause-valid_sums g c = subst AreCountSums (sym (returns-in-Err-c
 pub returns-clause-ok : goal.returns-clause-ok
 returns-clause-ok g c =
     let others = c.args.other.now.entries in
-    let distinct = sorted_distinct (keyed_by g.K.TreeKey.as_key others) (ascend g.K.TreeKey.as_key g.K.Ord.cmp g.met.K.TreeKey.same_order others c.into_iter-key-iterator.ensures.into_iter_gives.5) in
+    let distinct = sorted_distinct (keyed_by g.K.TreeKey.as_key others) (ascend g.met.K.TreeKey.keeps_order others c.into_iter-key-iterator.ensures.into_iter_gives.5) in
     c.loop-key.invariant.joined
     ∙ ap (with_all add_count_sums (by_kind g.K.TreeKey.as_key c.args.tree.now.entries)) (take_whole c.loop-key.done (keyed_by g.K.TreeKey.as_key others) (c.loop-key.invariant.place ∙ ap (keyed_by g.K.TreeKey.as_key) c.in-None.ensures.steps.0))
     ∙ with_all-joined add_count_sums (by_kind g.K.TreeKey.as_key c.args.tree.now.entries) (keyed_by g.K.TreeKey.as_key others) distinct

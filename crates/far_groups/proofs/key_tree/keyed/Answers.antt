@@ -11,5 +11,5 @@ pub returns : goal.returns
 returns g c = record {
   ok =
       let tree = c.args.tree.now.entries in
-      IfOk-weaker c.map_of.result _ _ (λ keys made. made_of (keyed_by g.K.TreeKey.as_key tree) keys (ascend g.K.TreeKey.as_key g.K.Ord.cmp g.met.K.TreeKey.same_order tree c.keyed_lines.ensures.ordered) (subst (λ lines. IsFromIterResult line_cmp lines keys) c.in_ok-lines.ensures.ok made)) c.map_of.ensures.ok;
+      IfOk-weaker c.map_of.result _ _ (λ keys made. made_of (keyed_by g.K.TreeKey.as_key tree) keys (ascend g.met.K.TreeKey.keeps_order tree c.keyed_lines.ensures.ordered) (subst (λ lines. IsFromIterResult line_cmp lines keys) c.in_ok-lines.ensures.ok made)) c.map_of.ensures.ok;
 }

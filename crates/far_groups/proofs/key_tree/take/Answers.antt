@@ -8,15 +8,15 @@ use Rattle.far_groups.proofs.key_tree.take.Goals as goal
 
 pub subtract-rest-requires-clause-valid_sums : goal.subtract-rest-requires-clause-valid_sums
 subtract-rest-requires-clause-valid_sums g c =
-    if_found _ _ (get_key g.K.TreeKey.as_key g.K.Ord.cmp g.met.K.TreeKey.same_order c.args.tree.now.entries c.args.key.now ∙ sym c.in-Some.ensures.value) (c.requires.valid_sums (Some (g.K.TreeKey.as_key c.args.key.now)))
+    if_found _ _ (get_key g.met.K.TreeKey.keeps_order c.args.tree.now.entries c.args.key.now ∙ sym c.in-Some.ensures.value) (c.requires.valid_sums (Some (g.K.TreeKey.as_key c.args.key.now)))
 
 pub subtract-rest-requires-clause-there : goal.subtract-rest-requires-clause-there
 subtract-rest-requires-clause-there g c =
-    subst (LeavesCountSum c.args.less) (get_key g.K.TreeKey.as_key g.K.Ord.cmp g.met.K.TreeKey.same_order c.args.tree.now.entries c.args.key.now ∙ sym c.in-Some.ensures.value) c.requires.there
+    subst (LeavesCountSum c.args.less) (get_key g.met.K.TreeKey.keeps_order c.args.tree.now.entries c.args.key.now ∙ sym c.in-Some.ensures.value) c.requires.there
 
 pub returns-in-None-clause-less : goal.returns-in-None-clause-less
 returns-in-None-clause-less g c =
-    absurd (subst (LeavesCountSum c.args.less) (get_key g.K.TreeKey.as_key g.K.Ord.cmp g.met.K.TreeKey.same_order c.args.tree.now.entries c.args.key.now ∙ sym c.in-None.ensures.value) c.requires.there)
+    absurd (subst (LeavesCountSum c.args.less) (get_key g.met.K.TreeKey.keeps_order c.args.tree.now.entries c.args.key.now ∙ sym c.in-None.ensures.value) c.requires.there)
 
 pub returns-then-rest-eq0-clause-less : goal.returns-then-rest-eq0-clause-less
 returns-then-rest-eq0-clause-less g c =
@@ -26,7 +26,7 @@ returns-then-rest-eq0-clause-less g c =
     let there = subst IsSome c.in-Some.ensures.value refl in
     let unchanged = c.get_mut.follows.holds c.in-Some.count_sum.now in
     retracted_whole (keyed_by g.K.TreeKey.as_key old) (keyed_by g.K.TreeKey.as_key mid) (keyed_by g.K.TreeKey.as_key c.remove.new.self.entries) (Some (g.K.TreeKey.as_key key)) c.args.less c.in-Some.count_sum.now c.subtract-rest.result
-    (c.in-Some.ensures.value ∙ sym (at_key g.K.TreeKey.as_key g.K.Ord.cmp g.met.K.TreeKey.same_order old key)) (as_set g.K.TreeKey.as_key g.K.Ord.cmp g.met.K.TreeKey.same_order old mid key (Some c.in-Some.count_sum.now) (unchanged.3 there).0) (as_set g.K.TreeKey.as_key g.K.Ord.cmp g.met.K.TreeKey.same_order mid c.remove.new.self.entries key None c.remove.ensures.updates.0) c.subtract-rest.ensures
+    (c.in-Some.ensures.value ∙ sym (at_key g.met.K.TreeKey.keeps_order old key)) (as_set g.met.K.TreeKey.keeps_order old mid key (Some c.in-Some.count_sum.now) (unchanged.3 there).0) (as_set g.met.K.TreeKey.keeps_order mid c.remove.new.self.entries key None c.remove.ensures.updates.0) c.subtract-rest.ensures
     (subst (LeavesCountSum c.args.less) (get_at (keyed_by g.K.TreeKey.as_key old) (Some (g.K.TreeKey.as_key key))) c.requires.there) (no_count c.rest.view_is c.if-rest-eq0.true)
 
 pub returns-else-rest-eq0-clause-less : goal.returns-else-rest-eq0-clause-less
@@ -37,7 +37,7 @@ returns-else-rest-eq0-clause-less g c =
     let there = subst IsSome c.in-Some.ensures.value refl in
     let written = c.get_mut.follows.holds c.subtract-rest.result in
     retracted_part (keyed_by g.K.TreeKey.as_key old) (keyed_by g.K.TreeKey.as_key new) (Some (g.K.TreeKey.as_key key)) c.args.less c.in-Some.count_sum.now c.subtract-rest.result
-    (c.in-Some.ensures.value ∙ sym (at_key g.K.TreeKey.as_key g.K.Ord.cmp g.met.K.TreeKey.same_order old key)) (as_set g.K.TreeKey.as_key g.K.Ord.cmp g.met.K.TreeKey.same_order old new key (Some c.subtract-rest.result) (written.3 there).0) c.subtract-rest.ensures (some_count c.rest.view_is c.if-rest-eq0.false)
+    (c.in-Some.ensures.value ∙ sym (at_key g.met.K.TreeKey.keeps_order old key)) (as_set g.met.K.TreeKey.keeps_order old new key (Some c.subtract-rest.result) (written.3 there).0) c.subtract-rest.ensures (some_count c.rest.view_is c.if-rest-eq0.false)
 
 pub returns-then-rest-eq0-clause-valid_sums : goal.returns-then-rest-eq0-clause-valid_sums
 returns-then-rest-eq0-clause-valid_sums g c =
