@@ -32,7 +32,7 @@ enum Form {
     Dense(Dense),
     /// A tree of bare numbers. A look-up takes a third of the time that it takes in a tree of keys.
     Numbered(Numbers),
-    /// A tree of bare texts. A look-up compares texts without a look at what kind of key each is.
+    /// A tree of bare texts. A look-up compares the texts themselves: it does not look which kind of key each one is.
     Texts(Texts),
     /// A tree of keys.
     Keyed(CountSums),

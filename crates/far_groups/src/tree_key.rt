@@ -7,7 +7,7 @@ ghost use Rattle.far_groups.specs.KeyTree.{KeepsOrder};
 use far_types::{Key, Text};
 use std::alloc::AllocError;
 
-/// A kind of keys: numbers or texts. A tree of one kind compares its values directly, and need not see of which kind each is.
+/// A kind of keys: numbers or texts. A tree of one kind compares the values themselves, and does not look which kind each one is.
 pub trait TreeKey: Ord + Drop {
     /// A value of this kind, as a key.
     ghost as_key: { Self → Key };
@@ -17,11 +17,11 @@ pub trait TreeKey: Ord + Drop {
         ensures some { IfSome result (λ value. key.now ≡ Some (as_key value.now)) }
         ensures none { IfNone result ((value : Self) → key.now ≡ Some (as_key value) → ⊥) };
 
-    /// Makes the key of this value.
+    /// Makes the key of this value. Allocates only for a text.
     fn to_key(&self) -> Result<Key, AllocError>
         ensures { IfOk result (λ key. key ≡ as_key self.now) };
 
-    /// Returns an equal value.
+    /// Returns an equal value. Allocates only for a text.
     fn again(&self) -> Result<Self, AllocError>
         ensures { IfOk result (λ again. again ≡ self.now) };
 
