@@ -1,6 +1,6 @@
 -- Counts and sums under no key, as a list with one line.
-use Rattle.std.proofs.Common.{◌≡◌, ◌+◌, ◌-◌, ◌^◌, ◌≤◌, ℕ, false, [], ◌∷◌, length, refl, sym, ap, ◌∙◌, subst, Option, None, Some, IsSome, arith}
-use Rattle.std.specs.Prelude.{ℤ, ◌-ℤ◌, is_some}
+use Rattle.std.proofs.Common.{◌≡◌, ◌+◌, ◌-◌, ◌^◌, ◌≤◌, ℕ, [], ◌∷◌, length, refl, sym, ap, ◌∙◌, subst, Option, None, Some, IsSome, arith}
+use Rattle.std.specs.Prelude.{ℤ, ◌-ℤ◌}
 use Rattle.std.specs.List.Sorted.{IsStrictlySortedBy}
 use Rattle.std.specs.Map.{keys_of}
 use Rattle.std.specs.FinMap as fin
@@ -11,10 +11,10 @@ use Rattle.far_types.specs.Effects.{add_count_sums, count_in, joined_totals}
 use Rattle.far_types.proofs.AnswersByKeyMaps.{Entries, with_more, IsSet, get_at, set_inserts, joined-empty, joined-one}
 use Rattle.far_groups.specs.Live.{CanJoin}
 use Rattle.far_groups.specs.CountSums.{totals_of, IsCountSum, AreCountSums, with_count_sum, LeavesCountSum, without_count_sum}
-use Rattle.far_groups.specs.Numbers.{by_number}
+use Rattle.far_groups.specs.KeyTree.{by_kind}
 use Rattle.far_groups.specs.ByKey.{plain_totals}
 use Rattle.far_groups.proofs.CountSumsLaws.{if_found, AreCountSums-empty, AreCountSums-insert, retracted_whole, retracted_part}
-use Rattle.far_groups.proofs.NumbersLaws.{Numbers}
+use Rattle.far_groups.proofs.KeyTreeLaws.{Tree}
 
 -- the one line, under no key
 abbrev pub one_line : ℕ × ℤ → Entries (ℕ × ℤ)
@@ -55,23 +55,17 @@ plain_added t more =
     ∙ ap (λ o. fin.insert (plain_totals t) None (with_more add_count_sums more o)) (sym (get_plain t))
 
 -- a list of length 0 is empty
-none_there : (es : Numbers) → length es ≡ 0 → es ≡ []
+none_there : {K : Type 0} (es : Tree K) → length es ≡ 0 → es ≡ []
 none_there [] h = refl
 none_there (e ∷ es) h = absurd (omega arith)
 
-no_key : (q : Option Key) → is_some q ≡ false → q ≡ None
-no_key None h = refl
-no_key (Some k) h = cc
+-- a key that is not in has capacity for any count and sum
+pub new_capacity : (o : Option (ℕ × ℤ)) (more : ℕ × ℤ) → o ≡ None → IsCountSum more → count_in o + more.0 ≤ 2 ^ 26
+new_capacity o more none h = subst (λ o. count_in o + more.0 ≤ 2 ^ 26) (sym none) (let few = h.1 in omega (arith, few))
 
--- adding the first count and sum, under no key
-pub plain_first : (es : Numbers) (q : Option Key) (more : ℕ × ℤ) → length es ≡ 0 → is_some q ≡ false → plain_totals more ≡ with_count_sum (by_number es) q more
-plain_first es q more empty none =
-    ap (λ o. fin.insert fin.empty None (with_more add_count_sums more o)) (sym (get_at {V = ℕ × ℤ} [] None))
-    ∙ (λ i. with_count_sum (by_number (sym (none_there es empty) i)) (sym (no_key q none) i) more)
-
--- joining an empty list changes nothing
-pub joined_none : (m : Totals) (es : Numbers) → length es ≡ 0 → m ≡ joined_totals m (by_number es)
-joined_none m es empty = sym (joined-empty add_count_sums m) ∙ ap (λ (lines : Numbers). joined_totals m (by_number lines)) (sym (none_there es empty))
+-- joining an empty tree changes nothing
+pub joined_none : {K : Type 0} (key : K → Key) (m : Totals) (es : Tree K) → length es ≡ 0 → m ≡ joined_totals m (by_kind key es)
+joined_none {K} key m es empty = sym (joined-empty add_count_sums m) ∙ ap (λ (lines : Tree K). joined_totals m (by_kind key lines)) (sym (none_there es empty))
 
 -- rows can be retracted only under no key
 pub retracted_key : (t less : ℕ × ℤ) (q : Option Key) → LeavesCountSum less (fin.get (plain_totals t) q) → q ≡ None

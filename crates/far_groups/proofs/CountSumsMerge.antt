@@ -27,6 +27,13 @@ pub take_split : (n : ℕ) (es rest : Entries (ℕ × ℤ)) (e : Option Key × (
 take_split zero es rest e is some = absurd (some refl)
 take_split (suc n) es rest e is some = ap (take (suc n)) is ∙ ap (λ k. e ∷ take k rest) (omega arith)
 
+-- the first entry can be retracted, and then the others
+pub first_retracted : (m : Totals) (n : ℕ) (es rest : Entries (ℕ × ℤ)) (e : Option Key × (ℕ × ℤ)) → es ≡ e ∷ rest → (n ≡ 0 → ⊥) → CanRetractAll m (take n es) → LeavesCountSum e.1 (fin.get m e.0) × CanRetractAll (without_count_sum m e.0 e.1) (take (n - 1) rest) × (without_all (without_count_sum m e.0 e.1) (take (n - 1) rest) ≡ without_all m (take n es))
+first_retracted m n es rest e is some can =
+    let split = take_split n es rest e is some in
+    let all = subst (CanRetractAll m) split can in
+    (all.0, all.1, ap (without_all m) (sym split))
+
 -- the first n + 1 entries are the first n entries and the next one
 take_suc : (n : ℕ) (es rest : Entries (ℕ × ℤ)) (e : Option Key × (ℕ × ℤ)) → drop n es ≡ e ∷ rest → (take (suc n) es ≡ take n es ++ e ∷ []) × (drop (suc n) es ≡ rest)
 take_suc zero es rest e is = (ap (take 1) is, ap (drop 1) is)

@@ -9,7 +9,7 @@ use Rattle.far_types.specs.Keys.{line_cmp}
 use Rattle.far_types.specs.KeyOrder.{line_total}
 use Rattle.far_types.proofs.AnswersGrouping.{same_key, own_key}
 use Rattle.far_types.proofs.AnswersByKeyMaps.{Entries, at, IsSet}
-use Rattle.far_groups.specs.Numbers.{numbered}
+use Rattle.far_groups.specs.KeyTree.{numbered}
 use Rattle.far_groups.specs.Dense.{place_number, place_key, standing, entries_from}
 use Rattle.far_groups.proofs.PlaceNumbers.{key_of_place}
 

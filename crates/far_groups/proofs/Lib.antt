@@ -5,7 +5,7 @@ pub mod FoldsLaws
 pub mod CountSumsMerge
 pub mod CopiesLaws
 pub mod WalksNewLines
-pub mod NumbersLaws
+pub mod KeyTreeLaws
 pub mod LivePairs
 pub mod DensePlaces
 pub mod ByKeyLaws

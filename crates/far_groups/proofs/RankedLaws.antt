@@ -15,9 +15,9 @@ use Rattle.far_types.specs.declared.key.Key.TheVariants.{Int, Text}
 use Rattle.far_types.specs.Keys.{line_cmp}
 use Rattle.far_types.proofs.AnswersGrouping.{same, own_key}
 use Rattle.far_types.proofs.AnswersByKeyMaps.{at, get_at}
-use Rattle.far_groups.specs.Numbers.{numbered, number_key, by_number, number_lines}
+use Rattle.far_groups.specs.KeyTree.{numbered, number_key, by_number, number_lines}
 use Rattle.far_groups.specs.Dense.{place_number, place_key, standing, by_place, rank_place, entry_of, ranked, in_order}
-use Rattle.far_groups.proofs.NumbersLaws.{get_other}
+use Rattle.far_groups.proofs.KeyTreeLaws.{get_other}
 use Rattle.far_groups.proofs.DenseLaws.{Places, lines_from, other_place, none_behind, none_elsewhere, at_place}
 use Rattle.far_groups.proofs.PlaceNumbers.{number_place, number_there, side, rank_within, rank_apart, ranked_place, rank_number_low, rank_number_high}
 
@@ -79,8 +79,8 @@ module _ (ts : Places) (k : ℕ) where
 pub in_order_totals : (ts : Places) → by_number (in_order ts) ≡ by_place ts
 in_order_totals ts = same _ _ alike where
   alike : (q : Option Key) → fin.get (by_number (in_order ts)) q ≡ fin.get (by_place ts) q
-  alike None = get_other (in_order ts) None refl ∙ sym (get_at (lines_from 0 ts) None ∙ none_elsewhere 0 ts None (λ place e. cc))
-  alike (Some (Text t)) = get_other (in_order ts) (Some (Text t)) refl ∙ sym (get_at (lines_from 0 ts) (Some (Text t)) ∙ none_elsewhere 0 ts (Some (Text t)) (λ place e. cc))
+  alike None = get_other Int (in_order ts) None (λ n e. cc) ∙ sym (get_at (lines_from 0 ts) None ∙ none_elsewhere 0 ts None (λ place e. cc))
+  alike (Some (Text t)) = get_other Int (in_order ts) (Some (Text t)) (λ n e. cc) ∙ sym (get_at (lines_from 0 ts) (Some (Text t)) ∙ none_elsewhere 0 ts (Some (Text t)) (λ place e. cc))
   alike (Some (Int n)) =
       get_at (numbered (in_order ts)) (Some (Int n))
       ∙ subst (λ (m : ℤ). at (numbered (in_order ts)) (number_key m) ≡ at (lines_from 0 ts) (number_key m)) (number_there n) (found_alike ts (number_place n))

@@ -1,12 +1,12 @@
--- Counts and sums by key: under no key alone, in a list by small number, in a tree of numbers, or in a tree of keys.
+-- Counts and sums by key: under no key alone, in a list by small number, in a tree of numbers, of texts, or of keys.
 use Rattle.std.specs.Prelude.{ℕ, ℤ, [], ◌∷◌, Option, None, IsSome}
 use Rattle.far_types.specs.declared.key.Key.{Key}
 use Rattle.far_types.specs.Answers.{Totals}
 use Rattle.far_groups.specs.declared.by_key.ByKey.{ByKey}
 use Rattle.far_groups.specs.declared.by_key.Form.{Form}
-use Rattle.far_groups.specs.declared.by_key.Form.TheVariants.{Plain, Dense, Numbered, Keyed}
+use Rattle.far_groups.specs.declared.by_key.Form.TheVariants.{Plain, Dense, Numbered, Texts, Keyed}
 use Rattle.far_groups.specs.CountSums.{totals_of}
-use Rattle.far_groups.specs.Numbers.{by_number}
+use Rattle.far_groups.specs.KeyTree.{by_number, by_text}
 use Rattle.far_groups.specs.Dense.{by_place}
 
 -- a count and a sum under no key
@@ -18,6 +18,7 @@ abbrev pub in_form : Form → Totals
 in_form (Plain count_sum) = plain_totals count_sum
 in_form (Dense dense) = by_place dense.items
 in_form (Numbered numbers) = by_number numbers.entries
+in_form (Texts texts) = by_text texts.entries
 in_form (Keyed keys) = totals_of keys.entries
 
 -- the totals of counts and sums by key
@@ -29,4 +30,5 @@ abbrev pub MayBeElsewhere : Form → Option Key → Type 0
 MayBeElsewhere (Plain count_sum) key = IsSome key
 MayBeElsewhere (Dense dense) key = Unit {0}
 MayBeElsewhere (Numbered numbers) key = Unit {0}
+MayBeElsewhere (Texts texts) key = Unit {0}
 MayBeElsewhere (Keyed keys) key = Unit {0}

@@ -2,7 +2,7 @@
 use Rattle.std.specs.Prelude.{ℕ, zero, suc, ◌+◌, ◌-◌, ◌*◌, ◌/◌, ◌%◌, ◌==◌, ℤ, pos, negsuc, nat_lt, cond, List, [], ◌∷◌, ◌++◌, length, slice_index_or, Option, None, Some}
 use Rattle.far_types.specs.declared.key.Key.{Key}
 use Rattle.far_types.specs.Answers.{Totals}
-use Rattle.far_groups.specs.Numbers.{number_key, by_number}
+use Rattle.far_groups.specs.KeyTree.{number_key, by_number}
 
 -- the number of a place: 0, -1, 1, -2, and so on
 abbrev pub place_number : ℕ → ℤ

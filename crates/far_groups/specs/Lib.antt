@@ -2,6 +2,6 @@ pub mod ByKey
 pub mod Dense
 pub mod Folds
 pub mod Live
-pub mod Numbers
+pub mod KeyTree
 pub mod CountSums
 pub mod Walks

@@ -1,13 +1,13 @@
-// Counts and sums by key, in one of four forms. Mostly there is only the one key of an aggregate without key column, or all keys are
-// small numbers.
-ghost use Rattle.std.specs.Prelude.{ℕ, ◌≡◌, ◌+◌, ◌^◌, ◌≤◌, ◌<◌, ◌∷◌, [], pos, None, unwrap_or, IsSome, IfSome, IfNone, IfOk, OnOk, OnErr};
-ghost use Rattle.std.specs.Option.{option_copied};
+// Counts and sums by key, in one of five forms. Mostly there is only the one key of an aggregate without key column, or all keys are
+// texts, or small numbers.
+ghost use Rattle.std.specs.Prelude.{ℕ, ◌≡◌, ◌+◌, ◌^◌, ◌≤◌, ◌<◌, ◌∷◌, [], pos, None, Some, unwrap_or, IsSome, IfSome, IfNone, IfOk, OnOk, OnErr};
 ghost use Rattle.std.specs.FinMap as fin;
+ghost use Rattle.far_types.specs.declared.key.Key.TheVariants as key_of;
 ghost use Rattle.far_types.specs.Answers.{lines_by_key};
 ghost use Rattle.far_types.specs.Effects.{count_in};
 ghost use Rattle.far_groups.specs.Live.{CanRetract, with_replaced};
 ghost use Rattle.far_groups.specs.CountSums.{totals_of, IsCountSum, AreCountSums, with_count_sum, LeavesCountSum, without_count_sum};
-ghost use Rattle.far_groups.specs.Numbers.{number_key, number_of, by_number};
+ghost use Rattle.far_groups.specs.KeyTree.{by_kind, by_number};
 ghost use Rattle.far_groups.specs.Dense.{place_key, by_place};
 ghost use Rattle.far_groups.specs.ByKey.{plain_totals, in_form, totals_in, MayBeElsewhere};
 
@@ -16,8 +16,9 @@ mod joining;
 use super::count_sum::{CountSum, NO_VALUES};
 use super::count_sums::{self, CountSums};
 use super::dense::{self, Dense, dense_of, may_place, numbers_of, place_of, places_for};
-use super::numbers::{self, Numbers, keyed};
-use far_types::Key;
+use super::key_tree::{self, Numbers, Texts, Tree, keyed};
+use super::tree_key::TreeKey;
+use far_types::{Key, Text};
 pub use joining::join;
 use std::alloc::{AllocError, Global};
 use std::collections::BTreeMap;
@@ -31,12 +32,15 @@ enum Form {
     Dense(Dense),
     /// A tree of bare numbers. A look-up takes a third of the time that it takes in a tree of keys.
     Numbered(Numbers),
+    /// A tree of bare texts. A look-up compares the texts themselves: it does not look which kind of key each one is.
+    Texts(Texts),
     /// A tree of keys.
     Keyed(CountSums),
 }
 
 /// Counts and sums by key. They begin as an empty list:
 /// - A row under no key replaces the empty list. Its count and sum change without a look-up.
+/// - A text replaces the empty list by a tree of texts.
 /// - A number without a place in the list moves everything into a tree of numbers.
 /// - A tree of many numbers that are close together becomes a list again (`settle`).
 /// - Any other key without a place in a form moves everything into a tree of keys, for good.
@@ -63,17 +67,6 @@ pub fn nothing(alloc: Global) -> ByKey
         alloc,
         form: Form::Dense(Vec::new(alloc)),
         many: MANY,
-    }
-}
-
-/// Returns the number of a key that is a number, or `None` for any other key.
-fn number_of(key: &Option<Key>) -> Option<&i64>
-    ensures number { option_copied result ≡ number_of key.now }
-    ensures key { IfSome result (λ number. key.now ≡ number_key number.now) }
-{
-    match key {
-        Some(Key::Int(number)) => Some(number),
-        _ => None,
     }
 }
 
@@ -119,24 +112,22 @@ fn plain_with_key(
     Ok(keys)
 }
 
-/// Moves counts and sums by number into a tree of keys, and adds a count and a sum under a key that is not a number.
-fn with_key(
+/// Moves counts and sums into a tree of keys, and adds a count and a sum under a key of another kind.
+fn with_key<K: TreeKey>(
     alloc: Global,
-    numbers: &Numbers,
+    tree: &Tree<K>,
     key: &Option<Key>,
     more: CountSum,
 ) -> Result<Form, AllocError>
-    requires valid_sums { AreCountSums (by_number numbers.now.entries) }
+    requires valid_sums { AreCountSums (by_kind K.as_key tree.now.entries) }
     requires more_valid_sums { IsCountSum more }
-    requires capacity { count_in (fin.get (by_number numbers.now.entries) key.now) + more.0
-        ≤ 2 ^ 26 }
-    requires other { number_of key.now ≡ None }
+    requires other { (own : K) → key.now ≡ Some (K.as_key own) → ⊥ }
     ensures ok { IfOk result
-        (λ form. in_form form ≡ with_count_sum (by_number numbers.now.entries) key.now more) }
+        (λ form. in_form form ≡ with_count_sum (by_kind K.as_key tree.now.entries) key.now more) }
     ensures valid_sums { IfOk result (λ form. AreCountSums (in_form form)) }
-    ensures new { fin.get (by_number numbers.now.entries) key.now ≡ None }
+    ensures new { fin.get (by_kind K.as_key tree.now.entries) key.now ≡ None }
 {
-    let mut keys = keyed(alloc, numbers)?;
+    let mut keys = keyed(alloc, tree)?;
     count_sums::add_under(&mut keys, key, more)?;
     Ok(Form::Keyed(keys))
 }
@@ -155,13 +146,25 @@ fn in_tree(
         (λ form. in_form form ≡ with_count_sum (by_number numbers.entries) key.now more) }
     ensures valid_sums { IfOk result (λ form. AreCountSums (in_form form)) }
 {
-    match number_of(key) {
+    match i64::of(key) {
         Some(number) => {
-            numbers::add(&mut numbers, number, more)?;
+            key_tree::add_under(&mut numbers, number, more)?;
             Ok(Form::Numbered(numbers))
         }
         None => with_key(alloc, &numbers, key, more),
     }
+}
+
+/// Makes a tree of texts of a count and a sum under a text.
+fn one_text(alloc: Global, text: &Text, more: CountSum) -> Result<Form, AllocError>
+    requires { IsCountSum more }
+    ensures ok { IfOk result
+        (λ form. in_form form ≡ with_count_sum fin.empty (Some (key_of.Text text.now)) more) }
+    ensures valid_sums { IfOk result (λ form. AreCountSums (in_form form)) }
+{
+    let mut texts = BTreeMap::new(alloc);
+    key_tree::add_under(&mut texts, text, more)?;
+    Ok(Form::Texts(texts))
 }
 
 /// Adds a count and a sum under a key that has no place in a list, and returns another form. Allocates nothing if the list is empty and
@@ -179,8 +182,12 @@ fn with_new_key(
         (λ form. in_form form ≡ with_count_sum (by_place dense.now.items) key.now more) }
     ensures valid_sums { IfOk result (λ form. AreCountSums (in_form form)) }
 {
-    if dense.is_empty() && key.is_none() {
-        return Ok(Form::Plain(more));
+    if dense.is_empty() {
+        match key {
+            None => return Ok(Form::Plain(more)),
+            Some(Key::Text(text)) => return one_text(alloc, text, more),
+            Some(Key::Int(_)) => {}
+        }
     }
     in_tree(alloc, numbers_of(alloc, dense)?, key, more)
 }
@@ -215,6 +222,10 @@ pub fn add(by_key: &mut ByKey, key: Option<Key>, more: CountSum) -> Result<(), A
 {
     match &mut by_key.form {
         Form::Keyed(keys) => count_sums::add(keys, key, more),
+        Form::Texts(texts) => match key {
+            Some(Key::Text(text)) => key_tree::add(texts, text, more),
+            key => add_under(by_key, &key, more),
+        },
         _ => add_under(by_key, &key, more),
     }
 }
@@ -248,6 +259,7 @@ pub fn add_under(by_key: &mut ByKey, key: &Option<Key>, more: CountSum) -> Resul
             add_elsewhere(by_key, key, more.count, more.sum)
         }
         Form::Numbered(_) => add_elsewhere(by_key, key, more.count, more.sum),
+        Form::Texts(_) => add_elsewhere(by_key, key, more.count, more.sum),
         Form::Keyed(_) => add_elsewhere(by_key, key, more.count, more.sum),
     }
 }
@@ -273,34 +285,33 @@ fn add_elsewhere(
     ensures only_new { OnErr result (fin.get (totals_in by_key.old) key.now ≡ None) }
 {
     let more = CountSum { count, sum };
-    match &mut by_key.form {
+    let form = match &mut by_key.form {
         Form::Plain(count_sum) => {
-            by_key.form = Form::Keyed(plain_with_key(by_key.alloc, *count_sum, key, more)?);
-            Ok(())
+            Form::Keyed(plain_with_key(by_key.alloc, *count_sum, key, more)?)
         }
         Form::Dense(dense) => match place_for(dense, key) {
-            Some(place) => dense::add(dense, place, more),
-            None => {
-                by_key.form = with_new_key(by_key.alloc, dense, key, more)?;
-                Ok(())
-            }
+            Some(place) => return dense::add(dense, place, more),
+            None => with_new_key(by_key.alloc, dense, key, more)?,
         },
-        Form::Numbered(numbers) => match number_of(key) {
+        Form::Numbered(numbers) => match i64::of(key) {
             Some(number) => {
                 let before = numbers.len();
-                numbers::add(numbers, number, more)?;
+                key_tree::add_under(numbers, number, more)?;
                 if numbers.len() != before {
                     settle(by_key);
                 }
-                Ok(())
+                return Ok(());
             }
-            None => {
-                by_key.form = with_key(by_key.alloc, numbers, key, more)?;
-                Ok(())
-            }
+            None => with_key(by_key.alloc, numbers, key, more)?,
         },
-        Form::Keyed(keys) => count_sums::add_under(keys, key, more),
-    }
+        Form::Texts(texts) => match Text::of(key) {
+            Some(text) => return key_tree::add_under(texts, text, more),
+            None => with_key(by_key.alloc, texts, key, more)?,
+        },
+        Form::Keyed(keys) => return count_sums::add_under(keys, key, more),
+    };
+    by_key.form = form;
+    Ok(())
 }
 
 /// Turns a tree into a list if it has many numbers and they are close together. If memory runs out, it stays a tree.
@@ -357,8 +368,12 @@ pub fn take(by_key: &mut ByKey, key: &Option<Key>, less: CountSum)
             Some(place) => dense::take(dense, place, less),
             None => {}
         },
-        Form::Numbered(numbers) => match number_of(key) {
-            Some(number) => numbers::take(numbers, number, less),
+        Form::Numbered(numbers) => match i64::of(key) {
+            Some(number) => key_tree::take(numbers, number, less),
+            None => {}
+        },
+        Form::Texts(texts) => match Text::of(key) {
+            Some(text) => key_tree::take(texts, text, less),
             None => {}
         },
         Form::Keyed(keys) => count_sums::take(keys, key, less),
@@ -380,8 +395,12 @@ pub fn replace(by_key: &mut ByKey, key: &Option<Key>, from: i64, to: i64)
             Some(place) => dense::replace(dense, place, from, to),
             None => {}
         },
-        Form::Numbered(numbers) => match number_of(key) {
-            Some(number) => numbers::replace(numbers, number, from, to),
+        Form::Numbered(numbers) => match i64::of(key) {
+            Some(number) => key_tree::replace(numbers, number, from, to),
+            None => {}
+        },
+        Form::Texts(texts) => match Text::of(key) {
+            Some(text) => key_tree::replace(texts, text, from, to),
             None => {}
         },
         Form::Keyed(keys) => count_sums::replace(keys, key, from, to),
@@ -407,7 +426,8 @@ pub fn lines(alloc: Global, by_key: &ByKey) -> Result<Vec<(Option<Key>, u64, i12
     match &by_key.form {
         Form::Plain(count_sum) => plain_line(alloc, *count_sum),
         Form::Dense(dense) => dense::lines(alloc, dense),
-        Form::Numbered(numbers) => numbers::lines(alloc, numbers),
+        Form::Numbered(numbers) => key_tree::lines(alloc, numbers),
+        Form::Texts(texts) => key_tree::lines(alloc, texts),
         Form::Keyed(keys) => count_sums::lines(alloc, keys),
     }
 }
@@ -420,6 +440,7 @@ pub fn plain(by_key: &ByKey) -> CountSum
         Form::Plain(count_sum) => *count_sum,
         Form::Dense(_) => NO_VALUES,
         Form::Numbered(_) => NO_VALUES,
+        Form::Texts(_) => NO_VALUES,
         Form::Keyed(keys) => keys.get(&None).copied().unwrap_or(NO_VALUES),
     }
 }
@@ -437,8 +458,12 @@ pub fn get(by_key: &ByKey, key: &Option<Key>) -> Option<CountSum>
             Some(place) => dense::get(dense, place),
             None => None,
         },
-        Form::Numbered(numbers) => match number_of(key) {
+        Form::Numbered(numbers) => match i64::of(key) {
             Some(number) => numbers.get(number).copied(),
+            None => None,
+        },
+        Form::Texts(texts) => match Text::of(key) {
+            Some(text) => texts.get(text).copied(),
             None => None,
         },
         Form::Keyed(keys) => keys.get(key).copied(),

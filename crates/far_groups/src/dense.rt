@@ -6,11 +6,11 @@ ghost use Rattle.std.specs.FinMap as fin;
 ghost use Rattle.far_types.specs.Effects.{add_count_sums, count_in, joined_totals};
 ghost use Rattle.far_groups.specs.Live.{CanRetract, CanJoin, with_replaced};
 ghost use Rattle.far_groups.specs.CountSums.{IsCountSum, AreCountSums, with_count_sum, LeavesCountSum, without_count_sum};
-ghost use Rattle.far_groups.specs.Numbers.{by_number, number_lines};
+ghost use Rattle.far_groups.specs.KeyTree.{by_number, number_lines};
 ghost use Rattle.far_groups.specs.Dense.{place_number, place_key, standing, by_place, rank_place, in_order};
 
 use super::count_sum::{CountSum, NO_VALUES};
-use super::numbers::{self, Numbers};
+use super::key_tree::{self, Numbers};
 use far_types::Key;
 use std::alloc::{AllocError, Global};
 use std::collections::BTreeMap;
@@ -200,7 +200,7 @@ pub fn numbers_of(alloc: Global, dense: &Dense) -> Result<Numbers, AllocError>
     for place in 0..dense.len() {
         let count_sum = dense[place];
         if count_sum.count != 0 {
-            numbers::add(&mut numbers, &number_at(place), count_sum)?;
+            key_tree::add(&mut numbers, number_at(place), count_sum)?;
         }
     }
     Ok(numbers)

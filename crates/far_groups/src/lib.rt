@@ -7,9 +7,10 @@ mod count_sums;
 mod dense;
 mod folds;
 mod joins;
+mod key_tree;
 pub mod laws;
 pub mod live_totals;
-mod numbers;
+mod tree_key;
 
 pub use count_sum::{CountSum, NO_VALUES};
 pub use count_sums::CountSums;

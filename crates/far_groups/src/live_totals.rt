@@ -126,8 +126,8 @@ impl LiveTotals {
     /// has pending. Refused only with `NoMemory` (1). Then nothing is changed.
     ///
     /// What it costs:
-    /// - If the keys are numbers: a look-up for each key of `other`. If these totals are a list and `other` is a tree, also an insert for
-    ///   each key here, since the list becomes a tree.
+    /// - If the keys are all numbers, or all texts: a look-up for each key of `other`. If these totals are a list of numbers and `other` is a
+    ///   tree, also an insert for each key here, since the list becomes a tree.
     /// - Else, if `other` has less than a quarter as many keys as there are here: a look-up for each key of `other`.
     /// - Else two walks along the keys of both. If the keys that are new here are at most a quarter as many as the keys here, also a
     ///   look-up for each new key.

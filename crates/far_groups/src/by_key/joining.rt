@@ -3,7 +3,7 @@ ghost use Rattle.std.specs.Prelude.{◌≡◌, OnOk, OnErr, IfOk};
 ghost use Rattle.far_types.specs.Effects.{joined_totals};
 ghost use Rattle.far_groups.specs.Live.{CanJoin};
 ghost use Rattle.far_groups.specs.CountSums.{totals_of, AreCountSums};
-ghost use Rattle.far_groups.specs.Numbers.{by_number};
+ghost use Rattle.far_groups.specs.KeyTree.{by_number, by_text};
 ghost use Rattle.far_groups.specs.Dense.{by_place};
 ghost use Rattle.far_groups.specs.ByKey.{totals_in};
 
@@ -11,8 +11,9 @@ use super::{ByKey, Form, add_under, keyed_plain};
 use crate::count_sums::CountSums;
 use crate::dense::{self, Dense, numbers_of};
 use crate::joins::join_all;
-use crate::numbers::{self, Numbers, keyed};
+use crate::key_tree::{self, Numbers, Texts, keyed};
 use std::alloc::{AllocError, Global};
+use std::collections::BTreeMap;
 
 /// Joins `more` to a tree of keys, and returns the tree.
 fn with_keys(alloc: Global, mut keys: CountSums, more: &CountSums) -> Result<CountSums, AllocError>
@@ -56,6 +57,11 @@ fn join_keys(by_key: &mut ByKey, more: &CountSums) -> Result<(), AllocError>
             by_key.form = Form::Keyed(with_keys(by_key.alloc, keys, more)?);
             Ok(())
         }
+        Form::Texts(texts) => {
+            let keys = keyed(by_key.alloc, texts)?;
+            by_key.form = Form::Keyed(with_keys(by_key.alloc, keys, more)?);
+            Ok(())
+        }
         Form::Keyed(keys) => join_all(by_key.alloc, keys, more),
     }
 }
@@ -77,11 +83,39 @@ fn join_numbers(by_key: &mut ByKey, more: &Numbers) -> Result<(), AllocError>
     match &mut by_key.form {
         Form::Dense(dense) => {
             let mut numbers = numbers_of(by_key.alloc, dense)?;
-            numbers::join(&mut numbers, more)?;
+            key_tree::join(&mut numbers, more)?;
             by_key.form = Form::Numbered(numbers);
             Ok(())
         }
-        Form::Numbered(numbers) => numbers::join(numbers, more),
+        Form::Numbered(numbers) => key_tree::join(numbers, more),
+        _ => {
+            let keys = keyed(by_key.alloc, more)?;
+            join_keys(by_key, &keys)
+        }
+    }
+}
+
+/// Joins a tree of texts to these counts and sums.
+fn join_texts(by_key: &mut ByKey, more: &Texts) -> Result<(), AllocError>
+    requires valid_sums { AreCountSums (totals_in by_key.old) }
+    requires other_valid_sums { AreCountSums (by_text more.now.entries) }
+    requires can_join { CanJoin (totals_in by_key.old) (by_text more.now.entries) }
+    ensures valid_sums { AreCountSums (totals_in by_key.new) }
+    ensures ok { OnOk result
+        (totals_in by_key.new ≡ joined_totals (totals_in by_key.old) (by_text more.now.entries)) }
+    ensures err { OnErr result (totals_in by_key.new ≡ totals_in by_key.old) }
+{
+    if more.is_empty() {
+        return Ok(());
+    }
+    match &mut by_key.form {
+        Form::Dense(dense) if dense.is_empty() => {
+            let mut texts = BTreeMap::new(by_key.alloc);
+            key_tree::join(&mut texts, more)?;
+            by_key.form = Form::Texts(texts);
+            Ok(())
+        }
+        Form::Texts(texts) => key_tree::join(texts, more),
         _ => {
             let keys = keyed(by_key.alloc, more)?;
             join_keys(by_key, &keys)
@@ -122,6 +156,7 @@ pub fn join(by_key: &mut ByKey, other: &ByKey) -> Result<(), AllocError>
         Form::Plain(count_sum) => add_under(by_key, &None, *count_sum),
         Form::Dense(more) => join_dense(by_key, more),
         Form::Numbered(more) => join_numbers(by_key, more),
+        Form::Texts(more) => join_texts(by_key, more),
         Form::Keyed(more) => join_keys(by_key, more),
     }
 }

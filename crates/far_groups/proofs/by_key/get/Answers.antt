@@ -1,9 +1,10 @@
 use Rattle.std.proofs.Common.{refl, sym, ap, ◌∙◌, subst, IsSome}
 use Rattle.std.specs.FinMap as fin
+use Rattle.far_types.specs.declared.key.Key.TheVariants.{Int, Text}
 use Rattle.far_types.proofs.AnswersByKeyMaps.{get_at}
 use Rattle.far_groups.specs.declared.by_key.Form.{Form}
 use Rattle.far_groups.specs.ByKey.{in_form}
-use Rattle.far_groups.proofs.NumbersLaws.{get_number, get_other}
+use Rattle.far_groups.proofs.KeyTreeLaws.{get_number, get_text, get_other}
 use Rattle.far_groups.proofs.DensePlaces.{get_elsewhere}
 use Rattle.far_groups.proofs.ByKeyLaws.{get_plain, get_under_key}
 use Rattle.far_groups.proofs.by_key.get.Goals as goal
@@ -21,17 +22,29 @@ returns-in-None-place_in c =
     let key = c.args.key.now in
     sym (get_elsewhere c.in-Dense.dense.items key c.in-None-place_in.ensures.none) ∙ ap (λ (form : Form). fin.get (in_form form) key) (sym c.in-Dense.is)
 
-pub returns-in-Some-number_of : goal.returns-in-Some-number_of
-returns-in-Some-number_of c =
+pub returns-in-Some-of : goal.returns-in-Some-of
+returns-in-Some-of c =
     c.copied.ensures
-    ∙ c.get-in-Some-number_of.ensures.value
-    ∙ sym (get_number c.in-Numbered.numbers.entries c.in-Some-number_of.number.now)
-    ∙ (λ i. fin.get (in_form (sym c.in-Numbered.is i)) (sym c.in-Some-number_of.ensures.key i))
+    ∙ c.get-in-Some-of.ensures.value
+    ∙ sym (get_number c.in-Numbered.numbers.entries c.in-Some-of.number.now)
+    ∙ (λ i. fin.get (in_form (sym c.in-Numbered.is i)) (sym c.in-Some-of.ensures.some i))
 
-pub returns-in-None-number_of : goal.returns-in-None-number_of
-returns-in-None-number_of c =
+pub returns-in-None-of : goal.returns-in-None-of
+returns-in-None-of c =
     let key = c.args.key.now in
-    sym (get_other c.in-Numbered.numbers.entries key (sym c.in-None-number_of.ensures.number)) ∙ ap (λ (form : Form). fin.get (in_form form) key) (sym c.in-Numbered.is)
+    sym (get_other Int c.in-Numbered.numbers.entries key c.in-None-of.ensures.none) ∙ ap (λ (form : Form). fin.get (in_form form) key) (sym c.in-Numbered.is)
+
+pub returns-in-Some-of-2 : goal.returns-in-Some-of-2
+returns-in-Some-of-2 c =
+    c.copied-in-Some-of-2.ensures
+    ∙ c.get-in-Some-of-2.ensures.value
+    ∙ sym (get_text c.in-Texts.texts.entries c.in-Some-of-2.text.now)
+    ∙ (λ i. fin.get (in_form (sym c.in-Texts.is i)) (sym c.in-Some-of-2.ensures.some i))
+
+pub returns-in-None-of-2 : goal.returns-in-None-of-2
+returns-in-None-of-2 c =
+    let key = c.args.key.now in
+    sym (get_other Text c.in-Texts.texts.entries key c.in-None-of-2.ensures.none) ∙ ap (λ (form : Form). fin.get (in_form form) key) (sym c.in-Texts.is)
 
 pub returns-in-Keyed : goal.returns-in-Keyed
 returns-in-Keyed c =

@@ -1,11 +1,12 @@
 use Rattle.std.proofs.Common.{sym, ap, ◌∙◌, subst}
 use Rattle.std.specs.FinMap as fin
 use Rattle.std.proofs.lemmas.Int.{to_z-of_z}
+use Rattle.far_types.specs.declared.key.Key.TheVariants.{Int, Text}
 use Rattle.far_groups.specs.declared.by_key.Form.{Form}
 use Rattle.far_groups.specs.Live.{CanRetract, with_replaced}
 use Rattle.far_groups.specs.CountSums.{AreCountSums}
 use Rattle.far_groups.specs.ByKey.{in_form}
-use Rattle.far_groups.proofs.NumbersLaws.{get_other}
+use Rattle.far_groups.proofs.KeyTreeLaws.{get_other}
 use Rattle.far_groups.proofs.DensePlaces.{get_elsewhere}
 use Rattle.far_groups.proofs.ByKeyLaws.{count_sum_there, plain_valid_sums}
 use Rattle.far_groups.proofs.ReplacingLaws.{replaced_there, plain_replaced}
@@ -35,8 +36,14 @@ returns-in-None-clause-replaced c =
     let none = ap (λ (form : Form). fin.get (in_form form) key) c.in-Dense.is ∙ get_elsewhere c.in-Dense.dense.items key c.in-None.ensures.none in
     absurd (subst (CanRetract c.args.from) none c.requires.there)
 
-pub returns-in-None-number_of-clause-replaced : goal.returns-in-None-number_of-clause-replaced
-returns-in-None-number_of-clause-replaced c =
+pub returns-in-None-of-clause-replaced : goal.returns-in-None-of-clause-replaced
+returns-in-None-of-clause-replaced c =
     let key = c.args.key.now in
-    let none = ap (λ (form : Form). fin.get (in_form form) key) c.in-Numbered.is ∙ get_other c.in-Numbered.numbers.entries key (sym c.in-None-number_of.ensures.number) in
+    let none = ap (λ (form : Form). fin.get (in_form form) key) c.in-Numbered.is ∙ get_other Int c.in-Numbered.numbers.entries key c.in-None-of.ensures.none in
+    absurd (subst (CanRetract c.args.from) none c.requires.there)
+
+pub returns-in-None-of-2-clause-replaced : goal.returns-in-None-of-2-clause-replaced
+returns-in-None-of-2-clause-replaced c =
+    let key = c.args.key.now in
+    let none = ap (λ (form : Form). fin.get (in_form form) key) c.in-Texts.is ∙ get_other Text c.in-Texts.texts.entries key c.in-None-of-2.ensures.none in
     absurd (subst (CanRetract c.args.from) none c.requires.there)

@@ -1,11 +1,12 @@
 use Rattle.std.proofs.Common.{sym, ap, ◌∙◌, subst}
 use Rattle.std.specs.FinMap as fin
+use Rattle.far_types.specs.declared.key.Key.TheVariants.{Int, Text}
 use Rattle.far_groups.specs.declared.by_key.Form.{Form}
 use Rattle.far_groups.specs.CountSums.{AreCountSums, LeavesCountSum, without_count_sum}
 use Rattle.far_groups.specs.Dense.{by_place}
 use Rattle.far_groups.specs.ByKey.{in_form, totals_in}
 use Rattle.far_groups.proofs.CountSumsLaws.{no_count, some_count, AreCountSums-without}
-use Rattle.far_groups.proofs.NumbersLaws.{get_other}
+use Rattle.far_groups.proofs.KeyTreeLaws.{get_other}
 use Rattle.far_groups.proofs.DensePlaces.{get_elsewhere}
 use Rattle.far_groups.proofs.ByKeyLaws.{count_sum_there, retracted_leaves, plain_gone, plain_subtracted}
 use Rattle.far_groups.proofs.by_key.take.Goals as goal
@@ -45,8 +46,14 @@ returns-in-None-clause-less c =
     let none = ap (λ (form : Form). fin.get (in_form form) key) c.in-Dense.is ∙ get_elsewhere c.in-Dense.dense.items key c.in-None.ensures.none in
     absurd (subst (LeavesCountSum c.args.less) none c.requires.there)
 
-pub returns-in-None-number_of-clause-less : goal.returns-in-None-number_of-clause-less
-returns-in-None-number_of-clause-less c =
+pub returns-in-None-of-clause-less : goal.returns-in-None-of-clause-less
+returns-in-None-of-clause-less c =
     let key = c.args.key.now in
-    let none = ap (λ (form : Form). fin.get (in_form form) key) c.in-Numbered.is ∙ get_other c.in-Numbered.numbers.entries key (sym c.in-None-number_of.ensures.number) in
+    let none = ap (λ (form : Form). fin.get (in_form form) key) c.in-Numbered.is ∙ get_other Int c.in-Numbered.numbers.entries key c.in-None-of.ensures.none in
+    absurd (subst (LeavesCountSum c.args.less) none c.requires.there)
+
+pub returns-in-None-of-2-clause-less : goal.returns-in-None-of-2-clause-less
+returns-in-None-of-2-clause-less c =
+    let key = c.args.key.now in
+    let none = ap (λ (form : Form). fin.get (in_form form) key) c.in-Texts.is ∙ get_other Text c.in-Texts.texts.entries key c.in-None-of-2.ensures.none in
     absurd (subst (LeavesCountSum c.args.less) none c.requires.there)

@@ -6,19 +6,19 @@ use Rattle.far_types.specs.Answers.{Totals}
 use Rattle.far_types.proofs.AnswersByKeyMaps.{sorted_distinct, with_all}
 use Rattle.far_types.specs.Effects.{add_count_sums, count_in}
 use Rattle.far_groups.specs.CountSums.{AreCountSums, with_count_sum}
-use Rattle.far_groups.specs.Numbers.{numbered, number_key}
+use Rattle.far_groups.specs.KeyTree.{numbered, number_key}
 use Rattle.far_groups.specs.Dense.{by_place}
 use Rattle.far_groups.proofs.CountSumsLaws.{AreCountSums-empty}
 use Rattle.far_groups.proofs.CountSumsMerge.{CanAddAll}
 use Rattle.far_groups.proofs.CopiesLaws.{all_copied, can_copy}
-use Rattle.far_groups.proofs.NumbersLaws.{ascend}
+use Rattle.far_groups.proofs.KeyTreeLaws.{ascend_numbers}
 use Rattle.far_groups.proofs.dense.dense_of.Goals as goal
 
 pub loop-number-init : goal.loop-number-init
 loop-number-init c =
     let given = c.into_iter-number-iterator.ensures.into_iter_gives in
     let numbers = c.args.numbers.now.entries in
-    let distinct = sorted_distinct (numbered numbers) (ascend numbers given.5) in
+    let distinct = sorted_distinct (numbered numbers) (ascend_numbers numbers given.5) in
     let empty = ap by_place c.in_ok-dense.ensures.items in
     record {
       valid_sums = subst AreCountSums (sym empty) AreCountSums-empty;

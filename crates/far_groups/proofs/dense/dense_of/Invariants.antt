@@ -2,7 +2,7 @@ use Rattle.std.proofs.Common.{◌≡◌}
 use Rattle.far_types.specs.Effects.{add_count_sums}
 use Rattle.far_types.proofs.AnswersByKeyMaps.{with_all}
 use Rattle.far_groups.specs.CountSums.{AreCountSums}
-use Rattle.far_groups.specs.Numbers.{numbered, by_number}
+use Rattle.far_groups.specs.KeyTree.{numbered, by_number}
 use Rattle.far_groups.specs.Dense.{by_place}
 use Rattle.far_groups.proofs.CountSumsMerge.{CanAddAll}
 use Rattle.far_groups.proofs.dense.dense_of.Given as goal

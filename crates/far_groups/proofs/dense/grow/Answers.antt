@@ -1,6 +1,6 @@
 use Rattle.std.proofs.Common.{refl, ap, ◌∙◌, arith}
 use Rattle.std.specs.Prelude.{pos}
-use Rattle.far_groups.specs.Numbers.{by_number}
+use Rattle.far_groups.specs.KeyTree.{by_number}
 use Rattle.far_groups.specs.Dense.{by_place}
 use Rattle.far_groups.proofs.DenseLaws.{push_none}
 use Rattle.far_groups.proofs.dense.grow.Goals as goal

@@ -3,7 +3,7 @@ use Rattle.std.specs.FinMap as fin
 use Rattle.far_types.specs.Answers.{Totals}
 use Rattle.far_types.specs.Effects.{count_in, joined_totals}
 use Rattle.far_groups.specs.CountSums.{AreCountSums, with_count_sum}
-use Rattle.far_groups.specs.Numbers.{by_number}
+use Rattle.far_groups.specs.KeyTree.{by_number}
 use Rattle.far_groups.specs.Dense.{place_key, by_place}
 use Rattle.far_groups.proofs.CountSumsLaws.{no_count, some_count}
 use Rattle.far_groups.proofs.DensePlaces.{next_none, next_joined, next_count_sum, next_capacity, no_places}

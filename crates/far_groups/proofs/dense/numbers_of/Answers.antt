@@ -4,7 +4,7 @@ use Rattle.std.specs.Int.{w64}
 use Rattle.std.specs.FinMap as fin
 use Rattle.far_types.specs.Effects.{count_in}
 use Rattle.far_groups.specs.CountSums.{AreCountSums, with_count_sum}
-use Rattle.far_groups.specs.Numbers.{by_number, number_key}
+use Rattle.far_groups.specs.KeyTree.{by_number, number_key}
 use Rattle.far_groups.specs.Dense.{place_number}
 use Rattle.far_groups.proofs.CountSumsLaws.{no_count, some_count, AreCountSums-empty}
 use Rattle.far_groups.proofs.DensePlaces.{next_new, next_none, next_more, next_count_sum}

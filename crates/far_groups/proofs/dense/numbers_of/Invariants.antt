@@ -1,6 +1,6 @@
 use Rattle.std.proofs.Common.{◌≡◌, take}
 use Rattle.far_groups.specs.CountSums.{AreCountSums}
-use Rattle.far_groups.specs.Numbers.{by_number}
+use Rattle.far_groups.specs.KeyTree.{by_number}
 use Rattle.far_groups.specs.Dense.{by_place}
 use Rattle.far_groups.proofs.dense.numbers_of.Given as goal
 

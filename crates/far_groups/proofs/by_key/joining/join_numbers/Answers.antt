@@ -1,4 +1,5 @@
 use Rattle.std.proofs.Common.{rules, ◌≡◌, length}
+use Rattle.far_types.specs.declared.key.Key.TheVariants.{Int}
 use Rattle.far_groups.specs.ByKey.{totals_in}
 use Rattle.far_groups.proofs.ByKeyLaws.{joined_none}
 use Rattle.far_groups.proofs.by_key.joining.join_numbers.Goals as goal
@@ -6,4 +7,4 @@ use Rattle.far_groups.proofs.by_key.joining.join_numbers.Goals as goal
 pub returns-then-is_empty-clause-ok : goal.returns-then-is_empty-clause-ok
 returns-then-is_empty-clause-ok c =
     let empty : length c.args.more.now.entries ≡ 0 = search rules in
-    joined_none (totals_in c.args.by_key.now) c.args.more.now.entries empty
+    joined_none Int (totals_in c.args.by_key.now) c.args.more.now.entries empty
